@@ -1,7 +1,7 @@
 -- What `near_place` answers, in the words of nearness.
-use Rattle.std.proofs.Common.{◌≡◌, ◌↔◌, ℕ, ◌+◌, ◌-◌, ◌%◌, ◌^◌, ◌<◌, ◌≤◌, arith, subst, sym, ◌∙◌, refl, inl, inr, ltb, ltb-true, ltb-false, Result, Ok, Err}
+use Rattle.std.proofs.Common.{◌≡◌, ◌↔◌, ℕ, ◌+◌, ◌-◌, ◌^◌, ◌<◌, ◌≤◌, arith, refl, inl, inr, ltb, ltb-true, ltb-false, Result, Ok, Err}
 use Rattle.std.proofs.lemmas.Bool.{cond_both}
-use Rattle.places.specs.Place.{number, IsNear, IsFar, IsPastEnd, IsOutside, lowered, ahead, near_place}
+use Rattle.places.specs.Place.{IsNear, IsFar, IsPastEnd, lowered, ahead, near_place}
 use Rattle.places.specs.declared.nearness.PlaceFault.{PlaceFault}
 use Rattle.places.specs.declared.nearness.PlaceFault.TheVariants.{Far, PastEnd}
 

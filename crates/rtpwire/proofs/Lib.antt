@@ -1,0 +1,6 @@
+pub mod Numbers
+pub mod Words
+pub mod Checks
+pub mod Spelled
+pub mod Seen
+pub mod Written

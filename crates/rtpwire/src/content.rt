@@ -1,0 +1,135 @@
+//! What a packet carries from one end to the other.
+ghost use Rattle.std.specs.Prelude.{◌≡◌, ◌↔◌, ◌/◌, ◌<◌, length, IfOk, IsErr, IsSomeAnd};
+ghost use Rattle.std.specs.Option.{option_map};
+ghost use Rattle.rtpwire.specs.Content.{packet_of, extension_of, IsTooLong};
+ghost use Rattle.rtpwire.specs.RtpReading.{words_at};
+
+use crate::fault::ContentFault;
+use crate::octets::u32_at;
+use crate::rtp::RtpView;
+use arrayvec::ArrayVec;
+
+/// A datagram as octets. The largest that is written has 1595.
+pub type Datagram = ArrayVec<u8, 1600>;
+
+/// A header extension (RFC 3550, section 5.3.1).
+#[derive(Debug, Drop, PartialEq, Eq)]
+pub struct Extension {
+    /// The 16 bits that the profile in use defines.
+    pub profile: u16,
+    /// Its words of 32 bits.
+    pub words: ArrayVec<u32, 16>,
+}
+
+/// What a packet carries, whatever its sequence number, type, SSRC and padding.
+#[derive(Debug, Drop, PartialEq, Eq)]
+pub struct Content {
+    /// The payload, in octets.
+    pub payload: ArrayVec<u8, 1200>,
+    /// The RTP timestamp, in units of the media's clock.
+    pub timestamp: u32,
+    /// The marker bit.
+    pub marker: bool,
+    /// The CSRC identifiers: the contributing sources.
+    pub sources: ArrayVec<u32, 15>,
+    /// The header extension, if there is one.
+    pub extension: Option<Extension>,
+}
+
+impl Extension {
+    /// The same extension once more. It takes no memory.
+    pub fn copy(&self) -> Extension
+        ensures { result ≡ self.now }
+    {
+        Extension {
+            profile: self.profile,
+            words: copy_items(&self.words),
+        }
+    }
+}
+
+impl Content {
+    /// The content of a packet that was read, or a refusal where no content holds it: the payload has
+    /// more than 1200 octets, or the extension more than 16 words.
+    pub fn of_view(view: &RtpView<'_>) -> Result<Content, ContentFault>
+        ensures ok { IfOk result (λ content. packet_of content view.now.padding view.now.sequence view.now.payload_type view.now.ssrc ≡ view.now) }
+        ensures too_long { IsErr result ↔ IsTooLong view.now }
+    {
+        let extension = extension_in(view)?;
+        let Ok(payload) = ArrayVec::try_from(view.payload()) else {
+            return Err(ContentFault::TooLong);
+        };
+        Ok(Content {
+            payload,
+            timestamp: view.timestamp(),
+            marker: view.marker(),
+            sources: sources_in(view),
+            extension,
+        })
+    }
+
+    /// The same content once more. It takes no memory.
+    pub fn copy(&self) -> Content
+        ensures { result ≡ self.now }
+    {
+        Content {
+            payload: copy_items(&self.payload),
+            timestamp: self.timestamp,
+            marker: self.marker,
+            sources: copy_items(&self.sources),
+            extension: match &self.extension {
+                Some(extension) => Some(extension.copy()),
+                None => None,
+            },
+        }
+    }
+}
+
+fn copy_items<T: Copy + Default + Drop, const N: usize>(items: &ArrayVec<T, N>) -> ArrayVec<T, N>
+    ensures { result ≡ items.now }
+{
+    let mut copy = ArrayVec::new();
+    copy.try_extend_from_slice(items.as_slice()).unwrap();
+    copy
+}
+
+/// The CSRC list of a packet that was read.
+fn sources_in(view: &RtpView<'_>) -> ArrayVec<u32, 15>
+    ensures { result.items ≡ view.now.sources }
+{
+    let mut sources = ArrayVec::new();
+    for index in 0..view.source_count() {
+        sources.push(view.source(index));
+    }
+    sources
+}
+
+/// The header extension of a packet that was read.
+fn extension_in(view: &RtpView<'_>) -> Result<Option<Extension>, ContentFault>
+    ensures ok { IfOk result (λ extension. option_map extension_of extension ≡ view.now.extension) }
+    ensures err { IsErr result ↔ IsSomeAnd view.now.extension (λ e. 16 < length e.1) }
+{
+    match view.extension() {
+        Some((profile, octets)) => {
+            let words = words_in(octets)?;
+            Ok(Some(Extension { profile, words }))
+        }
+        None => Ok(None),
+    }
+}
+
+/// The words of 32 bits of a header extension, of which there are at most 16.
+fn words_in(octets: &[u8]) -> Result<ArrayVec<u32, 16>, ContentFault>
+    ensures ok { IfOk result (λ words. words.items ≡ words_at (length octets.now / 4) octets.now) }
+    ensures err { IsErr result ↔ (16 < length octets.now / 4) }
+{
+    let count = octets.len() / 4;
+    if count > 16 {
+        return Err(ContentFault::TooLong);
+    }
+    let mut words = ArrayVec::new();
+    for index in 0..count {
+        words.push(u32_at(octets, 4 * index));
+    }
+    Ok(words)
+}

@@ -1,0 +1,77 @@
+ghost use Rattle.std.specs.Prelude.{◌≡◌};
+
+/// Why octets are no RTP packet: the first check that they fail, in this order (RFC 3550, section 5.1
+/// and appendix A.1).
+#[derive(Clone, Copy, Debug, PartialEq, Eq, Hash)]
+pub enum RtpFault {
+    /// Fewer than the twelve octets of a fixed header.
+    Short,
+    /// The version is not 2.
+    Version,
+    /// The CSRC list does not fit.
+    CsrcList,
+    /// The header extension does not fit: its first four octets, or its words.
+    Extension,
+    /// The padding counts no octets, or leaves no payload.
+    Padding,
+}
+
+impl RtpFault {
+    ghost use Rattle.rtpwire.specs.Fault.{rtp_number};
+
+    /// Its refusal number.
+    pub fn number(&self) -> u8
+        ensures { result ≡ rtp_number self.now }
+    {
+        match self {
+            RtpFault::Short => 1,
+            RtpFault::Version => 2,
+            RtpFault::CsrcList => 3,
+            RtpFault::Extension => 4,
+            RtpFault::Padding => 5,
+        }
+    }
+}
+
+/// Why no [`Content`](crate::Content) holds what a packet carries.
+#[derive(Clone, Copy, Debug, PartialEq, Eq, Hash)]
+pub enum ContentFault {
+    /// The payload has more than 1200 octets, or the header extension more than 16 words.
+    TooLong,
+}
+
+impl ContentFault {
+    ghost use Rattle.rtpwire.specs.Fault.{content_number};
+
+    /// Its refusal number.
+    pub fn number(&self) -> u8
+        ensures { result ≡ content_number self.now }
+    {
+        match self {
+            ContentFault::TooLong => 37,
+        }
+    }
+}
+
+/// Why a configuration is refused: the first check that it fails, in this order.
+#[derive(Clone, Copy, Debug, PartialEq, Eq, Hash)]
+pub enum ConfigFault {
+    /// A payload type is not in 96 to 127, or both are equal.
+    BadType,
+    /// Two of the SSRCs are equal.
+    SameSsrc,
+}
+
+impl ConfigFault {
+    ghost use Rattle.rtpwire.specs.Fault.{config_number};
+
+    /// Its refusal number.
+    pub fn number(&self) -> u8
+        ensures { result ≡ config_number self.now }
+    {
+        match self {
+            ConfigFault::BadType => 51,
+            ConfigFault::SameSsrc => 52,
+        }
+    }
+}

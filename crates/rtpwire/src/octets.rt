@@ -1,0 +1,63 @@
+//! Numbers in network order, as they are read and written.
+ghost use Rattle.std.specs.Prelude.{◌≡◌, ◌+◌, ◌*◌, ◌≤◌, ◌^◌, ◌<◌, ◌++◌, length, drop, All};
+ghost use Rattle.byteorder.specs.Endian.{big_bytes, big_number};
+ghost use Rattle.rtpwire.specs.Rtp.{word_octets};
+
+use arrayvec::ArrayVec;
+use byteorder::{ByteOrder, NetworkEndian};
+
+/// The number of 16 bits in network order at this place.
+pub fn u16_at(octets: &[u8], at: usize) -> u16
+    requires { at + 2 ≤ length octets.now }
+    ensures { result ≡ big_number 2 (drop at octets.now) }
+{
+    NetworkEndian::read_u16(&octets[at..])
+}
+
+/// The number of 32 bits in network order at this place.
+pub fn u32_at(octets: &[u8], at: usize) -> u32
+    requires { at + 4 ≤ length octets.now }
+    ensures { result ≡ big_number 4 (drop at octets.now) }
+{
+    NetworkEndian::read_u32(&octets[at..])
+}
+
+/// Appends octets, for which there is room.
+pub fn push_octets<const N: usize>(out: &mut ArrayVec<u8, N>, octets: &[u8])
+    requires { length out.old.items + length octets.now ≤ N }
+    ensures { out.new.items ≡ out.old.items ++ octets.now }
+{
+    out.try_extend_from_slice(octets).unwrap();
+}
+
+/// Appends a number of 16 bits in network order. There is room for its two octets.
+pub fn push_u16<const N: usize>(out: &mut ArrayVec<u8, N>, number: u16)
+    requires { length out.old.items + 2 ≤ N }
+    ensures { out.new.items ≡ out.old.items ++ big_bytes 2 number }
+{
+    let mut octets = [0; 2];
+    NetworkEndian::write_u16(&mut octets, number);
+    push_octets(out, &octets);
+}
+
+/// Appends a number of 32 bits in network order. There is room for its four octets.
+pub fn push_u32<const N: usize>(out: &mut ArrayVec<u8, N>, number: u32)
+    requires { length out.old.items + 4 ≤ N }
+    ensures { out.new.items ≡ out.old.items ++ big_bytes 4 number }
+{
+    let mut octets = [0; 4];
+    NetworkEndian::write_u32(&mut octets, number);
+    push_octets(out, &octets);
+}
+
+/// Appends words of 32 bits in network order. There is room for four octets each.
+pub(crate) fn push_words<const N: usize>(out: &mut ArrayVec<u8, N>, words: &[u32])
+    requires { length out.old.items + 4 * length words.now ≤ N }
+    ensures items { out.new.items ≡ out.old.items ++ word_octets words.now }
+    ensures len { length out.new.items ≡ length out.old.items + 4 * length words.now }
+    ensures are_words { All (λ w. w < 2 ^ 32) words.now }
+{
+    for word in words {
+        push_u32(out, *word);
+    }
+}

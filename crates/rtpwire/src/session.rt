@@ -1,0 +1,112 @@
+//! Which streams the two ends send.
+ghost use Rattle.std.specs.Prelude.{◌≡◌, ◌↔◌, IsTrue, IsOk, IfOk};
+ghost use Rattle.rtpwire.specs.Session.{IsDynamic, HasTypes, HasSsrcs, streams};
+
+use crate::fault::ConfigFault;
+use std::marker::Model;
+
+/// The streams of a session: media and its retransmissions go one way, each under an SSRC and a payload
+/// type of its own (RFC 4588, section 5.3, SSRC multiplexing), and the receiver's feedback the other way.
+#[derive(Clone, Copy, Debug, PartialEq, Eq)]
+pub struct Session {
+    media_ssrc: u32,
+    media_type: u8,
+    repair_ssrc: u32,
+    repair_type: u8,
+    receiver_ssrc: u32,
+}
+
+impl Model for Session {
+    ghost use Rattle.rtpwire.specs.Session.{Streams, HasTypes, HasSsrcs, streams};
+
+    ghost Value = { Streams };
+
+    ghost view = { λ s. streams s.media_ssrc s.media_type s.repair_ssrc s.repair_type s.receiver_ssrc };
+
+    ghost invariant = { λ s. HasTypes (streams s.media_ssrc s.media_type s.repair_ssrc s.repair_type s.receiver_ssrc)
+        × HasSsrcs (streams s.media_ssrc s.media_type s.repair_ssrc s.repair_type s.receiver_ssrc) };
+
+    ghost inverse = { λ s. record { media_ssrc = s.media_ssrc; media_type = s.media_type; repair_ssrc = s.repair_ssrc; repair_type = s.repair_type; receiver_ssrc = s.receiver_ssrc } };
+}
+
+impl Session {
+    /// A session with these streams. The types are refused first.
+    pub fn new(
+        media_ssrc: u32,
+        media_type: u8,
+        repair_ssrc: u32,
+        repair_type: u8,
+        receiver_ssrc: u32,
+    ) -> Result<Session, ConfigFault>
+        ensures ok { IfOk result (λ session.
+            session ≡ streams media_ssrc media_type repair_ssrc repair_type receiver_ssrc) }
+        ensures succeeds { IsOk result
+            ↔ (HasTypes (streams media_ssrc media_type repair_ssrc repair_type receiver_ssrc)
+            × HasSsrcs (streams media_ssrc media_type repair_ssrc repair_type receiver_ssrc)) }
+        ensures bad_type { (result ≡ Err ConfigFault.BadType)
+            ↔ (HasTypes (streams media_ssrc media_type repair_ssrc repair_type receiver_ssrc) → ⊥) }
+        ensures same_ssrc { (result ≡ Err ConfigFault.SameSsrc)
+            ↔ (HasTypes (streams media_ssrc media_type repair_ssrc repair_type receiver_ssrc)
+            × (HasSsrcs (streams media_ssrc media_type repair_ssrc repair_type receiver_ssrc) → ⊥)) }
+    {
+        if !is_dynamic(media_type) || !is_dynamic(repair_type) || media_type == repair_type {
+            return Err(ConfigFault::BadType);
+        }
+        if media_ssrc == repair_ssrc
+            || media_ssrc == receiver_ssrc
+            || repair_ssrc == receiver_ssrc
+        {
+            return Err(ConfigFault::SameSsrc);
+        }
+        Ok(Session {
+            media_ssrc,
+            media_type,
+            repair_ssrc,
+            repair_type,
+            receiver_ssrc,
+        })
+    }
+
+    /// The SSRC of the media stream.
+    pub fn media_ssrc(&self) -> u32
+        ensures { result ≡ self.now.media_ssrc }
+    {
+        self.media_ssrc
+    }
+
+    /// The payload type of the media stream, 96 to 127.
+    pub fn media_type(&self) -> u8
+        ensures value { result ≡ self.now.media_type }
+        ensures dynamic { IsDynamic result }
+    {
+        self.media_type
+    }
+
+    /// The SSRC of the retransmission stream.
+    pub fn repair_ssrc(&self) -> u32
+        ensures { result ≡ self.now.repair_ssrc }
+    {
+        self.repair_ssrc
+    }
+
+    /// The payload type of the retransmission stream, 96 to 127.
+    pub fn repair_type(&self) -> u8
+        ensures value { result ≡ self.now.repair_type }
+        ensures dynamic { IsDynamic result }
+    {
+        self.repair_type
+    }
+
+    /// The SSRC under which the receiver sends feedback.
+    pub fn receiver_ssrc(&self) -> u32
+        ensures { result ≡ self.now.receiver_ssrc }
+    {
+        self.receiver_ssrc
+    }
+}
+
+fn is_dynamic(payload_type: u8) -> bool
+    ensures { IsTrue result ↔ IsDynamic payload_type }
+{
+    (96..=127).contains(&payload_type)
+}

@@ -1,0 +1,100 @@
+//! Writing an RTP packet.
+ghost use Rattle.std.specs.Prelude.{◌≡◌, ◌+◌, ◌^◌, ◌<◌, ◌≤◌, ◌++◌, [], length};
+ghost use Rattle.rtpwire.specs.Rtp.{RtpSpells, IsPacket, IsExtension, written, written_padding, fixed_header, header, extension_octets};
+ghost use Rattle.rtpwire.specs.Content.{packet_of, extension_of};
+
+use crate::content::{Content, Datagram, Extension};
+use crate::octets::{push_octets, push_u16, push_u32, push_words};
+
+/// A padding's octets before its count.
+const ZEROS: [u8; 254] = [0; 254];
+
+/// The media packet that carries a content, with so many octets of padding (0 for none).
+///
+/// It cannot fail: the largest has 1595 octets. Padding needs a payload, and is zeros and its count (RFC 3550, section 5.1).
+pub fn write_media(
+    content: &Content,
+    padding: u8,
+    sequence: u16,
+    payload_type: u8,
+    ssrc: u32,
+) -> Datagram
+    requires payload_type { payload_type < 128 }
+    requires padding { 0 < padding → 0 < length content.now.payload.items }
+    ensures spells { RtpSpells (packet_of content.now padding sequence payload_type ssrc) result.items }
+    ensures written { result.items ≡ written (packet_of content.now padding sequence payload_type ssrc) }
+    ensures fits { length result.items ≤ 1595 }
+{
+    let mut out = Datagram::new();
+    push_header(&mut out, content, padding, sequence, payload_type, ssrc);
+    push_octets(&mut out, &content.payload);
+    push_padding(&mut out, padding);
+    out
+}
+
+/// Writes all that stands before a payload. Of the padding it only matters whether there is any.
+fn push_header(
+    out: &mut Datagram,
+    content: &Content,
+    padding: u8,
+    sequence: u16,
+    payload_type: u8,
+    ssrc: u32,
+)
+    requires empty { out.old.items ≡ [] }
+    requires payload_type { payload_type < 128 }
+    ensures items { out.new.items ≡ header (packet_of content.now padding sequence payload_type ssrc) }
+    ensures fits { length out.new.items ≤ 140 }
+    ensures packet { (0 < padding → 0 < length content.now.payload.items)
+        → IsPacket (packet_of content.now padding sequence payload_type ssrc) }
+{
+    push_fixed_header(out, content, padding, sequence, payload_type, ssrc);
+    push_words(out, &content.sources);
+    if let Some(extension) = &content.extension {
+        push_extension(out, extension);
+    }
+}
+
+fn push_fixed_header(
+    out: &mut Datagram,
+    content: &Content,
+    padding: u8,
+    sequence: u16,
+    payload_type: u8,
+    ssrc: u32,
+)
+    requires empty { out.old.items ≡ [] }
+    requires payload_type { payload_type < 128 }
+    ensures items { out.new.items ≡ fixed_header (packet_of content.now padding sequence payload_type ssrc) }
+    ensures timestamp { content.now.timestamp < 2 ^ 32 }
+{
+    let padded = u8::from(padding > 0);
+    let extended = u8::from(content.extension.is_some());
+    let first = (2 << 6) + (padded << 5) + (extended << 4) + content.sources.len() as u8;
+    let second = (u8::from(content.marker) << 7) + payload_type;
+    push_octets(out, &[first, second]);
+    push_u16(out, sequence);
+    push_u32(out, content.timestamp);
+    push_u32(out, ssrc);
+}
+
+fn push_extension(out: &mut Datagram, extension: &Extension)
+    requires { length out.old.items ≤ 1500 }
+    ensures items { out.new.items ≡ out.old.items ++ extension_octets (Some (extension_of extension.now)) }
+    ensures fits { length out.new.items ≤ length out.old.items + 68 }
+    ensures extension { IsExtension (extension_of extension.now) }
+{
+    push_u16(out, extension.profile);
+    push_u16(out, extension.words.len() as u16);
+    push_words(out, &extension.words);
+}
+
+fn push_padding(out: &mut Datagram, padding: u8)
+    requires { length out.old.items + padding ≤ 1600 }
+    ensures { out.new.items ≡ out.old.items ++ written_padding padding }
+{
+    if padding > 0 {
+        push_octets(out, &ZEROS[..usize::from(padding) - 1]);
+        push_octets(out, &[padding]);
+    }
+}
