@@ -4,3 +4,5 @@ pub mod Checks
 pub mod Spelled
 pub mod Seen
 pub mod Written
+pub mod Repairs
+pub mod Frames

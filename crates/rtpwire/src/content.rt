@@ -6,6 +6,7 @@ ghost use Rattle.rtpwire.specs.RtpReading.{words_at};
 
 use crate::fault::ContentFault;
 use crate::octets::u32_at;
+use crate::retransmission::RtxView;
 use crate::rtp::RtpView;
 use arrayvec::ArrayVec;
 
@@ -55,17 +56,18 @@ impl Content {
         ensures ok { IfOk result (λ content. packet_of content view.now.padding view.now.sequence view.now.payload_type view.now.ssrc ≡ view.now) }
         ensures too_long { IsErr result ↔ IsTooLong view.now }
     {
-        let extension = extension_in(view)?;
-        let Ok(payload) = ArrayVec::try_from(view.payload()) else {
-            return Err(ContentFault::TooLong);
-        };
-        Ok(Content {
-            payload,
-            timestamp: view.timestamp(),
-            marker: view.marker(),
-            sources: sources_in(view),
-            extension,
-        })
+        with_payload(view, view.payload())
+    }
+
+    /// The content of a retransmission that was read: its payload without the original's number. It is
+    /// refused where no content holds it: that payload has more than 1200 octets, or the extension more
+    /// than 16 words.
+    pub fn of_rtx(view: &RtxView<'_>) -> Result<Content, ContentFault>
+        ensures ok { IfOk result (λ content. let packet = view.now.packet in
+            packet_of content packet.padding packet.sequence packet.payload_type packet.ssrc ≡ packet) }
+        ensures too_long { IsErr result ↔ IsTooLong view.now.packet }
+    {
+        with_payload(view.packet(), view.payload())
     }
 
     /// The same content once more. It takes no memory.
@@ -83,6 +85,26 @@ impl Content {
             },
         }
     }
+}
+
+/// The content of a packet that was read, with this payload.
+fn with_payload(view: &RtpView<'_>, payload: &[u8]) -> Result<Content, ContentFault>
+    ensures ok { IfOk result (λ content.
+        packet_of content view.now.padding view.now.sequence view.now.payload_type view.now.ssrc
+        ≡ record view.now { payload = payload.now }) }
+    ensures too_long { IsErr result ↔ IsTooLong (record view.now { payload = payload.now }) }
+{
+    let extension = extension_in(view)?;
+    let Ok(payload) = ArrayVec::try_from(payload) else {
+        return Err(ContentFault::TooLong);
+    };
+    Ok(Content {
+        payload,
+        timestamp: view.timestamp(),
+        marker: view.marker(),
+        sources: sources_in(view),
+        extension,
+    })
 }
 
 fn copy_items<T: Copy + Default + Drop, const N: usize>(items: &ArrayVec<T, N>) -> ArrayVec<T, N>

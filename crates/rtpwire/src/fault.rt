@@ -14,6 +14,9 @@ pub enum RtpFault {
     Extension,
     /// The padding counts no octets, or leaves no payload.
     Padding,
+    /// It is a packet and no retransmission: its payload has fewer than the two octets of an original's
+    /// sequence number (RFC 4588, section 4). Only [`RtxView::read`](crate::RtxView::read) answers it.
+    NoOsn,
 }
 
 impl RtpFault {
@@ -29,6 +32,30 @@ impl RtpFault {
             RtpFault::CsrcList => 3,
             RtpFault::Extension => 4,
             RtpFault::Padding => 5,
+            RtpFault::NoOsn => 6,
+        }
+    }
+}
+
+/// Why a stream is no frames (RFC 4571, section 2).
+#[derive(Clone, Copy, Debug, PartialEq, Eq, Hash)]
+pub enum FrameFault {
+    /// It ends in the middle of a frame.
+    Truncated,
+    /// A length is above 1600 octets (a limit of this project).
+    FrameTooLong,
+}
+
+impl FrameFault {
+    ghost use Rattle.rtpwire.specs.Fault.{frame_number};
+
+    /// Its refusal number.
+    pub fn number(&self) -> u8
+        ensures { result ≡ frame_number self.now }
+    {
+        match self {
+            FrameFault::Truncated => 21,
+            FrameFault::FrameTooLong => 22,
         }
     }
 }
@@ -60,6 +87,8 @@ pub enum ConfigFault {
     BadType,
     /// Two of the SSRCs are equal.
     SameSsrc,
+    /// A limit of an end is not met. (A session has none.)
+    BadLimit,
 }
 
 impl ConfigFault {
@@ -72,6 +101,7 @@ impl ConfigFault {
         match self {
             ConfigFault::BadType => 51,
             ConfigFault::SameSsrc => 52,
+            ConfigFault::BadLimit => 53,
         }
     }
 }

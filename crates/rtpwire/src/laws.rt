@@ -1,7 +1,10 @@
 //! Laws on what octets spell. These functions compute nothing: their contracts are the laws, for callers
 //! of the readers and writers.
-ghost use Rattle.std.specs.Prelude.{◌≡◌, ℕ, List};
-ghost use Rattle.rtpwire.specs.Rtp.{RtpPacket, RtpSpells, IsPacket, written};
+ghost use Rattle.std.specs.Prelude.{◌≡◌, ◌↔◌, ℕ, List, [], ◌∷◌, ◌++◌};
+ghost use Rattle.rtpwire.specs.declared.content.Content.{Content};
+ghost use Rattle.rtpwire.specs.Rtp.{RtpPacket, RtpSpells, IsPacket, unpadded, written};
+ghost use Rattle.rtpwire.specs.Retransmission.{IsRepair, RepairSpells, repair_of, repair_packet};
+ghost use Rattle.rtpwire.specs.Framing.{IsDatagram, frame, Frames, IsRest, BeginsTooLong, Splits, Breaks};
 
 /// Octets and packets determine each other as far as they can.
 ///
@@ -12,4 +15,54 @@ pub fn spelling_is_determined()
     ensures one { (p q : RtpPacket) (octets : List ℕ) → RtpSpells p octets → RtpSpells q octets → p ≡ q }
     // What is written spells the packet.
     ensures written { (p : RtpPacket) → IsPacket p → RtpSpells p (written p) }
+{}
+
+/// Octets and retransmissions determine each other.
+///
+/// With what [`RtpView::read`](crate::RtpView::read) and [`RtxView::read`](crate::RtxView::read) say, the
+/// third law is the round trip: what [`write_repair`](crate::write_repair) writes is read back.
+pub fn repair_is_determined()
+    // Octets spell the retransmission of at most one content, under one number of an original.
+    ensures one { (c d : Content) (o p m n t u r s : ℕ) (octets : List ℕ)
+        → RepairSpells c o m t r octets → RepairSpells d p n u s octets
+        → (c ≡ d) × (o ≡ p) × (m ≡ n) × (t ≡ u) × (r ≡ s) }
+    // A retransmission has one spelling.
+    ensures same { (content : Content) (original sequence payload_type ssrc : ℕ) (octets : List ℕ)
+        → RepairSpells content original sequence payload_type ssrc octets
+        → octets ≡ unpadded (repair_packet (repair_of content original sequence payload_type ssrc)) }
+    // They spell it exactly where the packet that a reader finds in them is this retransmission.
+    ensures read { (content : Content) (original sequence payload_type ssrc : ℕ) (octets : List ℕ)
+        (packet : RtpPacket) → RtpSpells packet octets
+        → (RepairSpells content original sequence payload_type ssrc octets
+        ↔ IsRepair (repair_of content original sequence payload_type ssrc) packet) }
+{}
+
+/// In whatever pieces a stream comes, its datagrams are the same.
+///
+/// What [`Deframer::feed`](crate::Deframer::feed) says of one piece, the last three laws say of the
+/// stream so far. By the first three the stream alone determines its datagrams.
+pub fn framing_is_determined()
+    // A stream is the frames of one list of datagrams at most, and one rest.
+    ensures one { (a b : List (List ℕ)) (r s stream : List ℕ)
+        → Splits a r stream → Splits b s stream → (a ≡ b) × (r ≡ s) }
+    // So it is where a length above 1600 comes after them.
+    ensures one_broken { (a b : List (List ℕ)) (stream : List ℕ) → Breaks a stream → Breaks b stream → a ≡ b }
+    ensures apart { (a b : List (List ℕ)) (rest stream : List ℕ)
+        → Splits a rest stream → Breaks b stream → ⊥ }
+    // Frames are a stream of which nothing is left.
+    ensures frames { (datagrams : List (List ℕ)) (octets : List ℕ)
+        → Frames datagrams octets ↔ Splits datagrams [] octets }
+
+    // One more frame became whole.
+    ensures whole { (datagrams : List (List ℕ)) (datagram rest stream piece : List ℕ)
+        → Splits datagrams rest stream → IsDatagram datagram → rest ++ piece ≡ frame datagram
+        → Splits (datagrams ++ datagram ∷ []) [] (stream ++ piece) }
+    // None did.
+    ensures partial { (datagrams : List (List ℕ)) (rest stream piece : List ℕ)
+        → Splits datagrams rest stream → IsRest (rest ++ piece)
+        → Splits datagrams (rest ++ piece) (stream ++ piece) }
+    // A length above 1600 came.
+    ensures too_long { (datagrams : List (List ℕ)) (rest stream piece : List ℕ)
+        → Splits datagrams rest stream → BeginsTooLong (rest ++ piece)
+        → Breaks datagrams (stream ++ piece) }
 {}

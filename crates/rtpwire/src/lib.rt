@@ -1,21 +1,30 @@
-//! RTP packets as octets (RFC 3550, section 5): read without a copy, and written.
+//! RTP packets as octets (RFC 3550, section 5): read without a copy, and written. So are
+//! retransmissions (RFC 4588, section 4) and datagrams on a stream (RFC 4571, section 2).
 #![tactic(auto)]
 
 mod content;
 mod fault;
+mod framing;
 mod laws;
 mod octets;
+mod retransmission;
 mod rtp;
 mod session;
 mod write;
 
 pub use content::{Content, Datagram, Extension};
-pub use fault::{ConfigFault, ContentFault, RtpFault};
-pub use laws::spelling_is_determined;
+pub use fault::{ConfigFault, ContentFault, FrameFault, RtpFault};
+pub use framing::{Deframer, write_frame};
+pub use laws::{framing_is_determined, repair_is_determined, spelling_is_determined};
 pub use octets::{push_octets, push_u16, push_u32, u16_at, u32_at};
+pub use retransmission::{RtxView, write_repair};
 pub use rtp::RtpView;
 pub use session::Session;
 pub use write::write_media;
 
+#[cfg(test)]
+mod framing_tests;
+#[cfg(test)]
+mod retransmission_tests;
 #[cfg(test)]
 mod tests;

@@ -75,6 +75,17 @@ impl<'a> RtpView<'a> {
         checked(octets)
     }
 
+    /// The same view once more. No octet is copied.
+    pub(crate) fn copy(&self) -> RtpView<'a>
+        ensures { result ≡ self.now }
+    {
+        RtpView {
+            octets: self.octets,
+            payload_start: self.payload_start,
+            payload_end: self.payload_end,
+        }
+    }
+
     /// The marker bit.
     pub fn marker(&self) -> bool
         ensures { result ≡ self.now.marker }

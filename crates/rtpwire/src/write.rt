@@ -33,7 +33,7 @@ pub fn write_media(
 }
 
 /// Writes all that stands before a payload. Of the padding it only matters whether there is any.
-fn push_header(
+pub(crate) fn push_header(
     out: &mut Datagram,
     content: &Content,
     padding: u8,

@@ -1,0 +1,13 @@
+pub mod Octets
+pub mod PairLists
+pub mod NackSpelling
+pub mod Masks
+pub mod Progress
+pub mod NameLists
+pub mod FirstPair
+pub mod PackingSteps
+pub mod Fewest
+pub mod Packings
+pub mod OnePacking
+pub mod WholePackets
+pub mod Walks

@@ -1,0 +1,11 @@
+use Rattle.fbwire.proofs.Walks.{one_list, one_fault, not_both}
+use Rattle.fbwire.proofs.compound.compound_is_determined.Goals as goal
+
+pub returns-clause-one_list : goal.returns-clause-one_list
+returns-clause-one_list c = one_list
+
+pub returns-clause-one_fault : goal.returns-clause-one_fault
+returns-clause-one_fault c = one_fault
+
+pub returns-clause-not_both : goal.returns-clause-not_both
+returns-clause-not_both c = not_both

@@ -1,0 +1,11 @@
+pub mod Header
+pub mod Nack
+pub mod NackChecks
+pub mod NackReading
+pub mod Fault
+pub mod Packing
+pub mod PackingSteps
+pub mod Compound
+pub mod CompoundChecks
+pub mod CompoundReading
+pub mod CompoundWalk

@@ -1,0 +1,183 @@
+//! Reading a compound datagram.
+ghost use Rattle.std.specs.Prelude.{◌≡◌, ℕ, List, [], ◌∷◌, None, length, IfOk, IfErr, MatchResult, MatchOption};
+ghost use Rattle.std.specs.Iterator.{YieldsFirst, item_count};
+ghost use Rattle.fbwire.specs.Header.{packet_length};
+ghost use Rattle.fbwire.specs.Nack.{Nack};
+ghost use Rattle.fbwire.specs.Compound.{CompoundSpells};
+ghost use Rattle.fbwire.specs.CompoundChecks.{IsRefused, packet_fault};
+ghost use Rattle.fbwire.specs.CompoundReading.{nacks_in};
+ghost use Rattle.fbwire.specs.CompoundWalk.{CanWalk};
+
+use crate::fault::FeedbackFault;
+use crate::header::{FirstOctet, RTPFB, is_nack, length_of};
+use crate::nack::{HEADER, NackView};
+use std::marker::Model;
+
+/// A compound datagram with one generic NACK or more, in the octets that spell it, which it borrows.
+/// Nothing is copied.
+#[derive(Drop)]
+pub struct Compound<'a> {
+    octets: &'a [u8],
+}
+
+impl<'a> Model for Compound<'a> {
+    ghost use Rattle.std.specs.Prelude.{List};
+    ghost use Rattle.fbwire.specs.Nack.{Nack};
+    ghost use Rattle.fbwire.specs.CompoundReading.{nacks_in};
+    ghost use Rattle.fbwire.specs.CompoundWalk.{CanWalk};
+
+    ghost Value = { List Nack };
+
+    ghost view = { λ v. nacks_in v.octets.now };
+
+    ghost invariant = { λ v. CanWalk v.octets.now };
+}
+
+/// The generic NACKs of a compound datagram, one after another.
+#[derive(Drop)]
+pub struct Nacks<'a> {
+    octets: &'a [u8],
+}
+
+impl<'a> Model for Nacks<'a> {
+    ghost use Rattle.std.specs.Prelude.{List};
+    ghost use Rattle.fbwire.specs.Nack.{Nack};
+    ghost use Rattle.fbwire.specs.CompoundReading.{nacks_in};
+    ghost use Rattle.fbwire.specs.CompoundWalk.{CanWalk};
+
+    ghost Value = { List Nack };
+
+    ghost view = { λ v. nacks_in v.octets.now };
+
+    ghost invariant = { λ v. CanWalk v.octets.now };
+}
+
+impl<'a> Compound<'a> {
+    /// The compound datagram that the octets spell (RFC 3550, section 6.1). A slice of any length is read.
+    ///
+    /// Packets other than generic NACKs are skipped by their length; their padding and contents are not
+    /// looked at, and no report need come first (RFC 5506).
+    ///
+    /// The first packet with a fault decides, and within a packet the first of these checks:
+    /// [`FeedbackFault::Short`] where fewer than four octets are left, `Version`, for a NACK `Padded`,
+    /// `Length` where the packet passes the end, and for a NACK `Short` under twelve octets and `Empty`
+    /// without a pair. After packets without a fault, none of them a NACK, it is `NotRtpfb` where no packet
+    /// is transport layer feedback, and else `NotNack`. No octets are `Short`.
+    pub fn read(octets: &'a [u8]) -> Result<Compound<'a>, FeedbackFault>
+        // What is read is spelled so.
+        ensures spelled { IfOk result (λ nacks. CompoundSpells nacks octets.now) }
+        // What is spelled so is read.
+        ensures only { (nacks : List Nack) → CompoundSpells nacks octets.now → result ≡ Ok nacks }
+        // Each refusal is the fault that decides.
+        ensures fault { IfErr result (IsRefused octets.now) }
+    {
+        walked(octets)
+    }
+
+    /// Its NACKs, in order: one or more.
+    pub fn nacks(&self) -> Nacks<'a>
+        ensures { result ≡ self.now }
+    {
+        Nacks {
+            octets: self.octets,
+        }
+    }
+}
+
+impl<'a> Iterator for Nacks<'a> {
+    type Item = NackView<'a>;
+
+    ghost next_gives = { YieldsFirst (λ s. s) };
+
+    ghost remaining = { item_count (λ s. s) };
+
+    fn next(&mut self) -> Option<NackView<'a>> {
+        let (nack, rest) = next_nack(self.octets)?;
+        self.octets = rest;
+        Some(nack)
+    }
+}
+
+/// The datagram, once the walk over its packets has come to the end.
+fn walked(octets: &[u8]) -> Result<Compound<'_>, FeedbackFault>
+    ensures { MatchResult result (λ nacks. CompoundSpells nacks octets.now) (IsRefused octets.now) }
+{
+    if octets.is_empty() {
+        return Err(FeedbackFault::Short);
+    }
+    let mut rest = octets;
+    let mut has_nack = false;
+    let mut has_feedback = false;
+    while !rest.is_empty() {
+        let length = first_packet(rest)?;
+        let (packet, others) = rest.split_at(length);
+        has_nack |= is_nack(packet);
+        has_feedback |= packet[1] == RTPFB;
+        rest = others;
+    }
+    if has_nack {
+        Ok(Compound { octets })
+    } else if has_feedback {
+        Err(FeedbackFault::NotNack)
+    } else {
+        Err(FeedbackFault::NotRtpfb)
+    }
+}
+
+/// How many octets the packet at the front has, or the first check that it fails.
+fn first_packet(octets: &[u8]) -> Result<usize, FeedbackFault>
+    ensures { MatchResult result
+        (λ length. (packet_fault octets.now ≡ None) × (length ≡ packet_length octets.now))
+        (λ fault. packet_fault octets.now ≡ Some fault) }
+{
+    if octets.len() < 4 {
+        return Err(FeedbackFault::Short);
+    }
+    let first = FirstOctet(octets[0]);
+    if first.version() != 2 {
+        return Err(FeedbackFault::Version);
+    }
+    if is_nack(octets) && first.is_padded() {
+        return Err(FeedbackFault::Padded);
+    }
+    let length = length_of(octets);
+    if octets.len() < length {
+        return Err(FeedbackFault::Length);
+    }
+    if is_nack(octets) && length < HEADER {
+        return Err(FeedbackFault::Short);
+    }
+    if is_nack(octets) && length == HEADER {
+        return Err(FeedbackFault::Empty);
+    }
+    Ok(length)
+}
+
+/// The first NACK of these packets, and the octets after it.
+fn next_nack(octets: &[u8]) -> Option<(NackView<'_>, &[u8])>
+    requires { CanWalk octets.now }
+    ensures { MatchOption result
+        (nacks_in octets.now ≡ [])
+        (λ found. (nacks_in octets.now ≡ found.0 ∷ nacks_in found.1.now) × CanWalk found.1.now) }
+{
+    let mut left = octets;
+    while !left.is_empty() {
+        let (packet, rest) = left.split_at(length_of(left));
+        if is_nack(packet) {
+            return Some((NackView::of_checked(packet), rest));
+        }
+        left = rest;
+    }
+    None
+}
+
+/// What the octets of a compound datagram determine. It computes nothing: its contract is a law on the
+/// definitions, for callers of [`Compound::read`].
+pub fn compound_is_determined()
+    // Octets spell at most one list of NACKs.
+    ensures one_list { (octets : List ℕ) (a b : List Nack) → CompoundSpells a octets → CompoundSpells b octets → a ≡ b }
+
+    // They are refused for at most one fault, and not where they spell NACKs.
+    ensures one_fault { (octets : List ℕ) (a b : FeedbackFault) → IsRefused octets a → IsRefused octets b → a ≡ b }
+    ensures not_both { (octets : List ℕ) (nacks : List Nack) (a : FeedbackFault) → CompoundSpells nacks octets → IsRefused octets a → ⊥ }
+{}

@@ -1,0 +1,139 @@
+-- A put of the window is a take of the receiver.
+use Rattle.std.proofs.Common.{◌≡◌, ◌≢◌, ◌⊎◌, ℕ, ◌+◌, ◌-◌, ◌^◌, ◌<◌, ◌≤◌, ◌==◌, ◌&&◌, Bool, true, false, cond, List, length, max, Option, Some, None, Ok, Result, nat_lt, arith, refl, ap, sym, subst, slice_get, ◌∙◌, inl, inr, eq-eqb}
+use Rattle.std.specs.Prelude.{IsSomeAnd}
+use Rattle.std.specs.Option.{option_map}
+use Rattle.std.proofs.lemmas.Option.{slice_get_past, same_Some}
+use Rattle.std.proofs.lemmas.Bool.{cases_Bool, cases_lt, eqb-true, lt-ltb, le-ltb}
+use Rattle.rtpwire.specs.declared.content.Content.{Content}
+use Rattle.stores.specs.declared.slot.Slot.{Slot}
+use Rattle.stores.specs.declared.slot.Slot.TheVariants.{Held, Missing}
+use Rattle.stores.specs.Span.{Span, IsSpan, highest_of}
+use Rattle.stores.specs.Put.{overrun_of}
+use Rattle.stores.specs.ByPlace.{slot_at, PutStep, StartsWith, Gains, IsHeld}
+use Rattle.places.specs.Place.{IsNear}
+use Rattle.receiver.specs.declared.answer.Taken.{Taken}
+use Rattle.receiver.specs.declared.fault.ReceiveFault.{ReceiveFault}
+use Rattle.receiver.specs.Heard.{TakesNumber}
+use Rattle.receiver.specs.Window.{Window, Starts, Takes, TakesPlace, held_in, missed_in, window_at, state_of, cursor_after}
+
+-- the tests in the words on slots, decided
+at_place : (p : ℕ) (x y : Option Slot) → cond (p == p) x y ≡ x
+at_place p x y = ap (λ b. cond b x y) (eq-eqb p p refl)
+
+elsewhere : (q p : ℕ) (x y : Option Slot) → q ≢ p → cond (q == p) x y ≡ y
+elsewhere q p x y other =
+    elim (cases_Bool (q == p)) [ inl same ↦ absurd (other (eqb-true _ _ same)) | inr e ↦ ap (λ b. cond b x y) e ]
+
+below : (q k : ℕ) (x y : Option Slot) → q < k → cond (nat_lt q k) x y ≡ x
+below q k x y less = ap (λ b. cond b x y) (lt-ltb _ _ less)
+
+not_below : (q k : ℕ) (x y : Option Slot) → k ≤ q → cond (nat_lt q k) x y ≡ y
+not_below q k x y more = ap (λ b. cond b x y) (le-ltb _ _ more)
+
+between : (a b : Bool) (x y : Option Slot) → a ≡ true → b ≡ true → cond (a && b) x y ≡ x
+between a b x y first second = rw (first, second) refl
+
+not_between_left : (a b : Bool) (x y : Option Slot) → a ≡ false → cond (a && b) x y ≡ y
+not_between_left a b x y first = rw first refl
+
+not_between_right : (a b : Bool) (x y : Option Slot) → b ≡ false → cond (a && b) x y ≡ y
+not_between_right true b x y second = rw second refl
+not_between_right false b x y second = refl
+
+starts : (old new : Span) (p : ℕ) (content : Content) → StartsWith old new p content → IsSomeAnd (state_of new) (Starts p content)
+starts old new p content s =
+    let P : Option ℕ → Type 0 = λ c. IsSomeAnd (window_at c new) (Starts p content) in
+    let highest : option_map (λ k. k + length new.slots - 1) (Some p) ≡ Some p = ap (option_map (λ k. k + length new.slots - 1)) (sym s.cursor) ∙ s.highest in
+    subst P (sym s.cursor) (record {
+      cursor = refl;
+      highest = same_Some _ _ highest;
+      held = ap held_in (s.slots p ∙ at_place p _ _);
+      held_else = λ k other. ap held_in (s.slots k ∙ elsewhere k p _ _ other);
+      missing = λ k. ap missed_in (s.slots k)
+          ∙ elim (cases_Bool (k == p)) [ inl e ↦ ap (λ b. missed_in (cond b (Some (Held content)) None)) e | inr e ↦ ap (λ b. missed_in (cond b (Some (Held content)) None)) e ];
+    })
+
+module _ (slots : List Slot) (room k : ℕ) (new : Span) (p overrun : ℕ) (content : Content) (now : ℕ) where
+  abbrev old : Span
+  old = record { cursor = Some k; slots = slots; capacity = room }
+
+  takes : IsSpan old → Gains old new (k + overrun) p content now → k ≤ p → overrun ≡ overrun_of room k p →
+      IsSomeAnd (state_of new)
+      (Takes room (record { cursor = k; highest = k + length slots - 1; held = λ q. held_in (slot_at old q); missing = λ q. missed_in (slot_at old q) }) p content now)
+  takes is g over count =
+      let P : Option ℕ → Type 0 = λ c.
+      IsSomeAnd (window_at c new)
+      (Takes room (record { cursor = k; highest = k + length slots - 1; held = λ q. held_in (slot_at old q); missing = λ q. missed_in (slot_at old q) }) p content now) in
+      let highest : option_map (λ c. c + length new.slots - 1) (Some (k + overrun)) ≡ Some (max (k + length slots - 1) p) =
+      ap (option_map (λ c. c + length new.slots - 1)) (sym g.cursor) ∙ g.highest in
+      let some : 0 < k + length slots = (is.started k refl).0 in
+      -- a place above the highest had no slot
+      let past : (q : ℕ) → k + length slots - 1 < q → slot_at old q ≡ None = λ q above.
+      not_below q k None (slice_get slots (q - k)) (omega arith) ∙ slice_get_past slots (q - k) (omega arith) in
+      let kept : (q : ℕ) → k + overrun ≤ q → q ≢ p → (q ≤ k + length slots - 1) ⊎ (p < q) → slot_at new q ≡ slot_at old q = λ q above other where_it_is.
+      g.slots q ∙ elsewhere q p _ _ other ∙ not_below q (k + overrun) _ _ above
+      ∙ elim where_it_is [
+        | inl low ↦ not_between_left _ _ _ _ (le-ltb _ _ low)
+        | inr high ↦ not_between_right _ _ _ _ (le-ltb q p (omega arith))
+      ] in
+      subst P (sym g.cursor) (record {
+        cursor = omega arith;
+        highest = same_Some _ _ highest;
+        held = ap held_in (g.slots p ∙ at_place p _ _);
+        held_else = λ q above other.
+            elim (cases_lt (k + length slots - 1) q) [
+              | inl high ↦ elim (cases_lt p q) [
+                | inl far ↦ ap held_in (kept q above other (inr far))
+                | inr near ↦
+                    ap held_in (g.slots q ∙ elsewhere q p _ _ other ∙ not_below q (k + overrun) _ _ above ∙ between _ _ _ _ (lt-ltb _ _ high) (lt-ltb _ _ (less q p near other)))
+                    ∙ sym (ap held_in (past q high))
+              ]
+              | inr low ↦ ap held_in (kept q above other (inl low))
+            ];
+        held_dropped = λ q under. ap held_in (g.slots q ∙ elsewhere q p _ _ (apart q under) ∙ below q (k + overrun) _ _ under);
+        missing = ap missed_in (g.slots p ∙ at_place p _ _);
+        missing_between = λ q above high near.
+            ap missed_in (g.slots q ∙ elsewhere q p _ _ (λ same. absurd (omega arith)) ∙ not_below q (k + overrun) _ _ above ∙ between _ _ _ _ (lt-ltb _ _ high) (lt-ltb _ _ near));
+        missing_below = λ q above other low. ap missed_in (kept q above other (inl low));
+        missing_above = λ q above far. ap missed_in (kept q above (λ same. absurd (omega arith)) (inr far));
+        missing_dropped = λ q under. ap missed_in (g.slots q ∙ elsewhere q p _ _ (apart q under) ∙ below q (k + overrun) _ _ under);
+      })
+    where
+      less : (q p : ℕ) → q ≤ p → q ≢ p → q < p
+      less q p order other = elim (cases_lt q p) [ inl under ↦ under | inr over ↦ absurd (other (omega arith)) ]
+
+      -- the new cursor is not above the place
+      apart : (q : ℕ) → q < k + overrun → q ≢ p
+      apart q under same = let nonzero = is.nonzero in omega arith
+
+-- no slot of a held content, so nothing is held
+not_held : (slot : Option Slot) → ¬ IsSomeAnd slot IsHeld → held_in slot ≡ None
+not_held None free = refl
+not_held (Some (Held content)) free = absurd (free tt)
+not_held (Some (Missing noticed asks last)) free = refl
+
+overrun_is : (room k p overrun : ℕ) → overrun ≡ overrun_of room k p → overrun ≡ cursor_after room k p - k
+overrun_is room k p overrun count = omega arith
+
+pub put_takes : (cursor : Option ℕ) (slots : List Slot) (room : ℕ) (new : Span) (p overrun : ℕ) (content : Content) (now : ℕ) →
+    IsSpan (record { cursor = cursor; slots = slots; capacity = room }) → PutStep p content now (record { cursor = cursor; slots = slots; capacity = room }) (Ok overrun) new →
+    TakesPlace room (state_of (record { cursor = cursor; slots = slots; capacity = room })) p content now (Ok (record { place = p; overrun = overrun })) (state_of new)
+put_takes None slots room new p overrun content now is step = (refl, step.0, starts (record { cursor = None; slots = slots; capacity = room }) new p content step.1)
+put_takes (Some k) slots room new p overrun content now is step =
+    (refl, step.0, not_held _ step.1, overrun_is room k p overrun step.2, takes slots room k new p overrun content now is step.3 step.0 step.2)
+
+-- a content at the place of its number
+module _ (slots : List Slot) (room seq : ℕ) (content : Content) (now : ℕ) (answer : Result Taken ReceiveFault) (new : Option Window) where
+  pub at_first : (cursor : Option ℕ) → highest_of (record { cursor = cursor; slots = slots; capacity = room }) ≡ None →
+      TakesPlace room (state_of (record { cursor = cursor; slots = slots; capacity = room })) (65536 + seq) content now answer new →
+      TakesNumber room (state_of (record { cursor = cursor; slots = slots; capacity = room })) seq content now answer new
+  at_first None none takes = takes
+  at_first (Some k) none takes = absurd cc
+
+  pub at_near : (cursor : Option ℕ) (highest place : ℕ) → highest_of (record { cursor = cursor; slots = slots; capacity = room }) ≡ Some highest →
+      IsNear highest seq place → place < 2 ^ 48 →
+      TakesPlace room (state_of (record { cursor = cursor; slots = slots; capacity = room })) place content now answer new →
+      TakesNumber room (state_of (record { cursor = cursor; slots = slots; capacity = room })) seq content now answer new
+  at_near None highest place some near fits takes = absurd cc
+  at_near (Some k) highest place some near fits takes =
+      inr (inr (place, subst (λ h. IsNear h seq place) (sym (same_Some _ _ some)) near, fits, takes))

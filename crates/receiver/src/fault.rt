@@ -1,0 +1,77 @@
+ghost use Rattle.std.specs.Prelude.{◌≡◌};
+ghost use Rattle.receiver.specs.declared.fault.ReceiveFault.TheVariants as refused;
+
+use places::PlaceFault;
+use rtpwire::{ContentFault, RtpFault};
+use stores::PutFault;
+
+/// Why a receiver refuses a datagram: the first check that it fails, in this order. The receiver is then
+/// as it was.
+#[derive(Clone, Copy, Debug, PartialEq, Eq, Hash)]
+pub enum ReceiveFault {
+    /// The octets are no RTP packet (1 to 5).
+    Rtp(RtpFault),
+    /// 31: the SSRC is neither that of the media nor that of the retransmissions.
+    UnknownSource,
+    /// 32: the payload type is not that of the SSRC's stream.
+    UnknownType,
+    /// 33: the packet is a retransmission, and the receiver has not started to take them.
+    NotStarted,
+    /// 37: no content holds what the packet carries: its payload or its extension is too long.
+    Content(ContentFault),
+    /// 34 or 39: the sequence number stands for no place near the highest one.
+    Place(PlaceFault),
+    /// 35 or 36: the window does not take the place: it was passed, or is held already.
+    Put(PutFault),
+}
+
+impl ReceiveFault {
+    ghost use Rattle.receiver.specs.Fault.{receive_number};
+
+    /// Its refusal number: 1 to 5, 31 to 37 or 39.
+    pub fn number(&self) -> u8
+        ensures { result ≡ receive_number self.now }
+    {
+        match self {
+            ReceiveFault::Rtp(fault) => fault.number(),
+            ReceiveFault::UnknownSource => 31,
+            ReceiveFault::UnknownType => 32,
+            ReceiveFault::NotStarted => 33,
+            ReceiveFault::Content(fault) => fault.number(),
+            ReceiveFault::Place(fault) => fault.number(),
+            ReceiveFault::Put(fault) => fault.number(),
+        }
+    }
+}
+
+impl From<RtpFault> for ReceiveFault {
+    ghost from_gives = { λ fault refusal. refusal ≡ refused.Rtp fault };
+
+    fn from(fault: RtpFault) -> ReceiveFault {
+        ReceiveFault::Rtp(fault)
+    }
+}
+
+impl From<ContentFault> for ReceiveFault {
+    ghost from_gives = { λ fault refusal. refusal ≡ refused.Content fault };
+
+    fn from(fault: ContentFault) -> ReceiveFault {
+        ReceiveFault::Content(fault)
+    }
+}
+
+impl From<PlaceFault> for ReceiveFault {
+    ghost from_gives = { λ fault refusal. refusal ≡ refused.Place fault };
+
+    fn from(fault: PlaceFault) -> ReceiveFault {
+        ReceiveFault::Place(fault)
+    }
+}
+
+impl From<PutFault> for ReceiveFault {
+    ghost from_gives = { λ fault refusal. refusal ≡ refused.Put fault };
+
+    fn from(fault: PutFault) -> ReceiveFault {
+        ReceiveFault::Put(fault)
+    }
+}

@@ -1,0 +1,17 @@
+//! The receiving end of a session: it takes packets by their places and plays them in order.
+#![tactic(auto)]
+
+mod answer;
+mod config;
+mod fault;
+mod receiver;
+mod stream;
+
+pub use answer::{Played, Taken};
+pub use config::ReceiverConfig;
+pub use fault::ReceiveFault;
+pub use receiver::Receiver;
+pub use stream::Stream;
+
+#[cfg(test)]
+mod tests;

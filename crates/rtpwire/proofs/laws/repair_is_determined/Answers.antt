@@ -1,0 +1,21 @@
+use Rattle.std.proofs.Common.{ap, subst}
+use Rattle.rtpwire.specs.Rtp.{RtpPacket, RtpSpells}
+use Rattle.rtpwire.specs.Retransmission.{Repair}
+use Rattle.rtpwire.proofs.Repairs.{one_spelled, same_content, repair-read}
+use Rattle.rtpwire.proofs.laws.repair_is_determined.Goals as goal
+
+pub returns-clause-one : goal.returns-clause-one
+returns-clause-one c = λ x y o p m n t u r s octets a b.
+    let same = one_spelled x y o p m n t u r s octets a b in (
+      same_content x y o p m n t u r s same,
+      ap (λ (z : Repair). z.original) same,
+      ap (λ (z : Repair). z.packet.sequence) same,
+      ap (λ (z : Repair). z.packet.payload_type) same,
+      ap (λ (z : Repair). z.packet.ssrc) same,
+    )
+
+pub returns-clause-read : goal.returns-clause-read
+returns-clause-read c = λ content original sequence payload_type ssrc octets packet spells. (
+  λ repair. repair-read content original sequence payload_type ssrc octets packet repair spells,
+  λ is. record { number = is.original; spelled = subst (λ (p : RtpPacket). RtpSpells p octets) is.sent spells },
+)

@@ -1,0 +1,46 @@
+-- Datagrams on a stream, each behind its length (RFC 4571, section 2).
+use Rattle.std.specs.Prelude.{◌≡◌, ℕ, Bool, ◌+◌, ◌<◌, ◌≤◌, List, ◌++◌, length, All}
+use Rattle.std.specs.List.{flat_map}
+use Rattle.byteorder.specs.Endian.{big_bytes, big_number}
+
+-- what a frame holds (a limit of this project: the standard's is 65535)
+abbrev pub IsDatagram : List ℕ → Type 0
+IsDatagram datagram = length datagram ≤ 1600
+
+-- a datagram's length in two octets, and the datagram
+abbrev pub frame : List ℕ → List ℕ
+frame datagram = big_bytes 2 (length datagram) ++ datagram
+
+-- The octets are the frames of these datagrams, one after another.
+pub record Frames (datagrams : List (List ℕ)) (octets : List ℕ) : Type 0 where
+  pub each : All IsDatagram datagrams
+  pub whole : octets ≡ flat_map frame datagrams
+
+-- A proper beginning of one frame: not both octets of a length, or after a length of at most 1600 fewer
+-- octets than it says.
+pub record IsRest (octets : List ℕ) : Type 0 where
+  pub short : 2 ≤ length octets → big_number 2 octets ≤ 1600
+  pub partial : 2 ≤ length octets → length octets < 2 + big_number 2 octets
+
+-- A length above 1600 stands where a frame begins.
+pub record BeginsTooLong (octets : List ℕ) : Type 0 where
+  pub counted : 2 ≤ length octets
+  pub above : 1600 < big_number 2 octets
+
+-- The stream is the frames of these datagrams, and then a proper beginning of one more.
+pub record Splits (datagrams : List (List ℕ)) (rest stream : List ℕ) : Type 0 where
+  pub each : All IsDatagram datagrams
+  pub partial : IsRest rest
+  pub whole : stream ≡ flat_map frame datagrams ++ rest
+
+-- The stream is the frames of these datagrams, and then comes a length above 1600.
+pub record Breaks (datagrams : List (List ℕ)) (stream : List ℕ) : Type 0 where
+  pub each : All IsDatagram datagrams
+  pub after : List ℕ
+  pub too_long : BeginsTooLong after
+  pub whole : stream ≡ flat_map frame datagrams ++ after
+
+-- What a deframer holds between two pieces of a stream: the rest, and whether a length above 1600 came.
+pub record DeframerState : Type 0 where
+  pub rest : List ℕ
+  pub has_failed : Bool

@@ -1,0 +1,143 @@
+use super::*;
+use std::test::Fail;
+
+/// A media packet, a feedback packet and an empty datagram, each behind its length.
+const TRACE: &[u8] =
+    b"\x00\x0d\x80\xe0\x00\x01\x00\x00\x00\x64\x11\x11\x11\x11\xaa\x00\x10\x81\xcd\x00\x03\x33\x33\x33\x33\x11\x11\x11\x11\x00\x01\x00\x00\x00\x00";
+
+const MEDIA: &[u8] = b"\x80\xe0\x00\x01\x00\x00\x00\x64\x11\x11\x11\x11\xaa";
+
+const FEEDBACK: &[u8] = b"\x81\xcd\x00\x03\x33\x33\x33\x33\x11\x11\x11\x11\x00\x01\x00\x00";
+
+/// Feeds all of a piece, and adds the datagrams that become whole.
+fn feed_all(
+    deframer: &mut Deframer,
+    piece: &[u8],
+    datagrams: &mut Vec<Datagram>,
+) -> Result<(), Fail> {
+    let mut left = piece;
+    for _ in 0..=piece.len() {
+        let (taken, datagram) = deframer.feed(left)?;
+        left = &left[taken..];
+        match datagram {
+            Some(datagram) => datagrams.push(datagram)?,
+            None => return Ok(()),
+        }
+    }
+    Ok(())
+}
+
+/// Whether these are the datagrams of the trace.
+fn are_of_trace(datagrams: &[Datagram]) -> bool {
+    datagrams.len() == 3
+        && datagrams[0].as_slice() == MEDIA
+        && datagrams[1].as_slice() == FEEDBACK
+        && datagrams[2].is_empty()
+}
+
+#[test]
+fn two_frames_octet_by_octet(rt: HostRuntime) -> Result<(), Fail> {
+    let mut deframer = Deframer::new();
+    deframer.finish()?;
+    for (octet, datagram) in [
+        (0, None),
+        (0, Some(b"".as_slice())),
+        (0, None),
+        (1, None),
+        (0xaa, Some(b"\xaa".as_slice())),
+    ] {
+        let (taken, found) = deframer.feed(&[octet])?;
+        assert_eq!(rt; taken, 1);
+        assert_eq!(rt; found.as_ref().map(|found| found.as_slice()), datagram);
+    }
+    deframer.finish()?;
+    Ok(())
+}
+
+#[test]
+fn a_trace_in_any_two_pieces(rt: HostRuntime) -> Result<(), Fail> {
+    for cut in 0..=TRACE.len() {
+        let mut deframer = Deframer::new();
+        let mut datagrams = Vec::new(rt.alloc());
+        feed_all(&mut deframer, &TRACE[..cut], &mut datagrams)?;
+        feed_all(&mut deframer, &TRACE[cut..], &mut datagrams)?;
+        deframer.finish()?;
+        assert!(rt; are_of_trace(&datagrams), "{cut}");
+    }
+    Ok(())
+}
+
+#[test]
+fn a_trace_in_single_octets(rt: HostRuntime) -> Result<(), Fail> {
+    let mut deframer = Deframer::new();
+    let mut datagrams = Vec::new(rt.alloc());
+    for octet in TRACE {
+        feed_all(&mut deframer, &[*octet], &mut datagrams)?;
+    }
+    deframer.finish()?;
+    assert!(rt; are_of_trace(&datagrams));
+    framing_is_determined();
+    Ok(())
+}
+
+/// The refusal number of feeding a piece, or 0 where it is taken.
+fn refusal_of(deframer: &mut Deframer, piece: &[u8]) -> u8 {
+    match deframer.feed(piece) {
+        Ok(_) => 0,
+        Err(fault) => fault.number(),
+    }
+}
+
+/// The refusal number of ending here, or 0 where a stream may.
+fn refusal_at_end(deframer: &Deframer) -> u8 {
+    match deframer.finish() {
+        Ok(()) => 0,
+        Err(fault) => fault.number(),
+    }
+}
+
+#[test]
+fn a_length_too_long(rt: HostRuntime) {
+    let mut deframer = Deframer::new();
+    assert_eq!(rt; refusal_of(&mut deframer, b"\x06\x41"), 22);
+    assert_eq!(rt; refusal_of(&mut deframer, b""), 22);
+    assert_eq!(rt; refusal_of(&mut deframer, b"\x00\x00"), 22);
+    assert_eq!(rt; refusal_at_end(&deframer), 22);
+
+    let mut deframer = Deframer::new();
+    assert_eq!(rt; refusal_of(&mut deframer, b"\x06"), 0);
+    assert_eq!(rt; refusal_at_end(&deframer), 21);
+    assert_eq!(rt; refusal_of(&mut deframer, b"\x41"), 22);
+    assert_eq!(rt; refusal_of(&mut deframer, b"\x00"), 22);
+    assert_eq!(rt; refusal_at_end(&deframer), 22);
+}
+
+#[test]
+fn more_after_an_end_in_a_frame(rt: HostRuntime) -> Result<(), Fail> {
+    let mut deframer = Deframer::new();
+    assert_eq!(rt; refusal_of(&mut deframer, b"\x00\x02\xaa"), 0);
+    assert_eq!(rt; refusal_at_end(&deframer), 21);
+    let (taken, datagram) = deframer.feed(b"\xbb\xcc")?;
+    assert_eq!(rt; taken, 1);
+    let datagram = datagram.ok_or("a datagram")?;
+    assert_eq!(rt; datagram.as_slice(), b"\xaa\xbb".as_slice());
+    assert_eq!(rt; refusal_at_end(&deframer), 0);
+    Ok(())
+}
+
+#[test]
+fn frames_are_written(rt: HostRuntime) -> Result<(), Fail> {
+    assert_eq!(rt; write_frame(b"").as_slice(), b"\x00\x00".as_slice());
+    assert_eq!(rt; write_frame(b"\xaa").as_slice(), b"\x00\x01\xaa".as_slice());
+    assert_eq!(rt; MEDIA.len(), 13);
+    assert_eq!(rt; write_frame(MEDIA).as_slice(), &TRACE[..15]);
+
+    let largest = write_frame(&[0xaa; 1600]);
+    assert_eq!(rt; &largest.as_slice()[..2], b"\x06\x40".as_slice());
+    let mut deframer = Deframer::new();
+    let (taken, datagram) = deframer.feed(largest.as_slice())?;
+    assert_eq!(rt; taken, 1602);
+    let datagram = datagram.ok_or("a datagram")?;
+    assert_eq!(rt; datagram.as_slice(), [0xaa; 1600].as_slice());
+    Ok(())
+}

@@ -1,0 +1,109 @@
+//! Retransmissions: a packet that repeats an earlier one (RFC 4588, section 4).
+ghost use Rattle.std.specs.Prelude.{◌≡◌, ◌↔◌, ◌^◌, ◌<◌, ◌≤◌, ◌++◌, length, IfSome, IsNone, IfOk, IfErr, IsErr};
+ghost use Rattle.byteorder.specs.Endian.{big_bytes};
+ghost use Rattle.rtpwire.specs.Retransmission.{Repair, IsRepair, RepairSpells};
+
+use crate::content::{Content, Datagram};
+use crate::fault::RtpFault;
+use crate::octets::{push_octets, push_u16, u16_at};
+use crate::rtp::RtpView;
+use crate::write::push_header;
+use std::marker::Model;
+
+/// A retransmission in the octets that spell it, which it borrows. Nothing is copied.
+///
+/// What it shares with its packet, as the timestamp, is read there or by [`Content::of_rtx`].
+#[derive(Drop)]
+pub struct RtxView<'a> {
+    packet: RtpView<'a>,
+    original: u16,
+    payload: &'a [u8],
+}
+
+impl<'a> Model for RtxView<'a> {
+    ghost use Rattle.rtpwire.specs.Retransmission.{Repair, IsRepair, repair_with};
+
+    ghost Value = { Repair };
+
+    ghost view = { λ v. repair_with v.packet v.original v.payload.now };
+
+    ghost invariant = { λ v. IsRepair (repair_with v.packet v.original v.payload.now) v.packet };
+}
+
+impl<'a> RtxView<'a> {
+    /// The retransmission that a packet is, or [`RtpFault::NoOsn`] where its payload has fewer than two
+    /// octets. Padding is no payload, so that of a padded packet is left out.
+    pub fn read(view: &RtpView<'a>) -> Result<RtxView<'a>, RtpFault>
+        // What is read is in the packet so.
+        ensures is { IfOk result (λ repair. IsRepair repair view.now) }
+        // What is in the packet so is read.
+        ensures only { (repair : Repair) → IsRepair repair view.now → result ≡ Ok repair }
+        ensures no_osn { IsErr result ↔ (length view.now.payload < 2) }
+        ensures fault { IfErr result (λ fault. fault ≡ RtpFault.NoOsn) }
+    {
+        let Some((original, payload)) = split_original(view.payload()) else {
+            return Err(RtpFault::NoOsn);
+        };
+        Ok(RtxView {
+            packet: view.copy(),
+            original,
+            payload,
+        })
+    }
+
+    /// The sequence number of the original packet.
+    pub fn original(&self) -> u16
+        ensures { result ≡ self.now.original }
+    {
+        self.original
+    }
+
+    /// The original payload: what follows the original's number, without padding.
+    pub fn payload(&self) -> &'a [u8]
+        ensures { result.now ≡ self.now.packet.payload }
+    {
+        self.payload
+    }
+
+    /// The packet that it is, with the original's number in its payload.
+    pub(crate) fn packet(&self) -> &RtpView<'a>
+        ensures { self.now.packet ≡ record result.now { payload = self.now.packet.payload } }
+    {
+        &self.packet
+    }
+}
+
+/// The original's number at the front of a retransmission's payload, and the original payload after it,
+/// or nothing where there are fewer than two octets.
+fn split_original(payload: &[u8]) -> Option<(u16, &[u8])>
+    ensures some { IfSome result (λ parts. (parts.0 < 2 ^ 16)
+        × (payload.now ≡ big_bytes 2 parts.0 ++ parts.1.now)) }
+    ensures none { IsNone result ↔ (length payload.now < 2) }
+{
+    if payload.len() < 2 {
+        return None;
+    }
+    Some((u16_at(payload, 0), &payload[2..]))
+}
+
+/// The retransmission of a content, whose original packet had this sequence number.
+///
+/// The sequence number, type and SSRC are those of the retransmission stream. It cannot fail: the
+/// largest has 1342 octets. It has no padding (RFC 4588, section 4).
+pub fn write_repair(
+    content: &Content,
+    original: u16,
+    sequence: u16,
+    payload_type: u8,
+    ssrc: u32,
+) -> Datagram
+    requires { payload_type < 128 }
+    ensures spells { RepairSpells content.now original sequence payload_type ssrc result.items }
+    ensures fits { length result.items ≤ 1342 }
+{
+    let mut out = Datagram::new();
+    push_header(&mut out, content, 0, sequence, payload_type, ssrc);
+    push_u16(&mut out, original);
+    push_octets(&mut out, &content.payload);
+    out
+}

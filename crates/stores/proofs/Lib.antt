@@ -1,0 +1,4 @@
+pub mod Lookup
+pub mod SlotPlaces
+pub mod PutPlaces
+pub mod ReadPlaces

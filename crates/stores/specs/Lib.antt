@@ -1,0 +1,4 @@
+pub mod Fault
+pub mod Span
+pub mod Put
+pub mod ByPlace

@@ -1,0 +1,123 @@
+ghost use Rattle.std.specs.Prelude.{◌≡◌, ℕ, ◌+◌, ◌^◌, ◌<◌, ◌≤◌, ◌++◌, length, drop, replicate, vec_len};
+ghost use Rattle.std.specs.Vec.{vec_capacity};
+ghost use Rattle.std.specs.Option.{ForSome, ForNone};
+ghost use Rattle.stores.specs.Put.{noticed_at};
+
+use crate::memory::OutOfMemory;
+use crate::slot::{PutFault, Slot};
+use crate::window::Window;
+use places::Place;
+use rtpwire::Content;
+use std::alloc::Global;
+
+/// A window in a plain list, whose memory is reserved once.
+///
+/// A place is found by its index. Taking out the front and overruns move the slots that stay.
+#[derive(Debug, Drop)]
+pub struct ListWindow {
+    cursor: Option<u64>,
+    slots: Vec<Slot>,
+    capacity: usize,
+    ghost reserved: { capacity ≤ vec_capacity slots },
+    ghost room: { length slots.items ≤ capacity },
+    ghost nonzero: { 0 < capacity },
+    ghost limit: { capacity ≤ 8192 },
+    ghost unstarted: { ForNone cursor (length slots.items ≡ 0) },
+    ghost started: { ForSome cursor (λ k. (0 < k + length slots.items) × (k + length slots.items ≤ 2 ^ 48)) },
+}
+
+impl Window for ListWindow {
+    ghost use Rattle.std.specs.Prelude.{◌≡◌};
+    ghost use Rattle.stores.specs.Span.{Span};
+
+    ghost meaning = { λ w. record { cursor = w.cursor; slots = w.slots.items; capacity = w.capacity } };
+
+    ghost is_span = { λ w. record { room = w.room; nonzero = w.nonzero; limit = w.limit; unstarted = w.unstarted; started = w.started } };
+
+    fn new(alloc: Global, capacity: usize) -> Result<Self, OutOfMemory> {
+        let slots = Vec::with_capacity(alloc, capacity)?;
+        Ok(ListWindow {
+            cursor: None,
+            slots,
+            capacity,
+        })
+    }
+
+    fn cursor(&self) -> Option<u64> {
+        self.cursor
+    }
+
+    fn highest(&self) -> Option<Place> {
+        let end = self.cursor? + self.slots.len() as u64;
+        Place::new(end - 1)
+    }
+
+    fn put(&mut self, place: Place, content: Content, now: u64) -> Result<u64, PutFault> {
+        let place = place.value();
+        let Some(cursor) = self.cursor else {
+            self.cursor = Some(place);
+            self.slots.push_reserved(Slot::Held(content));
+            return Ok(0);
+        };
+        if place < cursor {
+            return Err(PutFault::Late);
+        }
+        let end = cursor + self.slots.len() as u64;
+        if place < end {
+            let slot = &mut self.slots[(place - cursor) as usize];
+            return match slot {
+                Slot::Held(_) => Err(PutFault::Duplicate),
+                Slot::Missing { .. } => {
+                    *slot = Slot::Held(content);
+                    Ok(0)
+                }
+            };
+        }
+        let overrun = (place + 1)
+            .saturating_sub(self.capacity as u64)
+            .saturating_sub(cursor);
+        drop_front(&mut self.slots, overrun);
+        let cursor = cursor + overrun;
+        let unseen = place - (cursor + self.slots.len() as u64);
+        add_missing(&mut self.slots, unseen, now);
+        self.slots.push_reserved(Slot::Held(content));
+        self.cursor = Some(cursor);
+        Ok(overrun)
+    }
+
+    fn front(&self) -> Option<&Slot> {
+        self.slots.first()
+    }
+
+    fn take_front(&mut self) -> Slot {
+        let slot = self.slots.remove(0);
+        if let Some(cursor) = self.cursor {
+            self.cursor = Some(cursor + 1);
+        }
+        slot
+    }
+}
+
+/// Drops the first slots, as many as there are of so many.
+fn drop_front(slots: &mut Vec<Slot>, count: u64)
+    ensures items { slots.new.items ≡ drop count slots.old.items }
+    ensures capacity { vec_capacity slots.new ≡ vec_capacity slots.old }
+{
+    let count = count.min(slots.len() as u64) as usize;
+    slots.drain(..count);
+}
+
+/// Appends so many slots of places that were noticed to be missing now.
+fn add_missing(slots: &mut Vec<Slot>, count: u64, now: u64)
+    requires { vec_len slots.old + count ≤ vec_capacity slots.old }
+    ensures items { slots.new.items ≡ slots.old.items ++ replicate count (noticed_at now) }
+    ensures capacity { vec_capacity slots.new ≡ vec_capacity slots.old }
+{
+    'added: for _ in 0..count {
+        slots.push_reserved(Slot::Missing {
+            noticed: now,
+            asks: 0,
+            last: 0,
+        });
+    }
+}

@@ -1,0 +1,42 @@
+ghost use Rattle.std.specs.Prelude.{◌≡◌};
+
+use rtpwire::Content;
+
+/// What a window keeps for one place.
+#[derive(Debug, Drop, PartialEq, Eq)]
+pub enum Slot {
+    /// The place was taken, with this content.
+    Held(Content),
+    /// The place was not taken so far, and a higher one was.
+    Missing {
+        /// The moment at which the place was noticed to be missing, in milliseconds.
+        noticed: u64,
+        /// How often it was asked for.
+        asks: u8,
+        /// The moment of the last ask, in milliseconds, and 0 before the first ask.
+        last: u64,
+    },
+}
+
+/// Why a window does not take a place.
+#[derive(Clone, Copy, Debug, PartialEq, Eq, Hash)]
+pub enum PutFault {
+    /// Refusal 35: the place lies below the cursor, so it was played, given up or overrun.
+    Late,
+    /// Refusal 36: the place is held already.
+    Duplicate,
+}
+
+impl PutFault {
+    ghost use Rattle.stores.specs.Fault.{number_of};
+
+    /// Its refusal number.
+    pub fn number(&self) -> u8
+        ensures { result ≡ number_of self.now }
+    {
+        match self {
+            PutFault::Late => 35,
+            PutFault::Duplicate => 36,
+        }
+    }
+}

@@ -1,0 +1,68 @@
+ghost use Rattle.std.specs.Prelude.{◌≡◌, ◌<◌, ◌≤◌, IfOk, IsSome, OnOk, OnErr};
+ghost use Rattle.std.specs.Option.{option_copied};
+ghost use Rattle.stores.specs.Span.{Span, IsSpan, empty_span, highest_of, front_of, without_front};
+ghost use Rattle.stores.specs.Put.{put_answer, after_put};
+
+use crate::memory::OutOfMemory;
+use crate::slot::{PutFault, Slot};
+use places::Place;
+use rtpwire::Content;
+use std::alloc::Global;
+
+/// A receiver's window: the places from the next one to play up to the highest one that was taken, each
+/// of them held or missing.
+///
+/// It takes memory in `new` alone, for all that it will ever keep, so no other call can meet a want of it.
+/// Every call leaves its capacity as it is. All may be called at any time, but `take_front`.
+///
+/// The contracts speak of a cursor and a list of slots; [`window_by_place`](crate::window_by_place) says
+/// what they mean for the slot of each place.
+pub trait Window: Drop {
+    /// The window as its callers see it, however it is kept.
+    ghost meaning: { Self → Span };
+
+    /// A window that was not started. It will have at most `capacity` places, from 1 to 8192 of them.
+    ///
+    /// `OutOfMemory`: the allocator refused the memory.
+    fn new(alloc: Global, capacity: usize) -> Result<Self, OutOfMemory>
+        requires nonzero { 0 < capacity }
+        requires limit { capacity ≤ 8192 }
+        ensures { IfOk result (λ window. meaning window ≡ empty_span capacity) };
+
+    /// The next place to play, as a number up to 2^48: past the last place there is no further one. None
+    /// before the first `put`.
+    fn cursor(&self) -> Option<u64>
+        ensures { result ≡ (meaning self.now).cursor };
+
+    /// The highest place that was ever put, even where all was played since. None before the first `put`.
+    fn highest(&self) -> Option<Place>
+        ensures { result ≡ highest_of (meaning self.now) };
+
+    /// Puts a content at its place, at the moment `now`, in milliseconds. Moments need not rise.
+    ///
+    /// The first place starts the window there. A place above the highest makes those between missing,
+    /// noticed at `now`. If the window has no room for it, the lowest places are dropped for good until it
+    /// has. The answer is how many places that were neither played nor given up it passed in doing so.
+    ///
+    /// `Late` (35): the place lies below the cursor. `Duplicate` (36): the place is held already. After
+    /// either the window is as it was.
+    fn put(&mut self, place: Place, content: Content, now: u64) -> Result<u64, PutFault>
+        ensures answer { result ≡ put_answer (meaning self.old) place (meaning self.old).cursor }
+        ensures ok { OnOk result (meaning self.new ≡ after_put (meaning self.old) place content now (meaning self.old).cursor) }
+        ensures err { OnErr result (meaning self.new ≡ meaning self.old) };
+
+    /// The slot of the cursor's place. None before the first `put`, and where all places up to the highest
+    /// were taken out.
+    fn front(&self) -> Option<&Slot>
+        ensures { option_copied result ≡ front_of (meaning self.now) };
+
+    /// Takes out the slot of the cursor's place, and moves the cursor up by one. It may be called where
+    /// `front` gives a slot.
+    fn take_front(&mut self) -> Slot
+        requires { IsSome (front_of (meaning self.old)) }
+        ensures front { front_of (meaning self.old) ≡ Some result }
+        ensures rest { meaning self.new ≡ without_front (meaning self.old) };
+
+    /// What is true of every window.
+    ghost is_span: { (window : Self) → IsSpan (meaning window) };
+}

@@ -1,0 +1,31 @@
+-- A run goes on by one event.
+use Rattle.std.proofs.Common.{◌≡◌, ℕ, ◌+◌, ◌<◌, List, [], ◌∷◌, ◌++◌, length, get_or, take, reverse, sym, subst}
+use Rattle.std.proofs.lemmas.List.{take_more, reverse-append}
+use Rattle.world.specs.declared.event.Event.{Event}
+use Rattle.world.specs.declared.event.Entry.{Entry}
+use Rattle.world.specs.Config.{Config}
+use Rattle.world.specs.Answers.{Stand, Step, Answers}
+use Rattle.world.specs.World.{IsLogged}
+
+-- one more event, as code appends it
+pub answers_more : (c : Config) (events : List Event) (log : List Entry) (old new : Stand) (event : Event) (entry : Entry) →
+    Answers c (reverse events) (reverse log) old → Step c old event entry new → Answers c (reverse (events ++ event ∷ [])) (reverse (log ++ entry ∷ [])) new
+answers_more c events log old new event entry before step =
+    subst (λ (x : List Event). Answers c x (reverse (log ++ entry ∷ [])) new) (sym (reverse-append events (event ∷ [])))
+    (subst (λ (x : List Entry). Answers c (event ∷ reverse events) x new) (sym (reverse-append log (entry ∷ []))) (old, before, step))
+
+pub run_more : (c : Config) (events : List Event) (i : ℕ) (d : Event) (log log' : List Entry) (entry : Entry) (old new : Stand) → i < length events → log' ≡ log ++ entry ∷ [] →
+    Answers c (reverse (take i events)) (reverse log) old → Step c old (get_or events i d) entry new → Answers c (reverse (take (i + 1) events)) (reverse log') new
+run_more c events i d log log' entry old new within is before step =
+    subst (λ (x : List Event). Answers c (reverse x) (reverse log') new) (sym (take_more events i d within))
+    (subst (λ (x : List Entry). Answers c (reverse (take i events ++ get_or events i d ∷ [])) (reverse x) new) (sym is)
+    (answers_more c (take i events) log old new (get_or events i d) entry before step))
+
+-- a log that answers some events goes on to do so
+pub logged_more : (c : Config) (log log' : List Entry) (entry : Entry) (event : Event) (old new : Stand) →
+    IsLogged c log old → log' ≡ log ++ entry ∷ [] → Step c old event entry new → IsLogged c log' new
+logged_more c log log' entry event old new was is step =
+    record {
+      events = was.events ++ event ∷ [];
+      answers = subst (λ (x : List Entry). Answers c (reverse (was.events ++ event ∷ [])) (reverse x) new) (sym is) (answers_more c was.events log old new event entry was.answers step);
+    }

@@ -1,0 +1,32 @@
+-- How a world is configured.
+use Rattle.std.specs.Prelude.{ℕ, ◌^◌, ◌<◌, ◌≤◌}
+use Rattle.receiver.specs.Config.{Config as Receiving, IsConfig as IsReceiving}
+
+pub record Config : Type 0 where
+  pub receiver : Receiving  -- the session, and how the receiver waits and asks
+  pub first : ℕ  -- the sequence number of the first send
+  pub repair_first : ℕ  -- and of the first retransmission
+  pub history : ℕ  -- how many of the latest contents the sender keeps
+  pub window : ℕ  -- how many places the receiver keeps
+  pub repeats : ℕ  -- how often a content may be sent again
+
+abbrev pub config : Receiving → (first repair_first history window repeats : ℕ) → Config
+config receiver first repair_first history window repeats =
+    record {
+      receiver = receiver;
+      first = first;
+      repair_first = repair_first;
+      history = history;
+      window = window;
+      repeats = repeats;
+    }
+
+-- the limits of a world
+pub record IsConfig (c : Config) : Type 0 where
+  pub receiver : IsReceiving c.receiver
+  pub first : c.first < 2 ^ 16
+  pub some_history : 1 ≤ c.history
+  pub history : c.history ≤ 8192
+  pub some_window : 1 ≤ c.window
+  pub window : c.window ≤ 8192
+  pub repeats : 1 ≤ c.repeats

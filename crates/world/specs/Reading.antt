@@ -1,0 +1,71 @@
+-- What a log says, read from the log alone. A log is newest first here, so a list's tail is what came
+-- before its head.
+use Rattle.std.specs.Prelude.{◌≡◌, ◌⊎◌, ℕ, ◌+◌, ◌-◌, ◌<◌, ◌≤◌, List, [], ◌∷◌, ◌++◌, Option, Some, None, slice_get}
+use Rattle.rtpwire.specs.declared.content.Content.{Content}
+use Rattle.receiver.specs.declared.answer.Played.TheVariants.{Packet, Gap}
+use Rattle.world.specs.declared.event.Answer.TheVariants.{Taken}
+use Rattle.world.specs.declared.event.Entry.{Entry}
+use Rattle.world.specs.declared.event.Entry.TheVariants.{Sent, Delivered, Injected, Played}
+use Rattle.world.specs.Config.{Config}
+
+-- the contents that were sent, the first one first
+abbrev pub contents : List Entry → List Content
+contents [] = []
+contents (Sent place index content ∷ before) = contents before ++ content ∷ []
+contents (entry ∷ before) = contents before
+
+-- the content that was sent at this place of the sender's
+abbrev pub WasSent : Config → List Entry → (place : ℕ) → Content → Type 0
+WasSent c past place content = (count : ℕ) × (place ≡ 65536 + c.first + count) × (slice_get (contents past) count ≡ Some content)
+
+-- The receiver's cursor: the first place taken, one more for each packet and each gap, and all that was
+-- overrun.
+abbrev pub cursor_from : Option ℕ → (place overrun : ℕ) → Option ℕ
+cursor_from None place overrun = Some place
+cursor_from (Some cursor) place overrun = Some (cursor + overrun)
+
+abbrev pub cursor_next : Option ℕ → Option ℕ
+cursor_next None = None
+cursor_next (Some cursor) = Some (cursor + 1)
+
+abbrev pub cursor_of : List Entry → Option ℕ
+cursor_of [] = None
+cursor_of (Delivered index label now (Taken taken) ∷ before) = cursor_from (cursor_of before) taken.place taken.overrun
+cursor_of (Injected end now (Taken taken) ∷ before) = cursor_from (cursor_of before) taken.place taken.overrun
+cursor_of (Played now (Packet place content) ∷ before) = cursor_next (cursor_of before)
+cursor_of (Played now (Gap place) ∷ before) = cursor_next (cursor_of before)
+cursor_of (entry ∷ before) = cursor_of before
+
+-- the overrun that a place owes, the cursor before it being this: none at the start
+abbrev pub OverrunIs : Config → Option ℕ → (place overrun : ℕ) → Type 0
+OverrunIs c None place overrun = overrun ≡ 0
+OverrunIs c (Some cursor) place overrun = overrun ≡ place + 1 - c.window - cursor
+
+-- What is played or given up is always the cursor's place, so it rises place by place but for what was
+-- overrun.
+abbrev pub IsRising : Config → List Entry → Type 0
+IsRising c [] = Unit {0}
+IsRising c (Delivered index label now (Taken taken) ∷ before) = OverrunIs c (cursor_of before) taken.place taken.overrun × IsRising c before
+IsRising c (Injected end now (Taken taken) ∷ before) = OverrunIs c (cursor_of before) taken.place taken.overrun × IsRising c before
+IsRising c (Played now (Packet place content) ∷ before) = (cursor_of before ≡ Some place) × IsRising c before
+IsRising c (Played now (Gap place) ∷ before) = (cursor_of before ≡ Some place) × IsRising c before
+IsRising c (entry ∷ before) = IsRising c before
+
+-- an overrun passed the place, the cursor before it being this
+abbrev pub PassedBy : Option ℕ → (overrun place : ℕ) → Type 0
+PassedBy None overrun place = ⊥
+PassedBy (Some cursor) overrun place = (cursor ≤ place) × (place < cursor + overrun)
+
+-- the place was given up or overrun
+abbrev pub IsGone : List Entry → ℕ → Type 0
+IsGone [] place = ⊥
+IsGone (Played now (Gap given_up) ∷ before) place = (given_up ≡ place) ⊎ IsGone before place
+IsGone (Delivered index label now (Taken taken) ∷ before) place = PassedBy (cursor_of before) taken.overrun place ⊎ IsGone before place
+IsGone (Injected end now (Taken taken) ∷ before) place = PassedBy (cursor_of before) taken.overrun place ⊎ IsGone before place
+IsGone (entry ∷ before) place = IsGone before place
+
+-- A place that was given up or overrun is never played later.
+abbrev pub IsFinal : List Entry → Type 0
+IsFinal [] = Unit {0}
+IsFinal (Played now (Packet place content) ∷ before) = (IsGone before place → ⊥) × IsFinal before
+IsFinal (entry ∷ before) = IsFinal before

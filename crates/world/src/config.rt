@@ -1,0 +1,100 @@
+ghost use Rattle.std.specs.Prelude.{◌≡◌, ◌↔◌, ◌≤◌, IsTrue, IsOk, IfOk, OnErr};
+ghost use Rattle.receiver.specs.Config.{config as receiving};
+ghost use Rattle.world.specs.Config.{IsConfig, config};
+
+use receiver::ReceiverConfig;
+use rtpwire::{ConfigFault, Session};
+use std::marker::Model;
+
+/// How both ends of a world work.
+#[derive(Clone, Copy, Debug, PartialEq, Eq)]
+pub struct Config {
+    receiver: ReceiverConfig,
+    first: u16,
+    repair_first: u16,
+    history: usize,
+    window: usize,
+    repeats: u8,
+}
+
+impl Model for Config {
+    ghost use Rattle.world.specs.Config.{Config as Value_of, IsConfig, config};
+
+    ghost Value = { Value_of };
+
+    ghost view = { λ c. config c.receiver c.first c.repair_first c.history c.window c.repeats };
+
+    ghost invariant = { λ c. IsConfig (config c.receiver c.first c.repair_first c.history c.window c.repeats) };
+
+    ghost inverse = { λ c. record { receiver = c.receiver; first = c.first; repair_first = c.repair_first; history = c.history; window = c.window; repeats = c.repeats } };
+}
+
+impl Config {
+    /// Two ends of this session. The first send has the sequence number `first`, the first retransmission
+    /// `repair_first`. The sender keeps the latest `history` contents and sends each again at most `repeats`
+    /// times; the receiver keeps up to `window` places, gives a missing one up once `patience` milliseconds
+    /// have passed since it was noticed, and until then asks for it at most `asks` times, `retry`
+    /// milliseconds apart.
+    ///
+    /// `BadLimit` (53): `history` or `window` is not in 1 to 8192, or `retry`, `asks` or `repeats` is 0.
+    #[allow(clippy::too_many_arguments)]
+    pub fn new(
+        session: Session,
+        first: u16,
+        repair_first: u16,
+        history: usize,
+        window: usize,
+        patience: u64,
+        retry: u64,
+        asks: u8,
+        repeats: u8,
+    ) -> Result<Config, ConfigFault>
+        ensures ok { IfOk result (λ made.
+            made ≡ config (receiving session patience retry asks) first repair_first history window repeats) }
+        ensures succeeds { IsOk result
+            ↔ IsConfig (config (receiving session patience retry asks) first repair_first history window repeats) }
+        ensures err { OnErr result (result ≡ Err ConfigFault.BadLimit) }
+    {
+        let receiver = ReceiverConfig::new(session, patience, retry, asks)?;
+        if !is_capacity(history) || !is_capacity(window) || repeats == 0 {
+            return Err(ConfigFault::BadLimit);
+        }
+        Ok(Config {
+            receiver,
+            first,
+            repair_first,
+            history,
+            window,
+            repeats,
+        })
+    }
+
+    /// How its receiver works.
+    pub(crate) fn receiver(&self) -> ReceiverConfig
+        ensures { result ≡ self.now.receiver }
+    {
+        self.receiver
+    }
+
+    /// The sequence number of the first send.
+    pub(crate) fn first(&self) -> u16
+        ensures { result ≡ self.now.first }
+    {
+        self.first
+    }
+
+    /// How many places the receiver keeps.
+    pub(crate) fn window(&self) -> usize
+        ensures value { result ≡ self.now.window }
+        ensures limits { IsConfig self.now }
+    {
+        self.window
+    }
+}
+
+/// Whether a store may have so much room.
+fn is_capacity(room: usize) -> bool
+    ensures { IsTrue result ↔ ((1 ≤ room) × (room ≤ 8192)) }
+{
+    (1..=8192).contains(&room)
+}

@@ -1,0 +1,127 @@
+//! What happens in a world, and what its log tells of it.
+ghost use Rattle.std.specs.Prelude.{◌≡◌};
+
+use crate::send::SendFault;
+use places::Place;
+use receiver::{Played, ReceiveFault, Taken};
+use rtpwire::{Content, Datagram};
+
+/// Which end.
+#[derive(Clone, Copy, Debug, PartialEq, Eq)]
+pub enum End {
+    /// The receiving end.
+    Receiver,
+}
+
+/// What happens. Moments are in milliseconds, and need not rise.
+#[derive(Debug, Drop, PartialEq, Eq)]
+pub enum Event {
+    /// The sender sends a content with so many octets of padding.
+    Send(Content, u8),
+    /// The wire's datagram at an index, counted from 0, reaches its end at a moment.
+    Deliver(u64, u64),
+    /// The receiver plays at a moment.
+    Play(u64),
+    /// A datagram that nobody sent reaches an end at a moment.
+    Inject(End, Datagram, u64),
+}
+
+/// What a datagram on the wire is.
+#[derive(Clone, Copy, Debug, PartialEq, Eq)]
+pub enum Label {
+    /// The media packet of this place of the sender's.
+    Media(Place),
+}
+
+/// What an end answers to a datagram.
+#[derive(Clone, Copy, Debug, PartialEq, Eq)]
+pub enum Answer {
+    /// The receiver took it, at a place of its own.
+    Taken(Taken),
+    /// The receiver refused it.
+    Refused(ReceiveFault),
+}
+
+/// What the log tells of an event.
+#[derive(Debug, Drop, PartialEq, Eq)]
+pub enum Entry {
+    /// A content was sent at this place of the sender's, as the wire's datagram at `index`.
+    Sent {
+        place: Place,
+        index: u64,
+        content: Content,
+    },
+    /// A send was refused.
+    SendRefused(SendFault),
+    /// Nothing is on the wire at the index.
+    Nothing,
+    /// The wire's datagram at `index`, which has this label, reached its end.
+    Delivered {
+        index: u64,
+        label: Label,
+        now: u64,
+        answer: Answer,
+    },
+    /// A datagram that nobody sent reached an end.
+    Injected {
+        end: End,
+        now: u64,
+        answer: Answer,
+    },
+    /// The receiver played.
+    Played {
+        now: u64,
+        played: Played,
+    },
+}
+
+impl Entry {
+    /// The same entry once more. It takes no memory.
+    pub fn copy(&self) -> Entry
+        ensures { result ≡ self.now }
+    {
+        match self {
+            Entry::Sent {
+                place,
+                index,
+                content,
+            } => Entry::Sent {
+                place: *place,
+                index: *index,
+                content: content.copy(),
+            },
+            Entry::SendRefused(fault) => Entry::SendRefused(*fault),
+            Entry::Nothing => Entry::Nothing,
+            Entry::Delivered {
+                index,
+                label,
+                now,
+                answer,
+            } => Entry::Delivered {
+                index: *index,
+                label: *label,
+                now: *now,
+                answer: *answer,
+            },
+            Entry::Injected { end, now, answer } => Entry::Injected {
+                end: *end,
+                now: *now,
+                answer: *answer,
+            },
+            Entry::Played { now, played } => Entry::Played {
+                now: *now,
+                played: copy_of(played),
+            },
+        }
+    }
+}
+
+fn copy_of(played: &Played) -> Played
+    ensures { result ≡ played.now }
+{
+    match played {
+        Played::Packet(place, content) => Played::Packet(*place, content.copy()),
+        Played::Gap(place) => Played::Gap(*place),
+        Played::Wait => Played::Wait,
+    }
+}

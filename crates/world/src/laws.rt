@@ -1,0 +1,21 @@
+//! Laws on logs. These functions compute nothing: their contracts are the laws.
+ghost use Rattle.std.specs.Prelude.{List};
+ghost use Rattle.world.specs.declared.event.Event.{Event};
+ghost use Rattle.world.specs.declared.event.Entry.{Entry};
+ghost use Rattle.world.specs.Config.{Config};
+ghost use Rattle.world.specs.Answers.{Stand, Answers};
+ghost use Rattle.world.specs.Reading.{IsRising, IsFinal};
+ghost use Rattle.world.specs.Wire.{IsFaithful};
+
+/// Whatever events a log answers, and whatever octets a peer injected: what is played or given up rises place
+/// by place, and a place that was given up or overrun is never played later.
+pub fn logs_are_in_order()
+    ensures rising { (c : Config) (events : List Event) (past : List Entry) (end : Stand) → Answers c events past end → IsRising c past }
+    ensures finals { (c : Config) (events : List Event) (past : List Entry) (end : Stand) → Answers c events past end → IsFinal past }
+{}
+
+/// Whatever events a log answers: each datagram on the wire has the label and the index that the log tells, and
+/// spells what its label says was sent.
+pub fn wires_are_faithful()
+    ensures { (c : Config) (events : List Event) (past : List Entry) (end : Stand) → Answers c events past end → IsFaithful c past end.wire }
+{}

@@ -1,0 +1,17 @@
+//! The two ends of a session, the wire between them, and the log of what happened.
+#![tactic(auto)]
+
+mod config;
+mod event;
+mod laws;
+mod send;
+mod world;
+
+pub use config::Config;
+pub use event::{Answer, End, Entry, Event, Label};
+pub use laws::{logs_are_in_order, wires_are_faithful};
+pub use send::SendFault;
+pub use world::{World, run};
+
+#[cfg(test)]
+mod tests;

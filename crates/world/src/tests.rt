@@ -1,0 +1,230 @@
+use super::*;
+use arrayvec::ArrayVec;
+use places::Place;
+use receiver::{Played, Taken};
+use rtpwire::{Content, Datagram, Session};
+use std::alloc::Global;
+use std::test::Fail;
+use stores::ListWindow;
+
+/// Both ends under the session of the rows.
+fn config(first: u16, window: usize) -> Result<Config, Fail> {
+    let session = Session::new(0x11111111, 96, 0x22222222, 97, 0x33333333)?;
+    Ok(Config::new(session, first, 5, 8, window, 100, 20, 3, 2)?)
+}
+
+fn world(alloc: Global, first: u16, window: usize) -> Result<World<ListWindow>, Fail> {
+    let world = World::new(alloc, &config(first, window)?);
+    Ok(world.map_err(|_| "memory is ample")?)
+}
+
+fn content(payload: &[u8], timestamp: u32, marker: bool) -> Result<Content, Fail> {
+    let payload = ArrayVec::try_from(payload).ok().ok_or("the payload fits")?;
+    Ok(Content {
+        payload,
+        timestamp,
+        marker,
+        sources: ArrayVec::new(),
+        extension: None,
+    })
+}
+
+fn send(payload: &[u8]) -> Result<Event, Fail> {
+    Ok(Event::Send(content(payload, 0, false)?, 0))
+}
+
+fn inject(octets: &[u8]) -> Result<Event, Fail> {
+    let datagram = Datagram::try_from(octets).ok().ok_or("the datagram fits")?;
+    Ok(Event::Inject(End::Receiver, datagram, 0))
+}
+
+/// What an entry tells, in short: a name and up to two numbers.
+fn told(entry: &Entry) -> (&'static str, u64, u64) {
+    match entry {
+        Entry::Sent { place, index, .. } => ("sent", place.value(), *index),
+        Entry::SendRefused(fault) => ("refused", u64::from(fault.number()), 0),
+        Entry::Nothing => ("nothing", 0, 0),
+        Entry::Delivered { answer, .. } | Entry::Injected { answer, .. } => match answer {
+            Answer::Taken(taken) => ("taken", taken.place.value(), taken.overrun),
+            Answer::Refused(fault) => ("refused", u64::from(fault.number()), 0),
+        },
+        Entry::Played { played, .. } => match played {
+            Played::Packet(place, _) => ("play", place.value(), 0),
+            Played::Gap(place) => ("gap", place.value(), 0),
+            Played::Wait => ("wait", 0, 0),
+        },
+    }
+}
+
+/// Does an event, and tells its entry.
+fn does(world: &mut World<ListWindow>, event: &Event) -> Result<(&'static str, u64, u64), Fail> {
+    let entry = world.step(event).map_err(|_| "memory is ample")?;
+    Ok(told(&entry))
+}
+
+#[test]
+fn the_first_path(rt: HostRuntime) -> Result<(), Fail> {
+    let events = [
+        Event::Send(content(b"\xaa", 100, true)?, 0),
+        Event::Deliver(0, 0),
+        Event::Play(0),
+    ];
+    let run = run::<ListWindow>(rt.alloc(), &config(1, 8)?, &events);
+    let world = run.map_err(|_| "memory is ample")?;
+    let place = Place::new(65537).ok_or("a place")?;
+    let log = [
+        Entry::Sent {
+            place,
+            index: 0,
+            content: content(b"\xaa", 100, true)?,
+        },
+        Entry::Delivered {
+            index: 0,
+            label: Label::Media(place),
+            now: 0,
+            answer: Answer::Taken(Taken { place, overrun: 0 }),
+        },
+        Entry::Played {
+            now: 0,
+            played: Played::Packet(place, content(b"\xaa", 100, true)?),
+        },
+    ];
+    assert!(rt; world.log() == log.as_slice());
+    assert_eq!(rt; world.wire().len(), 1);
+    for (label, datagram) in world.wire() {
+        assert_eq!(rt; *label, Label::Media(place));
+        let row = b"\x80\xe0\x00\x01\x00\x00\x00\x64\x11\x11\x11\x11\xaa";
+        assert_eq!(rt; datagram.as_slice(), row.as_slice());
+    }
+    logs_are_in_order();
+    wires_are_faithful();
+    Ok(())
+}
+
+#[test]
+fn the_fixed_difference(rt: HostRuntime) -> Result<(), Fail> {
+    let mut world = world(rt.alloc(), 65534, 8)?;
+    for (event, want) in [
+        (send(b"\xaa")?, ("sent", 131070, 0)),
+        (send(b"\xaa")?, ("sent", 131071, 1)),
+        (send(b"\xaa")?, ("sent", 131072, 2)),
+        (Event::Deliver(2, 0), ("taken", 65536, 0)),
+        (Event::Deliver(1, 0), ("refused", 35, 0)),
+        (Event::Play(0), ("play", 65536, 0)),
+    ] {
+        assert_eq!(rt; does(&mut world, &event)?, want);
+    }
+    Ok(())
+}
+
+#[test]
+fn an_overrun(rt: HostRuntime) -> Result<(), Fail> {
+    let mut world = world(rt.alloc(), 1, 2)?;
+    for _ in 0..4 {
+        does(&mut world, &send(b"\xaa")?)?;
+    }
+    for (event, want) in [
+        (Event::Deliver(0, 0), ("taken", 65537, 0)),
+        (Event::Deliver(1, 0), ("taken", 65538, 0)),
+        (Event::Deliver(3, 0), ("taken", 65540, 2)),
+        (Event::Play(0), ("wait", 0, 0)),
+        (Event::Play(100), ("gap", 65539, 0)),
+        (Event::Play(100), ("play", 65540, 0)),
+    ] {
+        assert_eq!(rt; does(&mut world, &event)?, want);
+    }
+    Ok(())
+}
+
+#[test]
+fn nothing_there_and_a_refused_send(rt: HostRuntime) -> Result<(), Fail> {
+    let mut world = world(rt.alloc(), 1, 8)?;
+    assert_eq!(rt; does(&mut world, &Event::Deliver(9, 0))?, ("nothing", 0, 0));
+    assert_eq!(rt;
+        does(&mut world, &Event::Deliver(u64::MAX, 0))?,
+        ("nothing", 0, 0)
+    );
+    assert_eq!(rt; does(&mut world, &Event::Play(0))?, ("wait", 0, 0));
+    let padded = Event::Send(content(b"", 0, false)?, 1);
+    assert_eq!(rt; does(&mut world, &padded)?, ("refused", 44, 0));
+    assert_eq!(rt; SendFault::Exhausted.number(), 45);
+    assert_eq!(rt; world.wire().len(), 0);
+    assert_eq!(rt; world.log().len(), 4);
+    Ok(())
+}
+
+#[test]
+fn a_peer_that_invents(rt: HostRuntime) -> Result<(), Fail> {
+    let mut world = world(rt.alloc(), 1, 8)?;
+    for (event, want) in [
+        (inject(b"")?, ("refused", 1, 0)),
+        (
+            inject(b"\x80\x60\x00\x01\x00\x00\x00\x00\x44\x44\x44\x44")?,
+            ("refused", 31, 0),
+        ),
+        (
+            inject(b"\x80\x62\x00\x01\x00\x00\x00\x00\x11\x11\x11\x11")?,
+            ("refused", 32, 0),
+        ),
+        (
+            inject(b"\x80\x60\x00\x09\x00\x00\x00\x00\x11\x11\x11\x11\xee")?,
+            ("taken", 65545, 0),
+        ),
+        (send(b"\xaa")?, ("sent", 65537, 0)),
+        (Event::Deliver(0, 0), ("refused", 35, 0)),
+        (Event::Play(0), ("play", 65545, 0)),
+        (
+            inject(b"\x80\x60\xff\xff\x00\x00\x00\x00\x11\x11\x11\x11")?,
+            ("refused", 35, 0),
+        ),
+    ] {
+        assert_eq!(rt; does(&mut world, &event)?, want);
+    }
+    Ok(())
+}
+
+#[test]
+fn limits(rt: HostRuntime) -> Result<(), Fail> {
+    let session = Session::new(1, 96, 2, 97, 3)?;
+    for (history, window, retry, asks, repeats) in [
+        (0, 8, 20, 3, 2),
+        (8193, 8, 20, 3, 2),
+        (8, 0, 20, 3, 2),
+        (8, 8193, 20, 3, 2),
+        (8, 8, 0, 3, 2),
+        (8, 8, 20, 0, 2),
+        (8, 8, 20, 3, 0),
+    ] {
+        let refused = Config::new(session, 0, 0, history, window, 0, retry, asks, repeats);
+        assert_eq!(rt; refused.map_err(|fault| fault.number()).err(), Some(53));
+    }
+    assert!(rt; Config::new(session, 0, 0, 8192, 1, 0, 1, 1, 1).is_ok());
+    Ok(())
+}
+
+/// With memory back, a step that met a want of it gives the entry that it would have given:
+/// `rt try --test --fail-alloc N` refuses the Nth allocation.
+#[test]
+fn a_refused_growth(rt: HostRuntime) -> Result<(), Fail> {
+    let made = match World::<ListWindow>::new(rt.alloc(), &config(1, 8)?) {
+        Ok(made) => Ok(made),
+        Err(_) => World::<ListWindow>::new(rt.alloc(), &config(1, 8)?),
+    };
+    let mut world = made.map_err(|_| "memory is back")?;
+    for (event, want) in [
+        (send(b"\xaa")?, ("sent", 65537, 0)),
+        (Event::Deliver(0, 0), ("taken", 65537, 0)),
+        (Event::Play(0), ("play", 65537, 0)),
+    ] {
+        let (before, wire) = (world.log().len(), world.wire().len());
+        let entry = match world.step(&event) {
+            Ok(entry) => entry,
+            Err(_) => {
+                assert_eq!(rt; (world.log().len(), world.wire().len()), (before, wire));
+                world.step(&event).map_err(|_| "memory is back")?
+            }
+        };
+        assert_eq!(rt; told(&entry), want);
+    }
+    Ok(())
+}

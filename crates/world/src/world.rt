@@ -1,0 +1,231 @@
+//! The world: two ends, the wire and the log.
+ghost use Rattle.std.specs.Prelude.{◌≡◌, ◌+◌, ◌^◌, ◌<◌, ◌≤◌, ◌++◌, [], ◌∷◌, List, ℕ, length, reverse, vec_len, IfOk, OnOk, OnErr};
+ghost use Rattle.std.specs.Vec.{vec_capacity};
+ghost use Rattle.stores.specs.Span.{Span};
+ghost use Rattle.receiver.specs.Window.{state_of};
+ghost use Rattle.world.specs.Config.{Config as Setup};
+ghost use Rattle.world.specs.Answers.{HearsAt, Step, Answers};
+ghost use Rattle.world.specs.Reading.{IsRising, IsFinal};
+ghost use Rattle.world.specs.Wire.{IsFaithful};
+ghost use Rattle.world.specs.World.{IsLogged, stand_at, stand_of, empty};
+
+use crate::config::Config;
+use crate::event::{Answer, End, Entry, Event, Label};
+use crate::send::send;
+use places::Place;
+use receiver::Receiver;
+use rtpwire::{Content, Datagram};
+use std::alloc::Global;
+use std::marker::Model;
+use stores::{OutOfMemory, Window};
+
+/// Both ends, what lies between them, and what happened.
+#[derive(Drop)]
+pub struct World<W: Window> {
+    config: Config,
+    next: u64,
+    wire: Vec<(Label, Datagram)>,
+    receiver: Receiver<W>,
+    log: Vec<Entry>,
+}
+
+impl<W: Window> Model for World<W> {
+    ghost use Rattle.std.specs.Prelude.{◌≡◌, ◌^◌, ◌≤◌};
+    ghost use Rattle.world.specs.World.{Kept, IsLogged, stand_at};
+
+    ghost Value = { Kept };
+
+    ghost view = { λ w. record { config = w.config; next = w.next; wire = w.wire.items; span = w.receiver.span; log = w.log.items } };
+
+    ghost invariant = { λ w. (w.next ≤ 2 ^ 48) × (w.receiver.config ≡ w.config.receiver) × (w.receiver.span.capacity ≡ w.config.window)
+        × IsLogged w.config w.log.items (stand_at w.next w.wire.items w.receiver.span) };
+}
+
+impl<W: Window> World<W> {
+    /// A world in which nothing happened.
+    ///
+    /// `OutOfMemory`: the allocator refused the receiver's window.
+    pub fn new(alloc: Global, config: &Config) -> Result<World<W>, OutOfMemory>
+        ensures { IfOk result (λ world. world ≡ empty config.now) }
+    {
+        let window = W::new(alloc, config.window())?;
+        Ok(World {
+            config: *config,
+            next: Place::first(config.first()).value(),
+            wire: Vec::new(alloc),
+            receiver: Receiver::new(config.receiver(), window),
+            log: Vec::new(alloc),
+        })
+    }
+
+    /// Does one event, keeps its entry in the log and answers a copy of it.
+    ///
+    /// `OutOfMemory`: the log or the wire could not grow. The world is then as it was.
+    pub fn step(&mut self, event: &Event) -> Result<Entry, OutOfMemory>
+        ensures step { IfOk result (λ entry. Step self.old.config (stand_of self.old) event.now entry (stand_of self.new)) }
+        ensures log { IfOk result (λ entry. self.new.log ≡ self.old.log ++ entry ∷ []) }
+        ensures config { self.new.config ≡ self.old.config }
+        ensures err { OnErr result (self.new ≡ self.old) }
+
+        // The log answers the events so far, so it is in order, and the wire is faithful to it.
+        ensures logged { OnOk result (IsLogged self.new.config self.new.log (stand_of self.new)) }
+        ensures rising { OnOk result (IsRising self.new.config (reverse self.new.log)) }
+        ensures finals { OnOk result (IsFinal (reverse self.new.log)) }
+        ensures faithful { OnOk result (IsFaithful self.new.config (reverse self.new.log) self.new.wire) }
+    {
+        self.log.reserve(1)?;
+        self.wire.reserve(1)?;
+        let entry = answered(
+            &self.config,
+            &mut self.next,
+            &mut self.wire,
+            &mut self.receiver,
+            event,
+        );
+        self.log.push_reserved(entry.copy());
+        Ok(entry)
+    }
+
+    /// The wire: each datagram that was put on it, under its label.
+    pub fn wire(&self) -> &[(Label, Datagram)]
+        ensures { result.now ≡ self.now.wire }
+    {
+        self.wire.as_slice()
+    }
+
+    /// The log: one entry for each event.
+    pub fn log(&self) -> &[Entry]
+        ensures { result.now ≡ self.now.log }
+    {
+        self.log.as_slice()
+    }
+
+    /// The receiver's window.
+    pub fn window(&self) -> &W
+        ensures { W.meaning result.now ≡ self.now.span }
+    {
+        self.receiver.window()
+    }
+}
+
+/// A new world after these events.
+///
+/// `OutOfMemory`: the allocator refused the window, or a growth of the log or the wire.
+pub fn run<W: Window>(
+    alloc: Global,
+    config: &Config,
+    events: &[Event],
+) -> Result<World<W>, OutOfMemory>
+    ensures config { IfOk result (λ world. world.config ≡ config.now) }
+    // One entry for each event, each the answer of its end in the state that those before it left.
+    ensures answers { IfOk result (λ world. Answers config.now (reverse events.now) (reverse world.log) (stand_of world)) }
+    // What is played or given up rises, and is played never again.
+    ensures rising { IfOk result (λ world. IsRising config.now (reverse world.log)) }
+    ensures finals { IfOk result (λ world. IsFinal (reverse world.log)) }
+    // What lies on the wire was sent.
+    ensures faithful { IfOk result (λ world. IsFaithful config.now (reverse world.log) world.wire) }
+{
+    let mut world = World::new(alloc, config)?;
+    for event in events {
+        world.step(event)?;
+    }
+    Ok(world)
+}
+
+/// What the ends do with an event. There is room on the wire.
+fn answered<W: Window>(
+    config: &Config,
+    next: &mut u64,
+    wire: &mut Vec<(Label, Datagram)>,
+    receiver: &mut Receiver<W>,
+    event: &Event,
+) -> Entry
+    requires room { vec_len wire.old < vec_capacity wire.old }
+    requires next { next.old ≤ 2 ^ 48 }
+    requires receiver { receiver.old.config ≡ config.now.receiver }
+    requires window { receiver.old.span.capacity ≡ config.now.window }
+    ensures step { Step config.now (stand_at next.old wire.old.items receiver.old.span) event.now result
+        (stand_at next.new wire.new.items receiver.new.span) }
+    ensures next { next.new ≤ 2 ^ 48 }
+    ensures receiver { receiver.new.config ≡ receiver.old.config }
+    ensures window { receiver.new.span.capacity ≡ receiver.old.span.capacity }
+{
+    match event {
+        Event::Send(content, padding) => sent(config, next, wire, content, *padding),
+        Event::Deliver(index, now) => delivered(wire.as_slice(), receiver, *index, *now),
+        Event::Play(now) => Entry::Played {
+            now: *now,
+            played: receiver.play(*now),
+        },
+        Event::Inject(End::Receiver, datagram, now) => Entry::Injected {
+            end: End::Receiver,
+            now: *now,
+            answer: heard(receiver, datagram.as_slice(), *now),
+        },
+    }
+}
+
+/// Sends a content. There is room on the wire.
+fn sent(
+    config: &Config,
+    next: &mut u64,
+    wire: &mut Vec<(Label, Datagram)>,
+    content: &Content,
+    padding: u8,
+) -> Entry
+    requires room { vec_len wire.old < vec_capacity wire.old }
+    requires next { next.old ≤ 2 ^ 48 }
+    ensures step { (span : Span) → Step config.now (stand_at next.old wire.old.items span) (Event.Send content.now padding) result
+        (stand_at next.new wire.new.items span) }
+    ensures next { next.new ≤ 2 ^ 48 }
+{
+    let index = wire.len() as u64;
+    match send(next, &config.receiver().session(), content, padding) {
+        Err(fault) => Entry::SendRefused(fault),
+        Ok((place, datagram)) => {
+            wire.push_reserved((Label::Media(place), datagram));
+            Entry::Sent {
+                place,
+                index,
+                content: content.copy(),
+            }
+        }
+    }
+}
+
+/// Hands the datagram at an index to the end that its label names.
+fn delivered<W: Window>(
+    wire: &[(Label, Datagram)],
+    receiver: &mut Receiver<W>,
+    index: u64,
+    now: u64,
+) -> Entry
+    ensures step { (c : Setup) (next : ℕ) → c.receiver ≡ receiver.old.config → c.window ≡ receiver.old.span.capacity
+        → Step c (stand_at next wire.now receiver.old.span) (Event.Deliver index now) result (stand_at next wire.now receiver.new.span) }
+    ensures receiver { receiver.new.config ≡ receiver.old.config }
+    ensures window { receiver.new.span.capacity ≡ receiver.old.span.capacity }
+{
+    match wire.get(index as usize) {
+        None => Entry::Nothing,
+        Some((label, datagram)) => Entry::Delivered {
+            index,
+            label: *label,
+            now,
+            answer: match label {
+                Label::Media(_) => heard(receiver, datagram.as_slice(), now),
+            },
+        },
+    }
+}
+
+/// Hands octets to the receiver.
+fn heard<W: Window>(receiver: &mut Receiver<W>, octets: &[u8], now: u64) -> Answer
+    ensures hears { HearsAt receiver.old.span.capacity receiver.old.config.session (state_of receiver.old.span) octets.now now result (state_of receiver.new.span) }
+    ensures receiver { receiver.new.config ≡ receiver.old.config }
+    ensures window { receiver.new.span.capacity ≡ receiver.old.span.capacity }
+{
+    match receiver.on_media(octets, now) {
+        Ok(taken) => Answer::Taken(taken),
+        Err(fault) => Answer::Refused(fault),
+    }
+}
