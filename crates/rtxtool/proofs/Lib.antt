@@ -1,0 +1,13 @@
+pub mod ByteLemmas
+pub mod WordLemmas
+pub mod DecimalLemmas
+pub mod OctetLemmas
+pub mod NumberLemmas
+pub mod EventLemmas
+pub mod HexText
+pub mod LogLemmas
+pub mod LineLemmas
+pub mod BadLineLemmas
+pub mod ScriptLemmas
+pub mod KnownLemmas
+pub mod ProgressLemmas

@@ -1,0 +1,38 @@
+//! What the program says where it could not do its work, and its exit status.
+ghost use Rattle.std.specs.Prelude.{◌≡◌};
+ghost use Rattle.rtxtool.specs.Status.{status_of};
+
+use crate::fault::SimFault;
+use std::io::Write;
+use thiserror::Error;
+
+/// Why the program did not do its work.
+#[derive(Debug, Drop, Error)]
+pub enum ToolFault {
+    /// The file can't be opened.
+    #[error("fault input")]
+    Input,
+    /// What was written could not be brought out.
+    #[error("fault output")]
+    Output,
+    /// The script was not done to its end.
+    #[error(transparent)]
+    Sim(#[from] SimFault),
+    /// The allocator refused a growth.
+    #[error("out of memory")]
+    Memory,
+}
+
+/// Writes the line of a fault, and answers the exit status, whatever the writer does: 1 for an input that
+/// is refused, 3 for a file, 4 for memory.
+pub fn tell<W: Write>(fault: &ToolFault, error: &mut W) -> u8
+    ensures { result ≡ status_of fault.now }
+{
+    let _ = writeln!(error, "{fault}");
+    match fault {
+        ToolFault::Sim(SimFault::BadLine(_)) => 1,
+        ToolFault::Input | ToolFault::Output => 3,
+        ToolFault::Sim(SimFault::Read | SimFault::Write) => 3,
+        ToolFault::Sim(SimFault::OutOfMemory) | ToolFault::Memory => 4,
+    }
+}
