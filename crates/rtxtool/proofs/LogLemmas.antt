@@ -11,7 +11,7 @@ use Rattle.world.specs.declared.event.Entry.TheVariants.{Sent, SendRefused, Noth
 use Rattle.world.specs.Config.{Config}
 use Rattle.world.specs.Answers.{Item, Stand, Step, Answers}
 use Rattle.rtxtool.specs.ContentText.{octets_text}
-use Rattle.rtxtool.specs.LogText.{line_of, octets_in, octets_at, entry_line, log_text}
+use Rattle.rtxtool.specs.LogText.{line_of, octets_in, entry_line, log_text}
 
 -- one entry more, behind those before it
 pub log_text-append : (log : List Entry) (entry : Entry) (wire : List Item) → log_text (log ++ entry ∷ []) wire ≡ log_text log wire ++ entry_line wire entry
@@ -87,6 +87,20 @@ step-wire c old (Deliver index now) (Delivered at label moment answer) new step 
 step-wire c old (Play now) (Played moment played) new step = same_wire _ _ _ step.3 tt
 step-wire c old (Inject Receiver datagram now) (Injected Receiver moment answer) new step = same_wire _ _ _ step.3 tt
 step-wire c old event entry new step = absurd step
+
+-- a log's text after one step of its world: the line of the step's entry stands behind the text so far
+pub record TextGrows (log : List Entry) (old new : List Item) (entry : Entry) : Type 0 where
+  pub text : log_text (log ++ entry ∷ []) new ≡ log_text log old ++ entry_line new entry
+  pub on : AreOnWire (log ++ entry ∷ []) new
+
+pub log_text-step : (c : Config) (log : List Entry) (old : Stand) (event : Event) (entry : Entry) (new : Stand) → AreOnWire log old.wire → Step c old event entry new → TextGrows log old.wire new.wire entry
+log_text-step c log old event entry new on step =
+    let grows = step-wire c old event entry new step in
+    let before : log_text log new.wire ≡ log_text log old.wire = ap (log_text log) grows.wire ∙ log_text-grows log old.wire grows.more on in
+    record {
+      text = log_text-append log entry new.wire ∙ ap (λ (x : List ℕ). x ++ entry_line new.wire entry) before;
+      on = AreOnWire-append log entry new.wire (subst (AreOnWire log) (sym grows.wire) (AreOnWire-grows log old.wire grows.more on)) grows.on;
+    }
 
 -- one more event, as code appends it
 pub answers_more : (c : Config) (events : List Event) (log : List Entry) (old new : Stand) (event : Event) (entry : Entry) →

@@ -13,11 +13,11 @@ use Rattle.rtxtool.specs.declared.fault.SimFault.{SimFault}
 use Rattle.rtxtool.specs.declared.fault.SimFault.TheVariants.{BadLine, Read, Write, OutOfMemory}
 use Rattle.rtxtool.specs.Script.{script_config, script_events, bad_line, events_in, bad_in}
 use Rattle.rtxtool.specs.IsScript.{IsScript, Says, ended}
-use Rattle.rtxtool.specs.LogText.{entry_line, log_text}
+use Rattle.rtxtool.specs.LogText.{log_text}
 use Rattle.rtxtool.specs.Reading.{IfBoth, TakesConfig, Continues, EndsWith, FailsFirst, FailsAt}
 use Rattle.rtxtool.specs.Sim.{Prints, PrintsAny, Advances, IsDone, IsStopped, WroteSome, WroteOfRead}
 use Rattle.rtxtool.proofs.KnownLemmas.{Appends-trans, Appends-nil}
-use Rattle.rtxtool.proofs.LogLemmas.{AreOnWire, AreOnWire-append, AreOnWire-grows, log_text-append, log_text-grows, step-wire, answers_more}
+use Rattle.rtxtool.proofs.LogLemmas.{AreOnWire, log_text-step, answers_more}
 use Rattle.rtxtool.proofs.ScriptLemmas.{script_config-line, script_events-line, bad_line-line, events_in-line, bad_in-line}
 
 -- What was read is the script of the events that the world did, and their log was written. Whatever follows
@@ -57,10 +57,9 @@ start config w x y b =
 grown : (old new : Kept) (event : Event) (line : List ℕ) → Advances old event new line → AreOnWire old.log old.wire →
     AreOnWire new.log new.wire × (log_text new.log new.wire ≡ log_text old.log old.wire ++ line)
 grown old new event line a h =
-    let g = step-wire _ _ _ _ _ a.step in (
-      rw (a.log, g.wire) (AreOnWire-append old.log a.entry (old.wire ++ g.more) (AreOnWire-grows old.log old.wire g.more h) (rw g.wire at g.on)),
-      ap (λ l. log_text l new.wire) a.log ∙ log_text-append old.log a.entry new.wire ∙ ap (λ w. log_text old.log w ++ entry_line new.wire a.entry) g.wire
-          ∙ ap (λ t. t ++ entry_line new.wire a.entry) (log_text-grows old.log old.wire g.more h) ∙ ap (λ t. log_text old.log old.wire ++ t) (sym a.is),
+    let g = log_text-step old.config old.log (stand_of old) event a.entry (stand_of new) h a.step in (
+      rw a.log g.on,
+      ap (λ l. log_text l new.wire) a.log ∙ g.text ∙ ap (λ t. log_text old.log old.wire ++ t) (sym a.is),
     )
 
 -- lines that say events, and one more

@@ -14,7 +14,8 @@ use Rattle.rtxtool.specs.Steps.{◌>>=◌}
 abbrev pub vector_of : List ℕ → ArrayVec ℕ
 vector_of items = record { items = items }
 
--- the octets that a word writes as pairs of hexadecimal digits of either case, none being `-`
+-- The octets that a word writes as pairs of hexadecimal digits of either case, none being `-`. The empty
+-- word writes nothing.
 abbrev pub octets_of_word : List ℕ → Option (List ℕ)
 octets_of_word [] = None
 octets_of_word (c ∷ cs) = if bytes_eq (c ∷ cs) (codes "-") then Some [] else result_ok (decode_of (c ∷ cs))
@@ -36,8 +37,8 @@ sources_of_word word = do
   whole_words octets
 
 -- two octets that the profile defines, and whole words
-abbrev pub extension_in : List ℕ → Option Extension
-extension_in octets =
+abbrev pub extension_from : List ℕ → Option Extension
+extension_from octets =
     if nat_le 2 (length octets)
     then option_map (λ words. record { profile = big_number 2 octets; words = vector_of words }) (whole_words (drop 2 octets))
     else None
@@ -49,5 +50,5 @@ extension_of_word word =
     if bytes_eq word (codes "-") then Some None
     else do
       octets ← octets_up_to (2 + 4 * 16) word
-      extension ← extension_in octets
+      extension ← extension_from octets
       Some (Some extension)

@@ -2,7 +2,8 @@
 use Rattle.std.specs.Prelude.{ℕ, ◌==◌, List, [], ◌∷◌, if◌then◌else◌, Option, Some, None}
 use Rattle.std.specs.Borrow.{Bor}
 
--- A line has at most so many octets, its line feed not counted.
+-- A line has at most so many octets, its line feed not counted. No config line and no event line needs
+-- them all: the limit bounds what a reader has to hold.
 abbrev pub longest_line : ℕ
 longest_line = 4096
 

@@ -23,7 +23,7 @@ pub(crate) fn push_decimal(line: &mut Vec<u8>, number: u64) -> Result<(), OutOfM
 
 /// Appends octets in hexadecimal digits, or a dash for none.
 ///
-/// `OutOfMemory`: the line could not grow; it may have got a part of the word.
+/// `OutOfMemory`: the line could not grow.
 pub(crate) fn push_octets(line: &mut Vec<u8>, octets: &[u8]) -> Result<(), OutOfMemory>
     ensures { OnOk result (line.new.items ≡ line.old.items ++ octets_text octets.now) }
 {
@@ -91,7 +91,8 @@ fn push_words(line: &mut Vec<u8>, words: &[u32]) -> Result<(), OutOfMemory>
     Ok(())
 }
 
-/// Appends octets, by two hexadecimal digits each.
+/// Appends octets, by two hexadecimal digits each, which are written where they stay. A line whose length
+/// no `usize` holds is more than there is memory for.
 fn push_hex(line: &mut Vec<u8>, octets: &[u8]) -> Result<(), OutOfMemory>
     ensures { OnOk result (line.new.items ≡ line.old.items ++ encode_lower octets.now) }
 {

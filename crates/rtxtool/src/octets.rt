@@ -7,13 +7,17 @@ use arrayvec::ArrayVec;
 use rtpwire::{Extension, u16_at, u32_at};
 
 /// The octets that a word writes in hexadecimal, at most `N`; none are written `-`.
+#[tactic(auto, using(crate::proofs::OctetLemmas::a_long_word))]
 pub fn parse_octets<const N: usize>(word: &[u8]) -> Option<ArrayVec<u8, N>>
     ensures { result ≡ option_map vector_of (octets_up_to N word.now) }
 {
     if word == b"-".as_slice() {
         return Some(ArrayVec::new());
     }
-    if word.is_empty() || word.len() / 2 > N {
+    if word.is_empty() {
+        return None;
+    }
+    if word.len() / 2 > N {
         return None;
     }
     let mut room = [0; N];

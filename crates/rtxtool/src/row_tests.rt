@@ -1,4 +1,4 @@
-//! Scripts and the logs that they must print, worked out by hand.
+//! Scripts and the logs that they must print, worked out by hand; those of `examples/` are among them.
 use crate::fakes::Giver;
 use crate::fault::SimFault;
 use crate::sim::sim_text;
@@ -116,6 +116,56 @@ fn an_overrun(rt: HostRuntime) -> Result<(), Fail> {
 }
 
 #[test]
+fn a_loss_and_its_patience(rt: HostRuntime) -> Result<(), Fail> {
+    shows(
+        &rt,
+        &[
+            CONFIG,
+            (
+                "S 100 0 0 aa - -",
+                "sent 65537 0 806000010000006411111111aa",
+            ),
+            (
+                "S 200 0 0 bb - -",
+                "sent 65538 1 80600002000000c811111111bb",
+            ),
+            (
+                "S 300 0 0 cc - -",
+                "sent 65539 2 806000030000012c11111111cc",
+            ),
+            ("D 0 0", "taken 65537 0"),
+            ("D 2 5", "taken 65539 0"),
+            ("P 5", "play 65537 100 0 aa - -"),
+            ("P 104", "wait"),
+            ("P 105", "gap 65538"),
+            ("D 1 106", "refused 35"),
+            ("P 106", "play 65539 300 0 cc - -"),
+            ("P 106", "wait"),
+        ],
+    )
+}
+
+#[test]
+fn a_wrap_and_a_reordering(rt: HostRuntime) -> Result<(), Fail> {
+    shows(
+        &rt,
+        &[
+            ("config 65534 5 8 8 100 20 3 2", ""),
+            ("S 0 0 0 aa - -", "sent 131070 0 8060fffe0000000011111111aa"),
+            ("S 0 0 0 bb - -", "sent 131071 1 8060ffff0000000011111111bb"),
+            ("S 0 0 0 cc - -", "sent 131072 2 806000000000000011111111cc"),
+            ("D 0 0", "taken 131070 0"),
+            ("D 2 0", "taken 131072 0"),
+            ("D 1 0", "taken 131071 0"),
+            ("D 1 0", "refused 36"),
+            ("P 0", "play 131070 0 0 aa - -"),
+            ("P 0", "play 131071 0 0 bb - -"),
+            ("P 0", "play 131072 0 0 cc - -"),
+        ],
+    )
+}
+
+#[test]
 fn nothing_there(rt: HostRuntime) -> Result<(), Fail> {
     shows(&rt, &[CONFIG, ("D 9 0", "nothing"), ("P 0", "wait")])
 }
@@ -137,24 +187,7 @@ fn sources_extension_and_padding(rt: HostRuntime) -> Result<(), Fail> {
             ),
             ("D 0 0", "taken 65537 0"),
             ("P 0", "play 65537 100 1 aa 00000007 beef00000001"),
-        ],
-    )
-}
-
-#[test]
-fn padding_of_nothing(rt: HostRuntime) -> Result<(), Fail> {
-    shows(&rt, &[CONFIG, ("S 0 0 1 - - -", "refused 44")])
-}
-
-#[test]
-fn injected_media(rt: HostRuntime) -> Result<(), Fail> {
-    shows(
-        &rt,
-        &[
-            CONFIG,
-            ("I r - 0", "refused 1"),
-            ("I r 806000010000000044444444 0", "refused 31"),
-            ("I r 806200010000000011111111 0", "refused 32"),
+            ("S 0 0 1 - - -", "refused 44"),
         ],
     )
 }
@@ -180,6 +213,9 @@ fn a_peer_that_invents(rt: HostRuntime) -> Result<(), Fail> {
         &rt,
         &[
             CONFIG,
+            ("I r - 0", "refused 1"),
+            ("I r 806000010000000044444444 0", "refused 31"),
+            ("I r 806200010000000011111111 0", "refused 32"),
             ("I r 806000090000000011111111ee 0", "taken 65545 0"),
             ("S 0 0 0 aa - -", "sent 65537 0 806000010000000011111111aa"),
             ("D 0 0", "refused 35"),
