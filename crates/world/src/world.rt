@@ -7,6 +7,7 @@ ghost use Rattle.world.specs.Config.{Config as Setup};
 ghost use Rattle.world.specs.Answers.{HearsAt, Step, Answers};
 ghost use Rattle.world.specs.Reading.{IsRising, IsFinal};
 ghost use Rattle.world.specs.Wire.{IsFaithful};
+ghost use Rattle.world.specs.Good.{PlaysRightly};
 ghost use Rattle.world.specs.World.{IsLogged, stand_at, stand_of, empty};
 
 use crate::config::Config;
@@ -72,6 +73,8 @@ impl<W: Window> World<W> {
         ensures rising { OnOk result (IsRising self.new.config (reverse self.new.log)) }
         ensures finals { OnOk result (IsFinal (reverse self.new.log)) }
         ensures faithful { OnOk result (IsFaithful self.new.config (reverse self.new.log) self.new.wire) }
+        // Each beginning of the log that is close and honest is good.
+        ensures good { OnOk result (PlaysRightly self.new.config self.new.log) }
     {
         self.log.reserve(1)?;
         self.wire.reserve(1)?;
@@ -124,6 +127,9 @@ pub fn run<W: Window>(
     ensures finals { IfOk result (λ world. IsFinal (reverse world.log)) }
     // What lies on the wire was sent.
     ensures faithful { IfOk result (λ world. IsFaithful config.now (reverse world.log) world.wire) }
+    // The headline: each beginning of the log that is close and honest is good. The receiver plays what was
+    // sent at each place, gives up and waits for cause alone, and refuses lawfully.
+    ensures good { IfOk result (λ world. PlaysRightly config.now world.log) }
 {
     let mut world = World::new(alloc, config)?;
     for event in events {

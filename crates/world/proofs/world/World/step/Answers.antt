@@ -4,6 +4,7 @@ use Rattle.world.specs.Answers.{Item, Step}
 use Rattle.world.specs.World.{stand_at}
 use Rattle.world.proofs.Order.{ordered}
 use Rattle.world.proofs.Faithful.{wired}
+use Rattle.world.proofs.Headline.{plays_rightly}
 use Rattle.world.proofs.Runs.{logged_more}
 use Rattle.world.proofs.world.World.step.Goals as goal
 
@@ -30,3 +31,6 @@ returns-clause-finals g c = (ordered _ _ _ _ (returns-clause-logged g c).answers
 
 pub returns-clause-faithful : goal.returns-clause-faithful
 returns-clause-faithful g c = (wired _ _ _ _ (returns-clause-logged g c).answers).faithful
+
+pub returns-clause-good : goal.returns-clause-good
+returns-clause-good g c = plays_rightly _ _ _ _ (returns-clause-logged g c).answers
