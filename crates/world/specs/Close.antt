@@ -1,5 +1,5 @@
 -- The two premises under which a receiver plays rightly, read off the log, the newest entry first.
-use Rattle.std.specs.Prelude.{ℕ, List, [], ◌∷◌, Option, Some, None}
+use Rattle.std.specs.Prelude.{◌≡◌, ◌↔◌, ℕ, Bool, IsTrue, List, [], ◌∷◌, Option, Some, None}
 use Rattle.places.specs.Place.{IsWithin}
 use Rattle.world.specs.declared.event.Entry.{Entry}
 use Rattle.world.specs.declared.event.Entry.TheVariants.{Delivered, Injected}
@@ -27,3 +27,8 @@ abbrev pub IsHonest : List Entry → Type 0
 IsHonest [] = Unit {0}
 IsHonest (Injected end now answer ∷ before) = ⊥
 IsHonest (entry ∷ before) = IsHonest before
+
+-- what a world keeps of its log: the greatest place taken, and whether the log is close and honest
+pub record Tells (highest : Option ℕ) (holds : Bool) (past : List Entry) : Type 0 where
+  pub highest_is : highest ≡ highest_of past
+  pub holds_if : IsTrue holds ↔ (IsClose past × IsHonest past)

@@ -1,6 +1,7 @@
 //! The two ends of a session, the wire between them, and the log of what happened.
 #![tactic(auto)]
 
+mod closeness;
 mod config;
 mod event;
 mod laws;
