@@ -47,8 +47,8 @@ impl Closeness {
                 },
             },
             Entry::Injected { .. } => Closeness {
-                highest: self.highest,
                 holds: false,
+                ..self
             },
             Entry::Sent { .. } => self,
             Entry::SendRefused(_) => self,

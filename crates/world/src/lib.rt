@@ -15,4 +15,6 @@ pub use send::SendFault;
 pub use world::{World, run};
 
 #[cfg(test)]
+mod headline_tests;
+#[cfg(test)]
 mod tests;

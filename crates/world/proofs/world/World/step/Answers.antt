@@ -1,4 +1,4 @@
-use Rattle.std.proofs.Common.{◌≡◌, List, ◌∙◌, reverse, subst}
+use Rattle.std.proofs.Common.{List, ◌∙◌, reverse, subst}
 use Rattle.world.specs.Answers.{Item, Step}
 use Rattle.world.specs.World.{stand_at}
 use Rattle.world.proofs.Order.{ordered}
