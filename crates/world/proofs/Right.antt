@@ -1,5 +1,5 @@
 -- A run of the place world is right and justified, and refuses lawfully.
-use Rattle.std.proofs.Common.{◌≡◌, ℕ, zero, suc, ◌+◌, ◌-◌, ◌*◌, ◌<◌, ◌≤◌, List, [], ◌∷◌, ◌++◌, Option, Some, None, Result, Ok, Err, IsSome, IsSomeAnd, refl, sym, ap, subst, ◌∙◌, ⊎_elim, inl, inr, arith}
+use Rattle.std.proofs.Common.{◌≡◌, ℕ, ◌+◌, ◌-◌, ◌*◌, ◌≤◌, List, [], ◌∷◌, Option, Some, None, Result, Ok, Err, IsSome, IsSomeAnd, refl, sym, ap, subst, ◌∙◌, inl, inr, arith}
 use Rattle.std.proofs.lemmas.Option.{none-some, same_Some}
 use Rattle.places.specs.Place.{number}
 use Rattle.places.specs.declared.nearness.PlaceFault.TheVariants.{Far}
@@ -10,7 +10,7 @@ use Rattle.receiver.specs.declared.answer.Played.{Played as Play_answer}
 use Rattle.receiver.specs.declared.answer.Played.TheVariants.{Packet, Gap, Wait}
 use Rattle.receiver.specs.declared.fault.ReceiveFault.{ReceiveFault}
 use Rattle.receiver.specs.declared.fault.ReceiveFault.TheVariants as refused
-use Rattle.receiver.specs.Window.{Missed, Window, Starts, StartsAt, AnswersPlace, HasPassed, PlaysAny}
+use Rattle.receiver.specs.Window.{Missed, Window, StartsAt, AnswersPlace, HasPassed, PlaysAny}
 use Rattle.world.specs.declared.event.Label.{Label}
 use Rattle.world.specs.declared.event.Label.TheVariants.{Media}
 use Rattle.world.specs.declared.event.Answer.{Answer}
@@ -24,7 +24,7 @@ use Rattle.world.specs.Reach.{highest_of, shift_of, first_or, Reaches, IsReached
 use Rattle.world.specs.Right.{IsRight}
 use Rattle.world.specs.Justified.{noticed_of, IsWaitFor, IsJustified}
 use Rattle.world.specs.Lawful.{IsRefusedLawfully}
-use Rattle.world.specs.PlaceRun.{PlaceWorld, new_places, AnswersLabel, ReceivesLabel, ReceivesSent, HearsLabel, PlaceRun}
+use Rattle.world.specs.PlaceRun.{PlaceWorld, new_places, ReceivesSent, HearsLabel, PlaceRun}
 use Rattle.world.proofs.Faithful.{get_front}
 use Rattle.world.proofs.Kept.{noticed_in, Kept, KeptBy, Keeps, starts, takes, refused as refused_one, passes, sends}
 

@@ -1,5 +1,5 @@
 -- A close and honest log is a run of the place world.
-use Rattle.std.proofs.Common.{◌≡◌, ℕ, ◌+◌, ◌^◌, ◌<◌, ◌≤◌, List, [], ◌∷◌, ◌++◌, length, map, Option, Some, None, Result, Ok, Err, refl, sym, ap, subst, ◌∙◌, inl, inr, arith}
+use Rattle.std.proofs.Common.{◌≡◌, ℕ, ◌+◌, ◌^◌, ◌<◌, List, [], ◌∷◌, ◌++◌, map, Option, Some, None, Result, Ok, Err, sym, ap, subst, ◌∙◌, inl, inr}
 use Rattle.std.specs.Prelude.{slice_get, option_map}
 use Rattle.std.proofs.lemmas.List.{length-map, map-append}
 use Rattle.std.proofs.lemmas.Option.{slice_get-map}
@@ -21,8 +21,7 @@ use Rattle.world.specs.declared.event.Entry.{Entry}
 use Rattle.world.specs.declared.event.Entry.TheVariants.{Sent, SendRefused, Nothing, Delivered, Injected, Played}
 use Rattle.world.specs.Config.{Config}
 use Rattle.world.specs.Sending.{SendsAny}
-use Rattle.world.specs.Answers.{Item, Stand, new_stand, told, SendsTo, DeliversAt, Answers}
-use Rattle.world.specs.Reading.{WasSent}
+use Rattle.world.specs.Answers.{Item, Stand, told, DeliversAt, Answers}
 use Rattle.world.specs.Reach.{place_of, highest_of, shift_of}
 use Rattle.world.specs.Close.{IsCloseTo, IsClose, IsHonest}
 use Rattle.world.specs.PlaceRun.{PlaceWorld, AnswersLabel, ReceivesLabel, ReceivesSent, HearsLabel, RefusesSend, PlaceRun}

@@ -1,5 +1,5 @@
 -- Right playing, read off the log, the newest entry first.
-use Rattle.std.specs.Prelude.{ℕ, ◌+◌, List, [], ◌∷◌}
+use Rattle.std.specs.Prelude.{◌+◌, List, [], ◌∷◌}
 use Rattle.receiver.specs.declared.answer.Played.TheVariants.{Packet}
 use Rattle.world.specs.declared.event.Entry.{Entry}
 use Rattle.world.specs.declared.event.Entry.TheVariants.{Played}

@@ -1,6 +1,6 @@
 //! Whether a log is close and honest, kept as the log grows.
 ghost use Rattle.std.specs.Prelude.{◌≡◌, ◌↔◌, [], ◌∷◌, List, IsTrue};
-ghost use Rattle.world.specs.declared.event.Entry.{Entry as Item};
+ghost use Rattle.world.specs.declared.event.Entry.{Entry as Logged};
 ghost use Rattle.world.specs.Reach.{place_of, greater};
 ghost use Rattle.world.specs.Close.{IsCloseTo, Tells};
 
@@ -11,7 +11,7 @@ use places::Place;
 /// 65536 - 16383, its sequence number is that of a place near the greatest one.
 const CLOSE_DISTANCE: u64 = 49153;
 
-/// What a log comes to. It has one size, however long the log is.
+/// What a world keeps of its log to tell whether it is close and honest, however long it is.
 #[derive(Clone, Copy)]
 pub(crate) struct Closeness {
     /// The greatest of the sender's places of which a packet was taken.
@@ -33,7 +33,7 @@ impl Closeness {
 
     /// That of the log with one more entry.
     pub(crate) fn after(self, entry: &Entry) -> Closeness
-        ensures { (past : List Item) → Tells self.highest self.holds past → Tells result.highest result.holds (entry.now ∷ past) }
+        ensures { (past : List Logged) → Tells self.highest self.holds past → Tells result.highest result.holds (entry.now ∷ past) }
     {
         match entry {
             Entry::Delivered { label, answer, .. } => match answer {
