@@ -1,3 +1,9 @@
 pub mod Order
 pub mod Faithful
 pub mod Runs
+pub mod Near
+pub mod Said
+pub mod Kept
+pub mod Right
+pub mod Simulates
+pub mod Headline

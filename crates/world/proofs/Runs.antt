@@ -1,10 +1,11 @@
 -- A run goes on by one event.
-use Rattle.std.proofs.Common.{◌≡◌, ℕ, ◌+◌, ◌<◌, List, [], ◌∷◌, ◌++◌, length, get_or, take, reverse, sym, subst}
+use Rattle.std.proofs.Common.{◌≡◌, ℕ, ◌+◌, ◌<◌, Bool, List, [], ◌∷◌, ◌++◌, length, get_or, take, reverse, Option, sym, ap, subst, ◌∙◌}
 use Rattle.std.proofs.lemmas.List.{take_more, reverse-append}
 use Rattle.world.specs.declared.event.Event.{Event}
 use Rattle.world.specs.declared.event.Entry.{Entry}
 use Rattle.world.specs.Config.{Config}
 use Rattle.world.specs.Answers.{Stand, Step, Answers}
+use Rattle.world.specs.Close.{Tells}
 use Rattle.world.specs.World.{IsLogged}
 
 -- one more event, as code appends it
@@ -21,6 +22,10 @@ run_more c events i d log log' entry old new within is before step =
     (subst (λ (x : List Entry). Answers c (reverse (take i events ++ get_or events i d ∷ [])) (reverse x) new) (sym is)
     (answers_more c (take i events) log old new (get_or events i d) entry before step))
 
+-- a log after a push of an entry's copy
+pub pushed : (log reserved log' : List Entry) (entry copy : Entry) → log' ≡ reserved ++ copy ∷ [] → reserved ≡ log → copy ≡ entry → log' ≡ log ++ entry ∷ []
+pushed log reserved log' entry copy push same copied = push ∙ ap (λ (x : List Entry). x ++ copy ∷ []) same ∙ ap (λ (x : Entry). log ++ x ∷ []) copied
+
 -- a log that answers some events goes on to do so
 pub logged_more : (c : Config) (log log' : List Entry) (entry : Entry) (event : Event) (old new : Stand) →
     IsLogged c log old → log' ≡ log ++ entry ∷ [] → Step c old event entry new → IsLogged c log' new
@@ -29,3 +34,8 @@ logged_more c log log' entry event old new was is step =
       events = was.events ++ event ∷ [];
       answers = subst (λ (x : List Entry). Answers c (reverse (was.events ++ event ∷ [])) (reverse x) new) (sym is) (answers_more c was.events log old new event entry was.answers step);
     }
+
+-- what is kept of a log goes on to tell of it
+pub tells_more : (highest : Option ℕ) (holds : Bool) (log log' : List Entry) (entry : Entry) → log' ≡ log ++ entry ∷ [] → Tells highest holds (entry ∷ reverse log) → Tells highest holds (reverse log')
+tells_more highest holds log log' entry is tells =
+    subst (λ (past : List Entry). Tells highest holds past) (sym (ap reverse is ∙ reverse-append log (entry ∷ []))) tells

@@ -3,5 +3,12 @@ pub mod Sending
 pub mod Answers
 pub mod Reading
 pub mod Wire
+pub mod Reach
+pub mod Close
+pub mod Right
+pub mod Justified
+pub mod Lawful
+pub mod PlaceRun
+pub mod Good
 pub mod World
 pub mod Fault

@@ -4,7 +4,7 @@ use Rattle.arrayvec.specs.ArrayVec.{ArrayVec}
 use Rattle.places.specs.Place.{number}
 use Rattle.rtpwire.specs.declared.content.Content.{Content}
 use Rattle.rtpwire.specs.Rtp.{RtpPacket, RtpSpells, written}
-use Rattle.rtpwire.specs.Content.{packet_of}
+use Rattle.rtpwire.specs.Content.{packet_of, IsTooLong}
 use Rattle.rtpwire.specs.Session.{Streams}
 use Rattle.world.specs.declared.send.SendFault.{SendFault}
 use Rattle.world.specs.declared.send.SendFault.TheVariants.{PaddedEmpty, Exhausted}
@@ -22,6 +22,7 @@ pub record Sends (s : Streams) (next : ℕ) (content : Content) (padding place :
   pub place_is : place ≡ next
   pub fits : place < 2 ^ 48
   pub padded : CanBePadded content padding
+  pub holds : IsTooLong (media_packet s content padding place) → ⊥  -- a receiver's content can hold it
   pub spells : RtpSpells (media_packet s content padding place) octets
   pub written_so : octets ≡ written (media_packet s content padding place)
   pub next_is : new ≡ next + 1

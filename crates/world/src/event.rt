@@ -1,5 +1,6 @@
 //! What happens in a world, and what its log tells of it.
 ghost use Rattle.std.specs.Prelude.{◌≡◌};
+ghost use Rattle.world.specs.Reach.{place_of};
 
 use crate::send::SendFault;
 use places::Place;
@@ -31,6 +32,17 @@ pub enum Event {
 pub enum Label {
     /// The media packet of this place of the sender's.
     Media(Place),
+}
+
+impl Label {
+    /// The sender's place of the packet under it, if it is a packet's.
+    pub(crate) fn place(&self) -> Option<Place>
+        ensures { result ≡ place_of self.now }
+    {
+        match self {
+            Label::Media(place) => Some(*place),
+        }
+    }
 }
 
 /// What an end answers to a datagram.

@@ -1,11 +1,13 @@
 //! Laws on logs. These functions compute nothing: their contracts are the laws.
-ghost use Rattle.std.specs.Prelude.{List};
+ghost use Rattle.std.specs.Prelude.{◌++◌, List};
 ghost use Rattle.world.specs.declared.event.Event.{Event};
 ghost use Rattle.world.specs.declared.event.Entry.{Entry};
 ghost use Rattle.world.specs.Config.{Config};
 ghost use Rattle.world.specs.Answers.{Stand, Answers};
 ghost use Rattle.world.specs.Reading.{IsRising, IsFinal};
 ghost use Rattle.world.specs.Wire.{IsFaithful};
+ghost use Rattle.world.specs.Close.{IsClose, IsHonest};
+ghost use Rattle.world.specs.Good.{IsGood};
 
 /// Whatever events a log answers, and whatever octets a peer injected: what is played or given up rises place
 /// by place, and a place that was given up or overrun is never played later.
@@ -18,4 +20,11 @@ pub fn logs_are_in_order()
 /// spells what its label says was sent.
 pub fn wires_are_faithful()
     ensures { (c : Config) (events : List Event) (past : List Entry) (end : Stand) → Answers c events past end → IsFaithful c past end.wire }
+{}
+
+/// Whatever events a log answers: each beginning of it that is close and honest is good. It is a run over
+/// places; each packet played is what was sent at its place, and had come; each gap and each wait has its cause;
+/// and nothing is refused but for coming before the start, from too far, too late or twice.
+pub fn logs_are_good()
+    ensures { (c : Config) (events : List Event) (later earlier : List Entry) (end : Stand) → Answers c events (later ++ earlier) end → IsClose earlier → IsHonest earlier → IsGood c earlier }
 {}

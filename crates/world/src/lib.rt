@@ -1,6 +1,7 @@
 //! The two ends of a session, the wire between them, and the log of what happened.
 #![tactic(auto)]
 
+mod closeness;
 mod config;
 mod event;
 mod laws;
@@ -9,9 +10,11 @@ mod world;
 
 pub use config::Config;
 pub use event::{Answer, End, Entry, Event, Label};
-pub use laws::{logs_are_in_order, wires_are_faithful};
+pub use laws::{logs_are_good, logs_are_in_order, wires_are_faithful};
 pub use send::SendFault;
 pub use world::{World, run};
 
+#[cfg(test)]
+mod headline_tests;
 #[cfg(test)]
 mod tests;

@@ -1,5 +1,6 @@
 //! Numbering and writing what is sent.
-ghost use Rattle.std.specs.Prelude.{◌≡◌, ◌≤◌, ◌^◌};
+ghost use Rattle.std.specs.Prelude.{◌≡◌, ℕ, ◌≤◌, ◌^◌};
+ghost use Rattle.rtpwire.specs.Content.{IsTooLong, packet_of};
 ghost use Rattle.world.specs.Sending.{SendsAny};
 
 use places::Place;
@@ -45,6 +46,7 @@ pub(crate) fn send(
     let Some(place) = Place::new(*next) else {
         return Err(SendFault::Exhausted);
     };
+    can_be_held(content);
     let datagram = write_media(
         content,
         padding,
@@ -54,4 +56,15 @@ pub(crate) fn send(
     );
     *next += 1;
     Ok((place, datagram))
+}
+
+/// A packet that carries a content is never too long for the content that a receiver makes of it: both have
+/// the same room. It computes nothing.
+fn can_be_held(content: &Content)
+    ensures { (padding sequence payload_type ssrc : ℕ) → IsTooLong (packet_of content.now padding sequence payload_type ssrc) → ⊥ }
+{
+    let _octets = content.payload.len();
+    if let Some(extension) = &content.extension {
+        let _words = extension.words.len();
+    }
 }

@@ -8,17 +8,17 @@ use std::test::Fail;
 use stores::ListWindow;
 
 /// Both ends under the session of the rows.
-fn config(first: u16, window: usize) -> Result<Config, Fail> {
+pub(crate) fn config(first: u16, window: usize) -> Result<Config, Fail> {
     let session = Session::new(0x11111111, 96, 0x22222222, 97, 0x33333333)?;
     Ok(Config::new(session, first, 5, 8, window, 100, 20, 3, 2)?)
 }
 
-fn world(alloc: Global, first: u16, window: usize) -> Result<World<ListWindow>, Fail> {
+pub(crate) fn world(alloc: Global, first: u16, window: usize) -> Result<World<ListWindow>, Fail> {
     let world = World::new(alloc, &config(first, window)?);
     Ok(world.map_err(|_| "memory is ample")?)
 }
 
-fn content(payload: &[u8], timestamp: u32, marker: bool) -> Result<Content, Fail> {
+pub(crate) fn content(payload: &[u8], timestamp: u32, marker: bool) -> Result<Content, Fail> {
     let payload = ArrayVec::try_from(payload).ok().ok_or("the payload fits")?;
     Ok(Content {
         payload,
@@ -29,11 +29,11 @@ fn content(payload: &[u8], timestamp: u32, marker: bool) -> Result<Content, Fail
     })
 }
 
-fn send(payload: &[u8]) -> Result<Event, Fail> {
+pub(crate) fn send(payload: &[u8]) -> Result<Event, Fail> {
     Ok(Event::Send(content(payload, 0, false)?, 0))
 }
 
-fn inject(octets: &[u8]) -> Result<Event, Fail> {
+pub(crate) fn inject(octets: &[u8]) -> Result<Event, Fail> {
     let datagram = Datagram::try_from(octets).ok().ok_or("the datagram fits")?;
     Ok(Event::Inject(End::Receiver, datagram, 0))
 }
@@ -57,7 +57,10 @@ fn told(entry: &Entry) -> (&'static str, u64, u64) {
 }
 
 /// Does an event, and tells its entry.
-fn does(world: &mut World<ListWindow>, event: &Event) -> Result<(&'static str, u64, u64), Fail> {
+pub(crate) fn does(
+    world: &mut World<ListWindow>,
+    event: &Event,
+) -> Result<(&'static str, u64, u64), Fail> {
     let entry = world.step(event).map_err(|_| "memory is ample")?;
     Ok(told(&entry))
 }
@@ -96,6 +99,7 @@ fn the_first_path(rt: HostRuntime) -> Result<(), Fail> {
         let row = b"\x80\xe0\x00\x01\x00\x00\x00\x64\x11\x11\x11\x11\xaa";
         assert_eq!(rt; datagram.as_slice(), row.as_slice());
     }
+    logs_are_good();
     logs_are_in_order();
     wires_are_faithful();
     Ok(())

@@ -1,5 +1,5 @@
 //! The world: two ends, the wire and the log.
-ghost use Rattle.std.specs.Prelude.{◌≡◌, ◌+◌, ◌^◌, ◌<◌, ◌≤◌, ◌++◌, [], ◌∷◌, List, ℕ, length, reverse, vec_len, IfOk, OnOk, OnErr};
+ghost use Rattle.std.specs.Prelude.{◌≡◌, ◌↔◌, ◌+◌, ◌^◌, ◌<◌, ◌≤◌, ◌++◌, [], ◌∷◌, List, ℕ, length, reverse, vec_len, IsTrue, IfOk, OnOk, OnErr};
 ghost use Rattle.std.specs.Vec.{vec_capacity};
 ghost use Rattle.stores.specs.Span.{Span};
 ghost use Rattle.receiver.specs.Window.{state_of};
@@ -7,8 +7,11 @@ ghost use Rattle.world.specs.Config.{Config as Setup};
 ghost use Rattle.world.specs.Answers.{HearsAt, Step, Answers};
 ghost use Rattle.world.specs.Reading.{IsRising, IsFinal};
 ghost use Rattle.world.specs.Wire.{IsFaithful};
+ghost use Rattle.world.specs.Close.{IsClose, IsHonest};
+ghost use Rattle.world.specs.Good.{PlaysRightly};
 ghost use Rattle.world.specs.World.{IsLogged, stand_at, stand_of, empty};
 
+use crate::closeness::Closeness;
 use crate::config::Config;
 use crate::event::{Answer, End, Entry, Event, Label};
 use crate::send::send;
@@ -27,10 +30,12 @@ pub struct World<W: Window> {
     wire: Vec<(Label, Datagram)>,
     receiver: Receiver<W>,
     log: Vec<Entry>,
+    closeness: Closeness,
 }
 
 impl<W: Window> Model for World<W> {
-    ghost use Rattle.std.specs.Prelude.{◌≡◌, ◌^◌, ◌≤◌};
+    ghost use Rattle.std.specs.Prelude.{◌≡◌, ◌^◌, ◌≤◌, reverse};
+    ghost use Rattle.world.specs.Close.{Tells};
     ghost use Rattle.world.specs.World.{Kept, IsLogged, stand_at};
 
     ghost Value = { Kept };
@@ -38,7 +43,8 @@ impl<W: Window> Model for World<W> {
     ghost view = { λ w. record { config = w.config; next = w.next; wire = w.wire.items; span = w.receiver.span; log = w.log.items } };
 
     ghost invariant = { λ w. (w.next ≤ 2 ^ 48) × (w.receiver.config ≡ w.config.receiver) × (w.receiver.span.capacity ≡ w.config.window)
-        × IsLogged w.config w.log.items (stand_at w.next w.wire.items w.receiver.span) };
+        × IsLogged w.config w.log.items (stand_at w.next w.wire.items w.receiver.span)
+        × Tells w.closeness.highest w.closeness.holds (reverse w.log.items) };
 }
 
 impl<W: Window> World<W> {
@@ -55,6 +61,7 @@ impl<W: Window> World<W> {
             wire: Vec::new(alloc),
             receiver: Receiver::new(config.receiver(), window),
             log: Vec::new(alloc),
+            closeness: Closeness::new(),
         })
     }
 
@@ -72,6 +79,8 @@ impl<W: Window> World<W> {
         ensures rising { OnOk result (IsRising self.new.config (reverse self.new.log)) }
         ensures finals { OnOk result (IsFinal (reverse self.new.log)) }
         ensures faithful { OnOk result (IsFaithful self.new.config (reverse self.new.log) self.new.wire) }
+        // Each beginning of the log that is close and honest is good.
+        ensures good { OnOk result (PlaysRightly self.new.config self.new.log) }
     {
         self.log.reserve(1)?;
         self.wire.reserve(1)?;
@@ -82,6 +91,7 @@ impl<W: Window> World<W> {
             &mut self.receiver,
             event,
         );
+        self.closeness = self.closeness.after(&entry);
         self.log.push_reserved(entry.copy());
         Ok(entry)
     }
@@ -98,6 +108,16 @@ impl<W: Window> World<W> {
         ensures { result.now ≡ self.now.log }
     {
         self.log.as_slice()
+    }
+
+    /// Whether the log is close and honest: each packet that was delivered lay less than 49153 from the greatest
+    /// place taken before it, and nothing was injected. It takes no memory, and walks no log.
+    ///
+    /// As long as it is so, the receiver plays rightly, by the contract of [`step`](World::step).
+    pub fn close(&self) -> bool
+        ensures { IsTrue result ↔ (IsClose (reverse self.now.log) × IsHonest (reverse self.now.log)) }
+    {
+        self.closeness.holds()
     }
 
     /// The receiver's window.
@@ -124,6 +144,9 @@ pub fn run<W: Window>(
     ensures finals { IfOk result (λ world. IsFinal (reverse world.log)) }
     // What lies on the wire was sent.
     ensures faithful { IfOk result (λ world. IsFaithful config.now (reverse world.log) world.wire) }
+    // The headline: each beginning of the log that is close and honest is good. The receiver plays what was
+    // sent at each place, gives up and waits for cause alone, and refuses lawfully.
+    ensures good { IfOk result (λ world. PlaysRightly config.now world.log) }
 {
     let mut world = World::new(alloc, config)?;
     for event in events {

@@ -5,6 +5,7 @@ use Rattle.world.specs.Answers.{Answers}
 use Rattle.world.specs.World.{stand_of}
 use Rattle.world.proofs.Order.{ordered}
 use Rattle.world.proofs.Faithful.{wired}
+use Rattle.world.proofs.Headline.{plays_rightly}
 use Rattle.world.proofs.world.run.Goals as goal
 
 pub returns-clause-answers : goal.returns-clause-answers
@@ -20,3 +21,6 @@ returns-clause-finals g c = (ordered _ _ _ _ (returns-clause-answers g c)).final
 
 pub returns-clause-faithful : goal.returns-clause-faithful
 returns-clause-faithful g c = (wired _ _ _ _ (returns-clause-answers g c)).faithful
+
+pub returns-clause-good : goal.returns-clause-good
+returns-clause-good g c = plays_rightly _ _ _ _ (returns-clause-answers g c)

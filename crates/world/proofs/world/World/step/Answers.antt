@@ -1,18 +1,16 @@
-use Rattle.std.proofs.Common.{◌≡◌, List, ◌∷◌, [], ◌++◌, ◌∙◌, ap, subst}
-use Rattle.world.specs.declared.event.Entry.{Entry}
+use Rattle.std.proofs.Common.{List, ◌∙◌, reverse, subst}
 use Rattle.world.specs.Answers.{Item, Step}
 use Rattle.world.specs.World.{stand_at}
 use Rattle.world.proofs.Order.{ordered}
 use Rattle.world.proofs.Faithful.{wired}
-use Rattle.world.proofs.Runs.{logged_more}
+use Rattle.world.proofs.Headline.{plays_rightly}
+use Rattle.world.proofs.Runs.{pushed, logged_more, tells_more}
 use Rattle.world.proofs.world.World.step.Goals as goal
 
 pub returns-clause-logged : goal.returns-clause-logged
 returns-clause-logged g c =
     let w = c.self.inside in
-    let log : c.push_reserved.new.self.items ≡ w.log.items ++ c.answered-entry.result ∷ [] =
-    c.push_reserved.ensures.items ∙ ap (λ (x : List Entry). x ++ c.copy.result ∷ []) c.reserve.ensures.items
-    ∙ ap (λ (x : Entry). w.log.items ++ x ∷ []) c.copy.ensures in
+    let log = pushed w.log.items c.reserve.new.self.items c.push_reserved.new.self.items c.answered-entry.result c.copy.result c.push_reserved.ensures.items c.reserve.ensures.items c.copy.ensures in
     let new = stand_at c.answered-entry.new.next c.answered-entry.new.wire.items c.answered-entry.new.receiver.span in
     let step = subst (λ (x : List Item). Step w.config (stand_at w.next x w.receiver.span) c.args.event.now c.answered-entry.result new) c.reserve-2.ensures.items c.answered-entry.ensures.step in
     logged_more w.config w.log.items c.push_reserved.new.self.items c.answered-entry.result c.args.event.now (stand_at w.next w.wire.items w.receiver.span) new
@@ -20,7 +18,15 @@ returns-clause-logged g c =
 
 pub invariant_of-self-2 : goal.invariant_of-self-2
 invariant_of-self-2 g c =
-    (c.answered-entry.ensures.next, c.answered-entry.ensures.receiver ∙ c.self.invariant.1, c.answered-entry.ensures.window ∙ c.self.invariant.2, returns-clause-logged g c)
+    let w = c.self.inside in
+    let log = pushed w.log.items c.reserve.new.self.items c.push_reserved.new.self.items c.answered-entry.result c.copy.result c.push_reserved.ensures.items c.reserve.ensures.items c.copy.ensures in
+    let closeness = c.after-self-inside in (
+      c.answered-entry.ensures.next,
+      c.answered-entry.ensures.receiver ∙ c.self.invariant.1,
+      c.answered-entry.ensures.window ∙ c.self.invariant.2,
+      returns-clause-logged g c,
+      tells_more closeness.result.highest closeness.result.holds w.log.items c.push_reserved.new.self.items c.answered-entry.result log (closeness.ensures (reverse w.log.items) c.self.invariant.4),
+    )
 
 pub returns-clause-rising : goal.returns-clause-rising
 returns-clause-rising g c = (ordered _ _ _ _ (returns-clause-logged g c).answers).rising
@@ -30,3 +36,6 @@ returns-clause-finals g c = (ordered _ _ _ _ (returns-clause-logged g c).answers
 
 pub returns-clause-faithful : goal.returns-clause-faithful
 returns-clause-faithful g c = (wired _ _ _ _ (returns-clause-logged g c).answers).faithful
+
+pub returns-clause-good : goal.returns-clause-good
+returns-clause-good g c = plays_rightly _ _ _ _ (returns-clause-logged g c).answers
