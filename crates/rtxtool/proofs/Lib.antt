@@ -11,3 +11,4 @@ pub mod BadLineLemmas
 pub mod ScriptLemmas
 pub mod KnownLemmas
 pub mod ProgressLemmas
+pub mod IsScriptLemmas

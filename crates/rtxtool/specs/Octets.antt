@@ -14,8 +14,8 @@ use Rattle.rtxtool.specs.Steps.{◌>>=◌}
 abbrev pub vector_of : List ℕ → ArrayVec ℕ
 vector_of items = record { items = items }
 
--- The octets that a word writes as pairs of hexadecimal digits of either case, none being `-`. The empty
--- word writes nothing.
+-- The octets that a word writes as pairs of hexadecimal digits of either case, none being `-`. An empty
+-- word is refused.
 abbrev pub octets_of_word : List ℕ → Option (List ℕ)
 octets_of_word [] = None
 octets_of_word (c ∷ cs) = if bytes_eq (c ∷ cs) (codes "-") then Some [] else result_ok (decode_of (c ∷ cs))

@@ -15,6 +15,7 @@ mod fault;
 mod line_tests;
 #[cfg(test)]
 mod log_tests;
+mod laws;
 mod log_text;
 mod octets;
 mod output;
