@@ -5,26 +5,18 @@ mod command_line;
 mod config_line;
 mod content_text;
 mod decimal;
-#[cfg(test)]
-mod device_tests;
 mod event_line;
-#[cfg(test)]
-mod fakes;
 mod fault;
-#[cfg(test)]
-mod line_tests;
-#[cfg(test)]
-mod log_tests;
 mod laws;
 mod log_text;
 mod octets;
 mod output;
 mod pending;
 mod program;
-#[cfg(test)]
-mod row_tests;
 mod sim;
 mod tell;
+#[cfg(test)]
+mod tests;
 mod words;
 
 use clap::error::ErrorKind;

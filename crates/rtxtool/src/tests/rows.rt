@@ -1,7 +1,7 @@
 //! Scripts and the logs that they must print, worked out by hand; those of `examples/` are among them.
-use crate::fakes::Giver;
 use crate::fault::SimFault;
 use crate::sim::sim_text;
+use crate::tests::fakes::Giver;
 use std::alloc::Global;
 use std::test::Fail;
 

@@ -1,8 +1,8 @@
 //! Readers and writers that fail, and what a fault is told as.
-use crate::fakes::{Giver, Taker};
 use crate::fault::SimFault;
 use crate::sim::sim_text;
 use crate::tell::{ToolFault, tell};
+use crate::tests::fakes::{Giver, Taker};
 use std::io;
 use std::io::{ErrorKind, Read};
 use std::test::Fail;

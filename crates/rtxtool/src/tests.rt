@@ -1,0 +1,7 @@
+//! What no clause says: rows from outside, devices that fail, printed text, command lines.
+mod command_lines;
+mod devices;
+mod fakes;
+mod lines;
+mod logs;
+mod rows;
