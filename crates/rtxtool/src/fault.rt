@@ -1,3 +1,4 @@
+//! Why a script could not be done.
 use thiserror::Error;
 
 /// Why a script was not done to its end.

@@ -45,6 +45,7 @@ fn fill<R: Read>(held: &mut Vec<u8>, input: &mut R) -> Result<bool, SimFault>
             Err(_) => Err(SimFault::OutOfMemory),
         },
         Err(e) => {
+            // A read that was interrupted has read nothing: it is tried again.
             if e.kind() == ErrorKind::Interrupted {
                 Ok(true)
             } else {
@@ -76,5 +77,6 @@ pub fn next_line<R: Read>(held: &mut Vec<u8>, input: &mut R) -> Result<Next, Sim
             });
         }
     }
+    // So many reads gave no line: a reader that is interrupted for ever.
     Err(SimFault::Read)
 }
