@@ -186,7 +186,8 @@ fn gives_up(world: &mut World<ListWindow>) -> Result<(), Fail> {
     plays_packet(world, 152, 131075, 5)
 }
 
-/// Six packets are lost, of which a jump overruns two and three come after it, one of them too late.
+/// Five packets are missing when a higher one comes, which overruns two of them. Three come after it, one of
+/// them too late, and one is given up.
 fn overruns(world: &mut World<ListWindow>) -> Result<(), Fail> {
     takes(world, 11, 160, 131081, 2)?;
     refuses(world, 6, 161, PutFault::Late)?;
@@ -229,9 +230,10 @@ fn plays_next(world: &mut World<ListWindow>, index: u64) -> Result<bool, Fail> {
     })
 }
 
-/// Three wraps: 200000 sends from the place 125536 on, each with its index as timestamp. From index 10000 on, which
-/// is place 135536 with the sequence number 4464 and so the receiver's place 70000, two at a time are delivered
-/// the other way round, and played.
+/// 200000 sends from the place 125536 on, whose sequence numbers wrap three times, each with its index as
+/// timestamp. From index 10000 on, which is place 135536 with the sequence number 4464 and so the receiver's
+/// place 70000, two at a time are delivered the other way round, and played. Where each access is checked, under
+/// `rt try --test`, it needs more than the usual time: `--seconds 600`.
 #[test]
 fn many_wraps(rt: HostRuntime) -> Result<(), Fail> {
     let mut world = world(rt.alloc(), 60000, 8)?;
