@@ -39,11 +39,12 @@ abbrev pub TakesNumber : (room : ℕ) → Option Window → (seq : ℕ) → Cont
 TakesNumber room None seq content now answer new = StartsAt (65536 + seq) content answer new
 TakesNumber room (Some old) seq content now answer new = AnswersNumber room old seq content now answer new
 
--- a media packet: no content holds it, or its content is taken by its sequence number
+-- A media packet: no content holds it, or its content is taken by its sequence number. (The second case says
+-- that it isn't too long, as a content has no bound here.)
 abbrev pub TakesMedia : (room : ℕ) → Option Window → RtpPacket → (now : ℕ) → Result Taken ReceiveFault → Option Window → Type 0
 TakesMedia room old p now answer new =
     (IsTooLong p × (answer ≡ Err (refused.Content TooLong)) × (new ≡ old))
-    ⊎ ((content : Content) × (packet_of content p.padding p.sequence p.payload_type p.ssrc ≡ p) × TakesNumber room old p.sequence content now answer new)
+    ⊎ ((IsTooLong p → ⊥) × (content : Content) × (packet_of content p.padding p.sequence p.payload_type p.ssrc ≡ p) × TakesNumber room old p.sequence content now answer new)
 
 abbrev pub HearsStream : (room : ℕ) → Option Window → RtpPacket → (now : ℕ) → Result Stream ReceiveFault → Result Taken ReceiveFault → Option Window → Type 0
 HearsStream room old p now (Ok Media) answer new = TakesMedia room old p now answer new

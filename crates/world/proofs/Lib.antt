@@ -7,3 +7,6 @@ pub mod Kept
 pub mod Right
 pub mod Simulates
 pub mod Headline
+pub mod SameWindows
+pub mod SameSteps
+pub mod Determined

@@ -95,7 +95,7 @@ numbered c past seq content now r (Some old) new (inr (inr (place, near, fits, s
 streamed : (c : Config) (past : List Entry) (p : RtpPacket) (now : ℕ) (s : Result Stream ReceiveFault) (r : Result Took ReceiveFault) (old new : Option Window) →
     HearsStream c.window old p now s r new → Ordered c past old → Ordered c (Injected Receiver now (told r) ∷ past) new
 streamed c past p now (Ok stream.Media) r old new (inl (long, is, same)) was = refusal c past now r _ old new is same was
-streamed c past p now (Ok stream.Media) r old new (inr (content, holds, step)) was = numbered c past p.sequence content now r old new step was
+streamed c past p now (Ok stream.Media) r old new (inr (short, content, holds, step)) was = numbered c past p.sequence content now r old new step was
 streamed c past p now (Ok stream.Repair) r old new (is, same) was = refusal c past now r _ old new is same was
 streamed c past p now (Err fault) r old new (is, same) was = refusal c past now r fault old new is same was
 

@@ -20,7 +20,7 @@ use Rattle.receiver.specs.Heard.{stream_of, TakesNumber, TakesMedia, HearsStream
 use Rattle.world.specs.Sending.{media_packet}
 
 -- a packet carries one content
-one_content : (c d : Content) (n a t s m b u r : ℕ) → packet_of c n a t s ≡ packet_of d m b u r → c ≡ d
+pub one_content : (c d : Content) (n a t s m b u r : ℕ) → packet_of c n a t s ≡ packet_of d m b u r → c ≡ d
 one_content c d n a t s m b u r same =
     same_content c d 0 0 a b t u s r (ap (λ (p : RtpPacket). let q : Repair = record { original = 0; packet = record p { padding = 0 } } in q) same)
 
@@ -33,7 +33,7 @@ says_number room s old new octets now heard content padding place spells holds h
   where
     media : TakesMedia room old (media_packet s content padding place) now heard new → TakesNumber room old (number place) content now heard new
     media (inl (long, is, same)) = absurd (holds long)
-    media (inr (carried, is, takes)) =
+    media (inr (short, carried, is, takes)) =
         subst (λ (x : Content). TakesNumber room old (number place) x now heard new) (one_content carried content padding (number place) s.media_type s.media_ssrc padding (number place) s.media_type s.media_ssrc is) takes
 
     said : (x : Result RtpPacket RtpFault) → Says octets x → HearsSaid room s old x now heard new → TakesNumber room old (number place) content now heard new

@@ -1,5 +1,5 @@
 //! Laws on logs. These functions compute nothing: their contracts are the laws.
-ghost use Rattle.std.specs.Prelude.{◌++◌, List};
+ghost use Rattle.std.specs.Prelude.{◌≡◌, ◌++◌, List};
 ghost use Rattle.world.specs.declared.event.Event.{Event};
 ghost use Rattle.world.specs.declared.event.Entry.{Entry};
 ghost use Rattle.world.specs.Config.{Config};
@@ -27,4 +27,12 @@ pub fn wires_are_faithful()
 /// and nothing is refused but for coming before the start, from too far, too late or twice.
 pub fn logs_are_good()
     ensures { (c : Config) (events : List Event) (later earlier : List Entry) (end : Stand) → Answers c events (later ++ earlier) end → IsClose earlier → IsHonest earlier → IsGood c earlier }
+{}
+
+/// A configuration and a list of events determine the rest: at most one log answers them, with one wire and one
+/// state of both ends.
+pub fn answers_are_determined()
+    ensures log { (c : Config) (events : List Event) (one other : List Entry) (end stop : Stand) → Answers c events one end → Answers c events other stop → one ≡ other }
+    ensures wire { (c : Config) (events : List Event) (one other : List Entry) (end stop : Stand) → Answers c events one end → Answers c events other stop → end.wire ≡ stop.wire }
+    ensures end { (c : Config) (events : List Event) (one other : List Entry) (end stop : Stand) → Answers c events one end → Answers c events other stop → end ≡ stop }
 {}

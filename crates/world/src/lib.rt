@@ -10,7 +10,7 @@ mod world;
 
 pub use config::Config;
 pub use event::{Answer, End, Entry, Event, Label};
-pub use laws::{logs_are_good, logs_are_in_order, wires_are_faithful};
+pub use laws::{answers_are_determined, logs_are_good, logs_are_in_order, wires_are_faithful};
 pub use send::SendFault;
 pub use world::{World, run};
 

@@ -99,6 +99,7 @@ fn the_first_path(rt: HostRuntime) -> Result<(), Fail> {
         let row = b"\x80\xe0\x00\x01\x00\x00\x00\x64\x11\x11\x11\x11\xaa";
         assert_eq!(rt; datagram.as_slice(), row.as_slice());
     }
+    answers_are_determined();
     logs_are_good();
     logs_are_in_order();
     wires_are_faithful();
