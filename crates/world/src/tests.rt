@@ -220,6 +220,7 @@ fn a_refused_growth(rt: HostRuntime) -> Result<(), Fail> {
         (send(b"\xaa")?, ("sent", 65537, 0)),
         (Event::Deliver(0, 0), ("taken", 65537, 0)),
         (Event::Play(0), ("play", 65537, 0)),
+        (inject(b"")?, ("refused", 1, 0)),
     ] {
         let (before, wire) = (world.log().len(), world.wire().len());
         let entry = match world.step(&event) {
@@ -230,6 +231,33 @@ fn a_refused_growth(rt: HostRuntime) -> Result<(), Fail> {
             }
         };
         assert_eq!(rt; told(&entry), want);
+    }
+    Ok(())
+}
+
+/// A run that met a want of memory is the same run with memory back.
+#[test]
+fn a_run_with_a_refused_growth(rt: HostRuntime) -> Result<(), Fail> {
+    let events = [
+        send(b"\xaa")?,
+        Event::Deliver(0, 0),
+        Event::Play(0),
+        inject(b"")?,
+    ];
+    let made = match run::<ListWindow>(rt.alloc(), &config(1, 8)?, &events) {
+        Ok(made) => Ok(made),
+        Err(_) => run::<ListWindow>(rt.alloc(), &config(1, 8)?, &events),
+    };
+    let world = made.map_err(|_| "memory is back")?;
+    let wanted = [
+        ("sent", 65537, 0),
+        ("taken", 65537, 0),
+        ("play", 65537, 0),
+        ("refused", 1, 0),
+    ];
+    assert_eq!(rt; world.log().len(), wanted.len());
+    for (entry, want) in world.log().iter().zip(wanted) {
+        assert_eq!(rt; told(entry), want);
     }
     Ok(())
 }
