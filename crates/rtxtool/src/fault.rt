@@ -1,4 +1,5 @@
 //! Why a script could not be done.
+use stores::OutOfMemory;
 use thiserror::Error;
 
 /// Why a script was not done to its end.
@@ -16,4 +17,15 @@ pub enum SimFault {
     /// The allocator refused a growth.
     #[error("out of memory")]
     OutOfMemory,
+}
+
+impl From<OutOfMemory> for SimFault {
+    ghost use Rattle.std.specs.Prelude.{◌≡◌};
+    ghost use Rattle.rtxtool.specs.declared.fault.SimFault.TheVariants as told;
+
+    ghost from_gives = { λ _ fault. fault ≡ told.OutOfMemory };
+
+    fn from(_want: OutOfMemory) -> SimFault {
+        SimFault::OutOfMemory
+    }
 }

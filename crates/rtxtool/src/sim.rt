@@ -91,27 +91,15 @@ pub fn sim_text<R: Read, W: Write>(
 {
     let mut held = Vec::new(alloc);
     let mut line = Vec::new(alloc);
-    let config = match read_config(&mut held, input) {
-        Ok(config) => config,
-        Err(fault) => return Err(fault),
-    };
-    let Ok(mut world) = World::<ListWindow>::new(alloc, &config) else {
-        return Err(SimFault::OutOfMemory);
-    };
+    let config = read_config(&mut held, input)?;
+    let mut world = World::<ListWindow>::new(alloc, &config)?;
     // A log of 2^64 entries has no room in any memory, so the loop ends before its range does.
     for count in 0..u64::MAX - 2 {
-        let event = match read_event(&mut held, input, count + 2) {
-            Ok(Some(event)) => event,
-            Ok(None) => return Ok(count),
-            Err(fault) => return Err(fault),
+        let Some(event) = read_event(&mut held, input, count + 2)? else {
+            return Ok(count);
         };
-        let Ok(()) = advance(&mut world, &event, &mut line) else {
-            return Err(SimFault::OutOfMemory);
-        };
-        match write_text(output, &line) {
-            Ok(()) => {}
-            Err(fault) => return Err(fault),
-        }
+        advance(&mut world, &event, &mut line)?;
+        write_text(output, &line)?;
     }
     Err(SimFault::OutOfMemory)
 }

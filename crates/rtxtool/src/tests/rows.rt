@@ -1,5 +1,6 @@
 //! Scripts and the logs that they must print, worked out by hand; those of `examples/` are among them.
 use crate::fault::SimFault;
+use crate::laws::scripts_are_read;
 use crate::sim::sim_text;
 use crate::tests::fakes::Giver;
 use std::alloc::Global;
@@ -50,6 +51,7 @@ fn shows(rt: &HostRuntime, lines: Lines) -> Result<(), Fail> {
 
 #[test]
 fn the_first_script(rt: HostRuntime) -> Result<(), Fail> {
+    scripts_are_read();
     shows(
         &rt,
         &[
