@@ -1,9 +1,26 @@
--- What `near_place` answers, in the words of nearness.
-use Rattle.std.proofs.Common.{◌≡◌, ◌↔◌, ℕ, ◌+◌, ◌-◌, ◌^◌, ◌<◌, ◌≤◌, arith, refl, inl, inr, ltb, ltb-true, ltb-false, Result, Ok, Err}
+-- What `near` answers, in the words of nearness.
+use Rattle.std.proofs.Common.{◌≡◌, ◌↔◌, ◌⊎◌, ℕ, ◌+◌, ◌-◌, ◌%◌, ◌^◌, ◌<◌, ◌≤◌, arith, refl, inl, inr, ltb, ltb-true, ltb-false, nat_lt, if◌then◌else◌, Result, Ok, Err}
 use Rattle.std.proofs.lemmas.Bool.{cond_both}
-use Rattle.places.specs.Place.{IsNear, IsFar, IsPastEnd, lowered, ahead, near_place}
+use Rattle.places.specs.Place.{number, IsNear, IsFar, IsPastEnd}
 use Rattle.places.specs.declared.nearness.PlaceFault.{PlaceFault}
 use Rattle.places.specs.declared.nearness.PlaceFault.TheVariants.{Far, PastEnd}
+
+-- how far the sequence number is ahead of that of the highest place, modulo 65536
+abbrev ahead : ℕ → ℕ → ℕ
+ahead highest seq = (seq + 65536 - number highest) % 65536
+
+abbrev lowered : ℕ → Result ℕ PlaceFault
+lowered raised =
+    if nat_lt raised 65536
+    then Err PastEnd
+    else (if nat_lt raised (2 ^ 48 + 65536) then Ok (raised - 65536) else Err PastEnd)
+
+-- the answer as a function of the two numbers
+abbrev pub near_place : ℕ → ℕ → Result ℕ PlaceFault
+near_place highest seq =
+    if nat_lt (ahead highest seq) 16384
+    then lowered (highest + 65536 + ahead highest seq)
+    else (if nat_lt 49152 (ahead highest seq) then lowered (highest + ahead highest seq) else Err Far)
 
 -- a near number is a place, or is none, or there is no near number
 pub data IsAnswer (highest seq : ℕ) : Result ℕ PlaceFault → Type 0 where
@@ -56,3 +73,22 @@ past_end_iff h s _ (found place small near) = (
 )
 past_end_iff h s _ (past_end p) = (λ _. p, λ _. refl)
 past_end_iff h s _ (far none) = (λ e. cc, λ p. absurd (none p.0 p.1))
+
+-- Of the three exactly one holds.
+pub some_answer : (h s : ℕ) → s < 2 ^ 16 → ((place : ℕ) × (place < 2 ^ 48) × IsNear h s place) ⊎ (IsFar h s ⊎ IsPastEnd h s)
+some_answer h s fits = told (near_place h s) (near_place_is h s fits)
+  where
+    told : (r : Result ℕ PlaceFault) → IsAnswer h s r → ((place : ℕ) × (place < 2 ^ 48) × IsNear h s place) ⊎ (IsFar h s ⊎ IsPastEnd h s)
+    told _ (found place small near) = inl (place, small, near)
+    told _ (past_end p) = inr (inr p)
+    told _ (far none) = inr (inl none)
+
+pub near_not_far : (h s q : ℕ) → IsNear h s q → IsFar h s → ⊥
+near_not_far h s q near none = none _ (raised h s q near)
+
+pub near_not_past_end : (h s q : ℕ) → q < 2 ^ 48 → IsNear h s q → IsPastEnd h s → ⊥
+near_not_past_end h s q small near p =
+    let same : p.0 ≡ q + 65536 = one _ _ _ _ p.1 (raised h s q near) in elim p.2 [ inl below ↦ omega arith | inr above ↦ omega arith ]
+
+pub far_not_past_end : (h s : ℕ) → IsFar h s → IsPastEnd h s → ⊥
+far_not_past_end h s none p = none p.0 p.1

@@ -3,6 +3,6 @@ use Rattle.std.specs.Prelude.{ℕ}
 use Rattle.places.specs.declared.nearness.PlaceFault.{PlaceFault}
 use Rattle.places.specs.declared.nearness.PlaceFault.TheVariants.{Far, PastEnd}
 
-abbrev pub number_of : PlaceFault → ℕ
-number_of Far = 34
-number_of PastEnd = 39
+abbrev pub place_fault_number : PlaceFault → ℕ
+place_fault_number Far = 34
+place_fault_number PastEnd = 39

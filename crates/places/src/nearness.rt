@@ -1,5 +1,5 @@
-ghost use Rattle.std.specs.Prelude.{◌≡◌, ◌↔◌, ℕ, ◌+◌, ◌^◌, ◌<◌, IfOk};
-ghost use Rattle.places.specs.Place.{number, IsWithin, IsNear, IsFar, IsPastEnd, near_place};
+ghost use Rattle.std.specs.Prelude.{◌≡◌, ◌↔◌, ◌⊎◌, ℕ, ◌^◌, ◌<◌, IfOk};
+ghost use Rattle.places.specs.Place.{number, reach, IsWithin, IsNear, IsFar, IsPastEnd};
 
 use crate::place::Place;
 
@@ -16,11 +16,11 @@ pub enum PlaceFault {
 }
 
 impl PlaceFault {
-    ghost use Rattle.places.specs.Fault.{number_of};
+    ghost use Rattle.places.specs.Fault.{place_fault_number};
 
     /// Its refusal number.
     pub fn number(&self) -> u8
-        ensures { result ≡ number_of self.now }
+        ensures { result ≡ place_fault_number self.now }
     {
         match self {
             PlaceFault::Far => 34,
@@ -39,9 +39,6 @@ pub fn near(highest: Place, seq: u16) -> Result<Place, PlaceFault>
     ensures found { (place : ℕ) → place < 2 ^ 48 → IsNear highest seq place → result ≡ Ok place }
     ensures far { (result ≡ Err PlaceFault.Far) ↔ IsFar highest seq }
     ensures past_end { (result ≡ Err PlaceFault.PastEnd) ↔ IsPastEnd highest seq }
-
-    // The same by a function of the two numbers.
-    ensures value { result ≡ near_place highest seq }
 {
     let ahead = seq.wrapping_sub(highest.number());
     let behind = highest.number().wrapping_sub(seq);
@@ -64,7 +61,14 @@ pub fn near_is_determined()
     ensures one { (highest seq p q : ℕ) → IsNear highest seq p → IsNear highest seq q → p ≡ q }
     ensures has_number { (highest seq p : ℕ) → IsNear highest seq p → number p ≡ seq }
 
-    // Each place within the bound is found again from its number.
-    ensures found_again { (highest p : ℕ) → IsWithin 16384 p highest → IsNear highest (number p) p }
-    ensures within { (highest seq p : ℕ) → IsNear highest seq p → IsWithin 16384 p highest }
+    // Each place within reach is found again from its number.
+    ensures found_again { (highest p : ℕ) → IsWithin reach p highest → IsNear highest (number p) p }
+    ensures within { (highest seq p : ℕ) → IsNear highest seq p → IsWithin reach p highest }
+
+    // Of a near place, a number that is far, and one past the end, exactly one holds.
+    ensures some { (highest seq : ℕ) → seq < 2 ^ 16
+        → ((place : ℕ) × (place < 2 ^ 48) × IsNear highest seq place) ⊎ (IsFar highest seq ⊎ IsPastEnd highest seq) }
+    ensures near_not_far { (highest seq place : ℕ) → IsNear highest seq place → IsFar highest seq → ⊥ }
+    ensures near_not_past_end { (highest seq place : ℕ) → place < 2 ^ 48 → IsNear highest seq place → IsPastEnd highest seq → ⊥ }
+    ensures far_not_past_end { (highest seq : ℕ) → IsFar highest seq → IsPastEnd highest seq → ⊥ }
 {}

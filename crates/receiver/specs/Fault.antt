@@ -1,6 +1,6 @@
 -- The refusal numbers of this crate.
 use Rattle.std.specs.Prelude.{ℕ}
-use Rattle.places.specs.Fault.{number_of}
+use Rattle.places.specs.Fault.{place_fault_number}
 use Rattle.rtpwire.specs.Fault.{rtp_number, content_number}
 use Rattle.stores.specs.Fault as stores
 use Rattle.receiver.specs.declared.fault.ReceiveFault.{ReceiveFault}
@@ -12,5 +12,5 @@ receive_number refused.UnknownSource = 31
 receive_number refused.UnknownType = 32
 receive_number refused.NotStarted = 33
 receive_number (refused.Content fault) = content_number fault
-receive_number (refused.Place fault) = number_of fault
+receive_number (refused.Place fault) = place_fault_number fault
 receive_number (refused.Put fault) = stores.number_of fault

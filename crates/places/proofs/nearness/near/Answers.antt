@@ -1,7 +1,6 @@
 use Rattle.std.proofs.Common.{◌≡◌, subst, arith, rules}
 use Rattle.std.proofs.lemmas.Grind.{common_steps}
-use Rattle.places.specs.Place.{near_place}
-use Rattle.places.proofs.NearPlace.{IsAnswer, near_place_is, far_iff, past_end_iff}
+use Rattle.places.proofs.NearPlace.{IsAnswer, near_place, near_place_is, far_iff, past_end_iff}
 use Rattle.places.proofs.nearness.near.Goals as goal
 
 pub returns-then-ahead-lt-REACH-clause-far : goal.returns-then-ahead-lt-REACH-clause-far
