@@ -4,13 +4,14 @@ use Rattle.std.proofs.lemmas.List.{take_at, drop_at}
 use Rattle.std.proofs.lemmas.List.Elements.{All-head, All-tail}
 use Rattle.std.specs.List.{flat_map}
 use Rattle.byteorder.specs.Endian.{big_number}
+use Rattle.rtpwire.specs.declared.limits.TheConstants.{MAX_DATAGRAM}
 use Rattle.rtpwire.specs.Framing.{IsDatagram, frame, IsRest, BeginsTooLong, Splits, Breaks}
 use Rattle.rtpwire.proofs.Numbers.{number-again}
 
 -- a whole frame stands at the front
 record HasFrame (octets : List ℕ) : Type 0 where
   counted : 2 ≤ length octets
-  small : big_number 2 octets ≤ 1600
+  small : big_number 2 octets ≤ MAX_DATAGRAM
   there : 2 + big_number 2 octets ≤ length octets
 
 -- none does
@@ -25,12 +26,13 @@ too_long-none after is has = let above = is.above in let small = has.small in om
 
 -- the length of a frame is read
 frame-length : (datagram rest : List ℕ) → IsDatagram datagram → big_number 2 (frame datagram ++ rest) ≡ length datagram
-frame-length datagram rest fits = number-again 2 (length datagram) (datagram ++ rest) (omega arith)
+frame-length datagram rest is = let fits = is.fits in number-again 2 (length datagram) (datagram ++ rest) (omega (arith, fits))
 
 frame-there : (datagram rest octets : List ℕ) → IsDatagram datagram → octets ≡ frame datagram ++ rest → HasFrame octets
-frame-there datagram rest octets fits is =
+frame-there datagram rest octets datagram_is is =
+    let fits = datagram_is.fits in
     let size : length octets ≡ 2 + (length datagram + length rest) = ap length is ∙ omega (arith, length-append datagram rest) in
-    let read : big_number 2 octets ≡ length datagram = ap (big_number 2) is ∙ frame-length datagram rest fits in
+    let read : big_number 2 octets ≡ length datagram = ap (big_number 2) is ∙ frame-length datagram rest datagram_is in
     record { counted = omega arith; small = omega arith; there = omega arith }
 
 -- two readings agree on the first frame

@@ -1,5 +1,7 @@
 pub mod Numbers
 pub mod Words
+pub mod OctetsIn
+pub mod Carried
 pub mod Checks
 pub mod Spelled
 pub mod Seen

@@ -5,19 +5,19 @@ use Rattle.byteorder.specs.Endian.{big_bytes, big_number}
 use Rattle.byteorder.specs.Numbers.{big_number-reads_back, big_from-lt}
 
 -- each octet is below 256
-abbrev pub AreOctets : List ℕ → Type 0
-AreOctets octets = (i : ℕ) → slice_index octets i < 256
+abbrev pub EachOctet : List ℕ → Type 0
+EachOctet octets = (i : ℕ) → slice_index octets i < 256
 
-pub AreOctets-drop : (n : ℕ) (octets : List ℕ) → AreOctets octets → AreOctets (drop n octets)
-AreOctets-drop n octets all i = rw get_or-drop (all (n + i))
+pub EachOctet-drop : (n : ℕ) (octets : List ℕ) → EachOctet octets → EachOctet (drop n octets)
+EachOctet-drop n octets all i = rw get_or-drop (all (n + i))
 
 pub number-again : (n x : ℕ) (rest : List ℕ) → x < 256 ^ n → big_number n (big_bytes n x ++ rest) ≡ x
 number-again n x rest fits = big_number-reads_back n x rest fits
 
-pub number-fits : (n : ℕ) (octets : List ℕ) → AreOctets octets → big_number n octets < 256 ^ n
+pub number-fits : (n : ℕ) (octets : List ℕ) → EachOctet octets → big_number n octets < 256 ^ n
 number-fits n octets all = big_from-lt 0 n octets all
 
-pub bytes-again_2 : (octets : List ℕ) → 2 ≤ length octets → AreOctets octets → big_bytes 2 (big_number 2 octets) ≡ take 2 octets
+pub bytes-again_2 : (octets : List ℕ) → 2 ≤ length octets → EachOctet octets → big_bytes 2 (big_number 2 octets) ≡ take 2 octets
 bytes-again_2 [] long all = absurd (omega arith)
 bytes-again_2 (a ∷ []) long all = absurd (omega arith)
 bytes-again_2 (a ∷ b ∷ rest) long all =
@@ -27,7 +27,7 @@ bytes-again_2 (a ∷ b ∷ rest) long all =
     let second : (a * 256 + (b * 1 + 0)) % 256 ≡ b = omega arith in
     rw (first, second) refl
 
-pub bytes-again_4 : (octets : List ℕ) → 4 ≤ length octets → AreOctets octets → big_bytes 4 (big_number 4 octets) ≡ take 4 octets
+pub bytes-again_4 : (octets : List ℕ) → 4 ≤ length octets → EachOctet octets → big_bytes 4 (big_number 4 octets) ≡ take 4 octets
 bytes-again_4 [] long all = absurd (omega arith)
 bytes-again_4 (a ∷ []) long all = absurd (omega arith)
 bytes-again_4 (a ∷ b ∷ []) long all = absurd (omega arith)

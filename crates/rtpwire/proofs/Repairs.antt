@@ -8,11 +8,11 @@ use Rattle.rtpwire.specs.declared.content.Extension.{Extension}
 use Rattle.rtpwire.specs.Rtp.{RtpPacket, RtpSpells}
 use Rattle.rtpwire.specs.Content.{packet_of, extension_of}
 use Rattle.rtpwire.specs.Retransmission.{Repair, IsRepair, RepairSpells, repair_packet, repair_of, repair_with}
-use Rattle.rtpwire.proofs.Numbers.{AreOctets, number-again, bytes-again_2}
+use Rattle.rtpwire.proofs.Numbers.{EachOctet, number-again, bytes-again_2}
 use Rattle.rtpwire.proofs.Spelled.{spelled}
 
 -- a payload of two octets or more begins with a number
-pub number_and_rest : (payload : List ℕ) → AreOctets payload → 2 ≤ length payload → payload ≡ big_bytes 2 (big_number 2 payload) ++ drop 2 payload
+pub number_and_rest : (payload : List ℕ) → EachOctet payload → 2 ≤ length payload → payload ≡ big_bytes 2 (big_number 2 payload) ++ drop 2 payload
 number_and_rest payload all long =
     sym (ap (λ (x : List ℕ). x ++ drop 2 payload) (bytes-again_2 payload long all) ∙ take-append-drop 2 payload)
 
@@ -50,6 +50,10 @@ content_in-packet_of : (content : Content) (padding sequence payload_type ssrc :
 unfolding content_in
 content_in-packet_of content padding sequence payload_type ssrc = ap (λ (e : Option Extension). record content { extension = e }) (extension-again content.extension)
 
+-- a packet carries one content at most
+pub one_content : (c d : Content) (m n s t u v x y : ℕ) → packet_of c m s u x ≡ packet_of d n t v y → c ≡ d
+one_content c d m n s t u v x y same = sym (content_in-packet_of c m s u x) ∙ ap content_in same ∙ content_in-packet_of d n t v y
+
 -- whichever packet a reader finds in the octets is the retransmission
 pub repair-read : (content : Content) (original sequence payload_type ssrc : ℕ) (octets : List ℕ) (packet : RtpPacket)
     → RepairSpells content original sequence payload_type ssrc octets → RtpSpells packet octets → IsRepair (repair_of content original sequence payload_type ssrc) packet
@@ -63,5 +67,4 @@ one_spelled c d o p m n t u r s octets a b =
 
 -- and so one content
 pub same_content : (c d : Content) (o p m n t u r s : ℕ) → repair_of c o m t r ≡ repair_of d p n u s → c ≡ d
-same_content c d o p m n t u r s same =
-    sym (content_in-packet_of c 0 m t r) ∙ ap (λ (x : Repair). content_in x.packet) same ∙ content_in-packet_of d 0 n u s
+same_content c d o p m n t u r s same = one_content c d 0 0 m n t u r s (ap (λ (x : Repair). x.packet) same)

@@ -1,14 +1,16 @@
 -- Octets that no check refuses spell the packet that a reader sees in them.
-use Rattle.std.proofs.Common.{◌≡◌, ℕ, ◌+◌, ◌-◌, ◌*◌, ◌/◌, ◌%◌, ◌<◌, ◌≤◌, true, cond, List, [], ◌∷◌, ◌++◌, length, take, drop, slice_index, slice_range, Option, Some, None, is_some, IfSome, nat_lt, nat_le, arith, refl, sym, ◌∙◌, ap, append_assoc, inl, inr}
+use Rattle.std.proofs.Common.{◌≡◌, ℕ, ◌+◌, ◌-◌, ◌*◌, ◌/◌, ◌%◌, ◌^◌, ◌<◌, ◌≤◌, true, cond, List, [], ◌∷◌, ◌++◌, length, take, drop, slice_index, slice_range, Option, Some, None, is_some, IfSome, nat_lt, nat_le, arith, refl, sym, ◌∙◌, ap, append_assoc, inl, inr}
 use Rattle.std.proofs.Math.Seq.{take-add}
 use Rattle.std.proofs.lemmas.Bool.{lt-ltb, leb-true, leb-false, eqb-true, eqb-false, cases_Bool, cond_both}
 use Rattle.std.proofs.lemmas.List.{drop-drop, take-append-drop, length-drop, length-take, get_or-drop}
+use Rattle.std.proofs.lemmas.List.Elements.{All-take, All-drop}
 use Rattle.std.specs.Option.{option_map}
 use Rattle.byteorder.specs.Endian.{big_bytes, big_number}
 use Rattle.rtpwire.specs.Rtp.{RtpSpells, IsPacket, IsExtension, bit, first_octet, fixed_header, word_octets, extension_octets, unpadded}
 use Rattle.rtpwire.specs.RtpChecks.{is_padded, is_extended, source_count, sources_end, word_count, header_end, padding_count, rtp_fault}
 use Rattle.rtpwire.specs.RtpReading.{words_at, extension_in, packet_in}
-use Rattle.rtpwire.proofs.Numbers.{AreOctets, AreOctets-drop, number-fits, bytes-again_2, bytes-again_4}
+use Rattle.rtpwire.proofs.Numbers.{EachOctet, EachOctet-drop, number-fits, bytes-again_2, bytes-again_4}
+use Rattle.rtpwire.proofs.OctetsIn.{from_each}
 use Rattle.rtpwire.proofs.Words.{length-words_at, words_at-words, word_octets-words_at}
 use Rattle.rtpwire.proofs.Checks.{Passes, passed}
 use Rattle.rtpwire.proofs.Spelled.{regrouped}
@@ -65,7 +67,7 @@ same_header : {a a' b b' : ℕ} {s s' t t' r r' : List ℕ} → a ≡ a' → b �
 same_header {a' = a'} {b' = b'} {s' = s'} {t' = t'} {r' = r'} a b s t r =
     rw (a, b, s, t, r) (ap (λ (x : List ℕ). a' ∷ b' ∷ x) (append_assoc s' t' r'))
 
-header_seen : (octets : List ℕ) → AreOctets octets → Passes octets → fixed_header (packet_in octets) ≡ take 12 octets
+header_seen : (octets : List ℕ) → EachOctet octets → Passes octets → fixed_header (packet_in octets) ≡ take 12 octets
 header_seen octets all ok =
     let long = ok.long in
     let left : (k : ℕ) → length (drop k octets) ≡ length octets - k = λ k. length-drop k octets in
@@ -77,9 +79,9 @@ header_seen octets all ok =
     ∙ ap (λ (x : List ℕ). take 2 (drop 2 octets) ++ x) (take-add 4 4 (drop 4 octets)
     ∙ ap (λ (x : List ℕ). take 4 (drop 4 octets) ++ take 4 x) (drop-drop 4 4 octets))) in
     same_header (first_seen octets ok) (second_seen (slice_index octets 1) (all 1))
-    (bytes-again_2 (drop 2 octets) (omega (arith, left 2)) (AreOctets-drop 2 octets all))
-    (bytes-again_4 (drop 4 octets) (omega (arith, left 4)) (AreOctets-drop 4 octets all))
-    (bytes-again_4 (drop 8 octets) (omega (arith, left 8)) (AreOctets-drop 8 octets all))
+    (bytes-again_2 (drop 2 octets) (omega (arith, left 2)) (EachOctet-drop 2 octets all))
+    (bytes-again_4 (drop 4 octets) (omega (arith, left 4)) (EachOctet-drop 4 octets all))
+    (bytes-again_4 (drop 8 octets) (omega (arith, left 8)) (EachOctet-drop 8 octets all))
     ∙ ap (λ (x : List ℕ). x ++ rest) (sym (two octets (omega arith)))
     ∙ sym parts
 
@@ -90,25 +92,25 @@ extension_at octets = (big_number 2 (drop (sources_end octets) octets), words_at
 same_parts : {a a' b b' c c' : List ℕ} → a ≡ a' → b ≡ b' → c ≡ c' → a ++ b ++ c ≡ a' ++ b' ++ c'
 same_parts a b c = cc
 
-extension_spelled : (octets : List ℕ) (start words : ℕ) → AreOctets octets → words ≡ big_number 2 (drop (start + 2) octets) → start + 4 + 4 * words ≤ length octets
+extension_spelled : (octets : List ℕ) (start words : ℕ) → EachOctet octets → words ≡ big_number 2 (drop (start + 2) octets) → start + 4 + 4 * words ≤ length octets
     → extension_octets (Some (big_number 2 (drop start octets), words_at words (drop (start + 4) octets))) ≡ take (4 + 4 * words) (drop start octets)
 extension_spelled octets start words all counted fits =
     let left : (k : ℕ) → length (drop k octets) ≡ length octets - k = λ k. length-drop k octets in
     let profile : big_bytes 2 (big_number 2 (drop start octets)) ≡ take 2 (drop start octets) =
-    bytes-again_2 (drop start octets) (omega (arith, left start)) (AreOctets-drop start octets all) in
+    bytes-again_2 (drop start octets) (omega (arith, left start)) (EachOctet-drop start octets all) in
     let count : big_bytes 2 (length (words_at words (drop (start + 4) octets))) ≡ take 2 (drop 2 (drop start octets)) =
     ap (big_bytes 2) (length-words_at words (drop (start + 4) octets) ∙ counted)
-    ∙ bytes-again_2 (drop (start + 2) octets) (omega (arith, left (start + 2))) (AreOctets-drop (start + 2) octets all)
+    ∙ bytes-again_2 (drop (start + 2) octets) (omega (arith, left (start + 2))) (EachOctet-drop (start + 2) octets all)
     ∙ ap (take 2) (sym (drop-drop 2 start octets)) in
     let list : word_octets (words_at words (drop (start + 4) octets)) ≡ take (4 * words) (drop 4 (drop start octets)) =
-    word_octets-words_at words (drop (start + 4) octets) (omega (arith, left (start + 4))) (AreOctets-drop (start + 4) octets all)
+    word_octets-words_at words (drop (start + 4) octets) (omega (arith, left (start + 4))) (EachOctet-drop (start + 4) octets all)
     ∙ ap (take (4 * words)) (sym (drop-drop 4 start octets)) in
     let four : take 4 (drop start octets) ≡ take 2 (drop start octets) ++ take 2 (drop 2 (drop start octets)) = take-add 2 2 (drop start octets) in
     same_parts profile count list
     ∙ ap (λ (x : List ℕ). x ++ take (4 * words) (drop 4 (drop start octets))) (sym four)
     ∙ sym (take-add 4 (4 * words) (drop start octets))
 
-extension_seen : (octets : List ℕ) → AreOctets octets → Passes octets → extension_octets (extension_in octets) ≡ slice_range octets (sources_end octets) (header_end octets)
+extension_seen : (octets : List ℕ) → EachOctet octets → Passes octets → extension_octets (extension_in octets) ≡ slice_range octets (sources_end octets) (header_end octets)
 extension_seen octets all ok =
     elim (cases_Bool (is_extended octets)) [
       | inl extended ↦
@@ -131,7 +133,7 @@ header_after octets =
     cond_both (is_extended octets) (sources_end octets + 4 + 4 * word_count octets) (sources_end octets) (λ end. sources_end octets ≤ end)
     (λ _. omega arith) (λ _. omega arith)
 
-padding_fits : (octets : List ℕ) → AreOctets octets → Passes octets → (padding_count octets < 256) × (header_end octets + padding_count octets ≤ length octets)
+padding_fits : (octets : List ℕ) → EachOctet octets → Passes octets → (padding_count octets < 256) × (header_end octets + padding_count octets ≤ length octets)
 padding_fits octets all ok =
     let header = ok.header in
     elim (cases_Bool (is_padded octets)) [
@@ -151,29 +153,30 @@ padding_seen octets some =
       | inr plain ↦ let none : padding_count octets ≡ 0 = ap (λ b. cond b (slice_index octets (length octets - 1)) 0) plain in absurd (omega (arith, none, some))
     ]
 
-pub packet_fits : (octets : List ℕ) → AreOctets octets → Passes octets → IsPacket (packet_in octets)
+pub packet_fits : (octets : List ℕ) → EachOctet octets → Passes octets → IsPacket (packet_in octets)
 packet_fits octets all ok =
     record {
       payload_type = omega arith;
-      sequence = number-fits 2 (drop 2 octets) (AreOctets-drop 2 octets all);
-      timestamp = number-fits 4 (drop 4 octets) (AreOctets-drop 4 octets all);
-      ssrc = number-fits 4 (drop 8 octets) (AreOctets-drop 8 octets all);
+      sequence = number-fits 2 (drop 2 octets) (EachOctet-drop 2 octets all);
+      timestamp = number-fits 4 (drop 4 octets) (EachOctet-drop 4 octets all);
+      ssrc = number-fits 4 (drop 8 octets) (EachOctet-drop 8 octets all);
       source_count = omega (arith, length-words_at (source_count octets) (drop 12 octets));
-      sources = words_at-words (source_count octets) (drop 12 octets) (AreOctets-drop 12 octets all);
+      sources = words_at-words (source_count octets) (drop 12 octets) (EachOctet-drop 12 octets all);
       extension = cond_both (is_extended octets) (Some (extension_at octets)) None (λ e. IfSome e IsExtension)
           (λ _. record {
-            profile = number-fits 2 (drop (sources_end octets) octets) (AreOctets-drop (sources_end octets) octets all);
-            count = omega (arith, length-words_at (word_count octets) (drop (sources_end octets + 4) octets), number-fits 2 (drop (sources_end octets + 2) octets) (AreOctets-drop (sources_end octets + 2) octets all));
-            words = words_at-words (word_count octets) (drop (sources_end octets + 4) octets) (AreOctets-drop (sources_end octets + 4) octets all);
+            profile = number-fits 2 (drop (sources_end octets) octets) (EachOctet-drop (sources_end octets) octets all);
+            count = omega (arith, length-words_at (word_count octets) (drop (sources_end octets + 4) octets), number-fits 2 (drop (sources_end octets + 2) octets) (EachOctet-drop (sources_end octets + 2) octets all));
+            words = words_at-words (word_count octets) (drop (sources_end octets + 4) octets) (EachOctet-drop (sources_end octets + 4) octets all);
           })
           (λ _. tt);
+      payload = All-take (λ o. o < 2 ^ 8) _ _ (All-drop (λ o. o < 2 ^ 8) (header_end octets) octets (from_each octets all));
       padding = (padding_fits octets all ok).0;
       padded = λ some. let counted = ok.padding (padding_seen octets some) in
           omega (arith, counted.1, length-take (length octets - padding_count octets - header_end octets) (drop (header_end octets) octets), length-drop (header_end octets) octets);
     }
 
 -- the words of the extension as they lie in the octets, from where the payload begins
-pub extension_again : (octets : List ℕ) (start payload_start profile : ℕ) → AreOctets octets → Passes octets → is_extended octets ≡ true
+pub extension_again : (octets : List ℕ) (start payload_start profile : ℕ) → EachOctet octets → Passes octets → is_extended octets ≡ true
     → start ≡ sources_end octets → payload_start ≡ header_end octets → profile ≡ big_number 2 (drop start octets)
     → ◌≡◌ {A = Option (ℕ × List ℕ)} (Some (profile, take (payload_start - (start + 4)) (drop (start + 4) octets)))
     (option_map {U = ℕ × List ℕ} (λ e. (e.0, word_octets e.1)) (extension_in octets))
@@ -183,7 +186,7 @@ extension_again octets start payload_start profile all ok extended sources paylo
     let fits = ok.header in
     let size : payload_start - (sources_end octets + 4) ≡ 4 * word_count octets = omega (arith, payload_at, end) in
     let words : word_octets (words_at (word_count octets) (drop (sources_end octets + 4) octets)) ≡ take (4 * word_count octets) (drop (sources_end octets + 4) octets) =
-    word_octets-words_at (word_count octets) (drop (sources_end octets + 4) octets) (omega (arith, end, fits, length-drop (sources_end octets + 4) octets)) (AreOctets-drop (sources_end octets + 4) octets all) in
+    word_octets-words_at (word_count octets) (drop (sources_end octets + 4) octets) (omega (arith, end, fits, length-drop (sources_end octets + 4) octets)) (EachOctet-drop (sources_end octets + 4) octets all) in
     let at : ℕ = sources_end octets in
     ap (λ x. Some (x, take (payload_start - (start + 4)) (drop (start + 4) octets))) read
     ∙ ap (λ k. Some (big_number 2 (drop k octets), take (payload_start - (k + 4)) (drop (k + 4) octets))) sources
@@ -191,7 +194,7 @@ extension_again octets start payload_start profile all ok extended sources paylo
     ∙ ap (λ (x : List ℕ). Some (big_number 2 (drop at octets), x)) (sym words)
     ∙ ap (λ b. option_map {U = ℕ × List ℕ} (λ (e : ℕ × List ℕ). (e.0, word_octets e.1)) (cond b (Some (extension_at octets)) None)) (sym extended)
 
-pub seen-spelled : (octets : List ℕ) → AreOctets octets → rtp_fault octets ≡ None → RtpSpells (packet_in octets) octets
+pub seen-spelled : (octets : List ℕ) → EachOctet octets → rtp_fault octets ≡ None → RtpSpells (packet_in octets) octets
 seen-spelled octets all none =
     let ok = passed octets none in
     let p = packet_in octets in
@@ -199,7 +202,7 @@ seen-spelled octets all none =
     let fits = (padding_fits octets all ok).1 in
     let sources = ok.sources in
     let words : word_octets p.sources ≡ slice_range octets 12 (sources_end octets) =
-    word_octets-words_at (source_count octets) (drop 12 octets) (omega (arith, sources, length-drop 12 octets)) (AreOctets-drop 12 octets all)
+    word_octets-words_at (source_count octets) (drop 12 octets) (omega (arith, sources, length-drop 12 octets)) (EachOctet-drop 12 octets all)
     ∙ ap (λ k. take k (drop 12 octets)) (omega arith) in
     let from_header : p.payload ++ rest ≡ drop (header_end octets) octets = join octets (header_end octets) (length octets - padding_count octets) (omega (arith, fits)) in
     let from_sources : extension_octets p.extension ++ drop (header_end octets) octets ≡ drop (sources_end octets) octets =
@@ -219,6 +222,7 @@ seen-spelled octets all none =
       packet = packet_fits octets all ok;
       padding = rest;
       padded = record {
+        are_octets = All-drop (λ o. o < 2 ^ 8) _ octets (from_each octets all);
         as_long = length-drop (length octets - padding_count octets) octets ∙ omega (arith, fits);
         counted = λ some.
             let last : slice_index octets (length octets - 1) ≡ padding_count octets =

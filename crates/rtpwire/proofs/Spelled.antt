@@ -96,13 +96,15 @@ pub spelled : (p : RtpPacket) (octets : List ℕ) → RtpSpells p octets → Spe
 spelled p octets s =
     let k = s.packet in
     let n = length p.sources in
+    let most = k.source_count in
+    let few : n < 16 = omega (arith, most) in
     let split : octets ≡ fixed_header p ++ tail_of p s.padding = s.spelled ∙ regrouped p s.padding in
-    let count : source_count octets ≡ n = ap source_count split ∙ first-count (nat_lt 0 p.padding) (is_some p.extension) n k.source_count in
-    let version : version_of octets ≡ 2 = ap version_of split ∙ first-version (nat_lt 0 p.padding) (is_some p.extension) n k.source_count in
+    let count : source_count octets ≡ n = ap source_count split ∙ first-count (nat_lt 0 p.padding) (is_some p.extension) n few in
+    let version : version_of octets ≡ 2 = ap version_of split ∙ first-version (nat_lt 0 p.padding) (is_some p.extension) n few in
     let padded : is_padded octets ≡ nat_lt 0 p.padding =
-    ap is_padded split ∙ ap (λ x. x == 1) (first-padded (nat_lt 0 p.padding) (is_some p.extension) n k.source_count) ∙ bit-again (nat_lt 0 p.padding) in
+    ap is_padded split ∙ ap (λ x. x == 1) (first-padded (nat_lt 0 p.padding) (is_some p.extension) n few) ∙ bit-again (nat_lt 0 p.padding) in
     let extension : is_extended octets ≡ is_some p.extension =
-    ap is_extended split ∙ ap (λ x. x == 1) (first-extended (nat_lt 0 p.padding) (is_some p.extension) n k.source_count) ∙ bit-again (is_some p.extension) in
+    ap is_extended split ∙ ap (λ x. x == 1) (first-extended (nat_lt 0 p.padding) (is_some p.extension) n few) ∙ bit-again (is_some p.extension) in
     let sources : sources_end octets ≡ 12 + 4 * n = ap (λ x. 12 + 4 * x) count in
     let words = length-word_octets p.sources in
     let after_sources : drop (sources_end octets) octets ≡ extension_octets p.extension ++ (p.payload ++ s.padding) =

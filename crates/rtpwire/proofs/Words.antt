@@ -6,7 +6,7 @@ use Rattle.std.proofs.lemmas.List.Elements.{All-nil, All-cons, All-head, All-tai
 use Rattle.byteorder.specs.Endian.{big_bytes, big_number}
 use Rattle.rtpwire.specs.Rtp.{word_octets}
 use Rattle.rtpwire.specs.RtpReading.{words_at}
-use Rattle.rtpwire.proofs.Numbers.{AreOctets, AreOctets-drop, number-again, number-fits, bytes-again_4}
+use Rattle.rtpwire.proofs.Numbers.{EachOctet, EachOctet-drop, number-again, number-fits, bytes-again_4}
 
 abbrev pub AreWords : List ℕ → Type 0
 AreWords words = All (λ w. w < 2 ^ 32) words
@@ -19,10 +19,10 @@ pub length-words_at : (n : ℕ) (octets : List ℕ) → length (words_at n octet
 length-words_at zero octets = refl
 length-words_at (suc n) octets = ap suc (length-words_at n (drop 4 octets))
 
-pub words_at-words : (n : ℕ) (octets : List ℕ) → AreOctets octets → AreWords (words_at n octets)
+pub words_at-words : (n : ℕ) (octets : List ℕ) → EachOctet octets → AreWords (words_at n octets)
 words_at-words zero octets all = All-nil (λ w. w < 2 ^ 32)
 words_at-words (suc n) octets all =
-    All-cons (λ w. w < 2 ^ 32) _ _ (number-fits 4 octets all) (words_at-words n (drop 4 octets) (AreOctets-drop 4 octets all))
+    All-cons (λ w. w < 2 ^ 32) _ _ (number-fits 4 octets all) (words_at-words n (drop 4 octets) (EachOctet-drop 4 octets all))
 
 -- what was spelled is read
 pub words_at-word_octets : (words tail : List ℕ) → AreWords words → words_at (length words) (word_octets words ++ tail) ≡ words
@@ -33,13 +33,13 @@ words_at-word_octets (w ∷ words) tail fit =
     rw (first, rest) refl
 
 -- what is read spells what was there
-pub word_octets-words_at : (n : ℕ) (octets : List ℕ) → 4 * n ≤ length octets → AreOctets octets → word_octets (words_at n octets) ≡ take (4 * n) octets
+pub word_octets-words_at : (n : ℕ) (octets : List ℕ) → 4 * n ≤ length octets → EachOctet octets → word_octets (words_at n octets) ≡ take (4 * n) octets
 word_octets-words_at zero octets long all = refl
 word_octets-words_at (suc n) octets long all =
     let left : length (drop 4 octets) ≡ length octets - 4 = length-drop 4 octets in
     let first : big_bytes 4 (big_number 4 octets) ≡ take 4 octets = bytes-again_4 octets (omega arith) all in
     let rest : word_octets (words_at n (drop 4 octets)) ≡ take (4 * n) (drop 4 octets) =
-    word_octets-words_at n (drop 4 octets) (omega arith) (AreOctets-drop 4 octets all) in
+    word_octets-words_at n (drop 4 octets) (omega arith) (EachOctet-drop 4 octets all) in
     let size : 4 * suc n ≡ 4 + 4 * n = omega arith in
     ap (λ (x : List ℕ). x ++ word_octets (words_at n (drop 4 octets))) first
     ∙ ap (λ (x : List ℕ). take 4 octets ++ x) rest

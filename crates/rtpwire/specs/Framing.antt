@@ -2,10 +2,14 @@
 use Rattle.std.specs.Prelude.{◌≡◌, ℕ, Bool, ◌+◌, ◌<◌, ◌≤◌, List, ◌++◌, length, All}
 use Rattle.std.specs.List.{flat_map}
 use Rattle.byteorder.specs.Endian.{big_bytes, big_number}
+use Rattle.rtpwire.specs.declared.limits.TheConstants.{MAX_DATAGRAM}
+use Rattle.rtpwire.specs.Rtp.{AreOctets}
 
--- what a frame holds (a limit of this project: the standard's is 65535)
-abbrev pub IsDatagram : List ℕ → Type 0
-IsDatagram datagram = length datagram ≤ 1600
+-- What a frame holds: octets, and not more than a datagram has (a limit of this project: the standard's is
+-- 65535).
+pub record IsDatagram (datagram : List ℕ) : Type 0 where
+  pub are_octets : AreOctets datagram
+  pub fits : length datagram ≤ MAX_DATAGRAM
 
 -- a datagram's length in two octets, and the datagram
 abbrev pub frame : List ℕ → List ℕ
@@ -19,13 +23,13 @@ pub record Frames (datagrams : List (List ℕ)) (octets : List ℕ) : Type 0 whe
 -- A proper beginning of one frame: not both octets of a length, or after a length of at most 1600 fewer
 -- octets than it says.
 pub record IsRest (octets : List ℕ) : Type 0 where
-  pub short : 2 ≤ length octets → big_number 2 octets ≤ 1600
+  pub short : 2 ≤ length octets → big_number 2 octets ≤ MAX_DATAGRAM
   pub partial : 2 ≤ length octets → length octets < 2 + big_number 2 octets
 
 -- A length above 1600 stands where a frame begins.
 pub record BeginsTooLong (octets : List ℕ) : Type 0 where
   pub counted : 2 ≤ length octets
-  pub above : 1600 < big_number 2 octets
+  pub above : MAX_DATAGRAM < big_number 2 octets
 
 -- The stream is the frames of these datagrams, and then a proper beginning of one more.
 pub record Splits (datagrams : List (List ℕ)) (rest stream : List ℕ) : Type 0 where

@@ -1,8 +1,17 @@
 -- An RTP packet as octets (RFC 3550, sections 5.1 and 5.3.1). Octets are numbers, and `big_bytes n x`
 -- is the number x in n octets in network order.
-use Rattle.std.specs.Prelude.{◌≡◌, ℕ, Bool, ◌+◌, ◌-◌, ◌*◌, ◌^◌, ◌<◌, nat_lt, List, [], ◌∷◌, ◌++◌, length, replicate, slice_index, ◌==◌, All, Option, Some, None, is_some, IfSome, if◌then◌else◌}
+use Rattle.std.specs.Prelude.{◌≡◌, ℕ, Bool, ◌+◌, ◌-◌, ◌*◌, ◌^◌, ◌<◌, ◌≤◌, nat_lt, List, [], ◌∷◌, ◌++◌, length, replicate, slice_index, ◌==◌, All, Option, Some, None, is_some, IfSome, if◌then◌else◌}
 use Rattle.std.specs.List.{flat_map}
 use Rattle.byteorder.specs.Endian.{big_bytes}
+use Rattle.rtpwire.specs.declared.limits.TheConstants.{MAX_SOURCES}
+
+-- octets
+abbrev pub AreOctets : List ℕ → Type 0
+AreOctets octets = All (λ o. o < 2 ^ 8) octets
+
+-- words of 32 bits
+abbrev pub AreWords : List ℕ → Type 0
+AreWords words = All (λ w. w < 2 ^ 32) words
 
 -- what a packet says
 pub record RtpPacket : Type 0 where
@@ -51,6 +60,7 @@ unpadded p = header p ++ p.payload
 
 -- so many octets of padding: any octets, of which the last is their count
 pub record IsPadding (count : ℕ) (octets : List ℕ) : Type 0 where
+  pub are_octets : AreOctets octets
   pub as_long : length octets ≡ count
   pub counted : 0 < count → slice_index octets (count - 1) ≡ count
 
@@ -58,7 +68,7 @@ pub record IsPadding (count : ℕ) (octets : List ℕ) : Type 0 where
 pub record IsExtension (e : ℕ × List ℕ) : Type 0 where
   pub profile : e.0 < 2 ^ 16
   pub count : length e.1 < 2 ^ 16
-  pub words : All (λ w. w < 2 ^ 32) e.1
+  pub words : AreWords e.1
 
 -- What the fields of a packet can hold. Padding needs a payload (a choice of this project: the standard
 -- leaves open whether a packet may be all padding).
@@ -67,10 +77,11 @@ pub record IsPacket (p : RtpPacket) : Type 0 where
   pub sequence : p.sequence < 2 ^ 16
   pub timestamp : p.timestamp < 2 ^ 32
   pub ssrc : p.ssrc < 2 ^ 32
-  pub source_count : length p.sources < 16
-  pub sources : All (λ w. w < 2 ^ 32) p.sources
+  pub source_count : length p.sources ≤ MAX_SOURCES
+  pub sources : AreWords p.sources
   pub extension : IfSome p.extension IsExtension
-  pub padding : p.padding < 256
+  pub payload : AreOctets p.payload
+  pub padding : p.padding < 2 ^ 8
   pub padded : 0 < p.padding → 0 < length p.payload
 
 -- The octets spell the packet.

@@ -5,13 +5,14 @@ ghost use Rattle.rtpwire.specs.Content.{packet_of, extension_of, IsTooLong};
 ghost use Rattle.rtpwire.specs.RtpReading.{words_at};
 
 use crate::fault::ContentFault;
+use crate::limits::{MAX_DATAGRAM, MAX_PAYLOAD, MAX_SOURCES, MAX_WORDS};
 use crate::octets::u32_at;
 use crate::retransmission::RtxView;
 use crate::rtp::RtpView;
 use arrayvec::ArrayVec;
 
 /// A datagram as octets. The largest that is written has 1595.
-pub type Datagram = ArrayVec<u8, 1600>;
+pub type Datagram = ArrayVec<u8, MAX_DATAGRAM>;
 
 /// A header extension (RFC 3550, section 5.3.1).
 #[derive(Debug, Drop, PartialEq, Eq)]
@@ -19,20 +20,20 @@ pub struct Extension {
     /// The 16 bits that the profile in use defines.
     pub profile: u16,
     /// Its words of 32 bits.
-    pub words: ArrayVec<u32, 16>,
+    pub words: ArrayVec<u32, MAX_WORDS>,
 }
 
 /// What a packet carries, whatever its sequence number, type, SSRC and padding.
 #[derive(Debug, Drop, PartialEq, Eq)]
 pub struct Content {
     /// The payload, in octets.
-    pub payload: ArrayVec<u8, 1200>,
+    pub payload: ArrayVec<u8, MAX_PAYLOAD>,
     /// The RTP timestamp, in units of the media's clock.
     pub timestamp: u32,
     /// The marker bit.
     pub marker: bool,
     /// The CSRC identifiers: the contributing sources.
-    pub sources: ArrayVec<u32, 15>,
+    pub sources: ArrayVec<u32, MAX_SOURCES>,
     /// The header extension, if there is one.
     pub extension: Option<Extension>,
 }
@@ -116,7 +117,7 @@ fn copy_items<T: Copy + Default + Drop, const N: usize>(items: &ArrayVec<T, N>) 
 }
 
 /// The CSRC list of a packet that was read.
-fn sources_in(view: &RtpView<'_>) -> ArrayVec<u32, 15>
+fn sources_in(view: &RtpView<'_>) -> ArrayVec<u32, MAX_SOURCES>
     ensures { result.items ≡ view.now.sources }
 {
     let mut sources = ArrayVec::new();
@@ -129,7 +130,7 @@ fn sources_in(view: &RtpView<'_>) -> ArrayVec<u32, 15>
 /// The header extension of a packet that was read.
 fn extension_in(view: &RtpView<'_>) -> Result<Option<Extension>, ContentFault>
     ensures ok { IfOk result (λ extension. option_map extension_of extension ≡ view.now.extension) }
-    ensures err { IsErr result ↔ IsSomeAnd view.now.extension (λ e. 16 < length e.1) }
+    ensures err { IsErr result ↔ IsSomeAnd view.now.extension (λ e. MAX_WORDS < length e.1) }
 {
     match view.extension() {
         Some((profile, octets)) => {
@@ -141,12 +142,12 @@ fn extension_in(view: &RtpView<'_>) -> Result<Option<Extension>, ContentFault>
 }
 
 /// The words of 32 bits of a header extension, of which there are at most 16.
-fn words_in(octets: &[u8]) -> Result<ArrayVec<u32, 16>, ContentFault>
+fn words_in(octets: &[u8]) -> Result<ArrayVec<u32, MAX_WORDS>, ContentFault>
     ensures ok { IfOk result (λ words. words.items ≡ words_at (length octets.now / 4) octets.now) }
-    ensures err { IsErr result ↔ (16 < length octets.now / 4) }
+    ensures err { IsErr result ↔ (MAX_WORDS < length octets.now / 4) }
 {
     let count = octets.len() / 4;
-    if count > 16 {
+    if count > MAX_WORDS {
         return Err(ContentFault::TooLong);
     }
     let mut words = ArrayVec::new();

@@ -5,17 +5,15 @@ ghost use Rattle.rtpwire.specs.Framing.{IsDatagram, frame, IsRest, BeginsTooLong
 
 use crate::content::Datagram;
 use crate::fault::FrameFault;
-use crate::octets::{push_octets, push_u16, u16_at};
+use crate::limits::{MAX_DATAGRAM, MAX_FRAME};
+use crate::octets::{are_octets, push_octets, push_u16, u16_at};
 use arrayvec::ArrayVec;
 use std::marker::Model;
-
-/// How many octets a datagram has at most (a limit of this project).
-const LARGEST: usize = 1600;
 
 /// Takes the datagrams of a stream apart, in whatever pieces its octets come. It takes no memory.
 #[derive(Drop)]
 pub struct Deframer {
-    held: ArrayVec<u8, 1602>,
+    held: ArrayVec<u8, MAX_FRAME>,
     has_failed: bool,
 }
 
@@ -66,7 +64,7 @@ impl Deframer {
         }
         // Until both octets of a length are there, at least they are missing.
         let length = length_of(&self.held, piece).unwrap_or(0);
-        if length > LARGEST {
+        if length > MAX_DATAGRAM {
             self.has_failed = true;
             return Err(FrameFault::FrameTooLong);
         }
@@ -102,13 +100,14 @@ impl Deframer {
 /// The datagram of a whole frame.
 fn datagram_of(octets: &[u8]) -> Datagram
     requires counted { 2 ≤ length octets.now }
-    requires fits { big_number 2 octets.now ≤ 1600 }
+    requires fits { big_number 2 octets.now ≤ MAX_DATAGRAM }
     requires whole { length octets.now ≡ 2 + big_number 2 octets.now }
     ensures datagram { IsDatagram result.items }
     ensures frame { octets.now ≡ frame result.items }
 {
     let mut datagram = Datagram::new();
     push_octets(&mut datagram, &octets[2..]);
+    are_octets(&datagram);
     datagram
 }
 
@@ -139,10 +138,12 @@ fn octet_at(held: &[u8], piece: &[u8], index: usize) -> u8
 }
 
 /// The frame of a datagram of at most 1600 octets.
-pub fn write_frame(datagram: &[u8]) -> ArrayVec<u8, 1602>
-    requires { length datagram.now ≤ 1600 }
-    ensures { result.items ≡ frame datagram.now }
+pub fn write_frame(datagram: &[u8]) -> ArrayVec<u8, MAX_FRAME>
+    requires { length datagram.now ≤ MAX_DATAGRAM }
+    ensures datagram { IsDatagram datagram.now }
+    ensures frame { result.items ≡ frame datagram.now }
 {
+    are_octets(datagram);
     let mut out = ArrayVec::new();
     push_u16(&mut out, datagram.len() as u16);
     push_octets(&mut out, datagram);

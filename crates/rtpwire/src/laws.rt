@@ -1,10 +1,17 @@
 //! Laws on what octets spell. These functions compute nothing: their contracts are the laws, for callers
 //! of the readers and writers.
-ghost use Rattle.std.specs.Prelude.{◌≡◌, ◌↔◌, ℕ, List, [], ◌∷◌, ◌++◌};
+ghost use Rattle.std.specs.Prelude.{◌≡◌, ◌↔◌, ◌<◌, ◌≤◌, ◌^◌, ℕ, List, [], ◌∷◌, ◌++◌, length, Some, None};
 ghost use Rattle.rtpwire.specs.declared.content.Content.{Content};
-ghost use Rattle.rtpwire.specs.Rtp.{RtpPacket, RtpSpells, IsPacket, unpadded, written};
-ghost use Rattle.rtpwire.specs.Retransmission.{IsRepair, RepairSpells, repair_of, repair_packet};
+ghost use Rattle.rtpwire.specs.declared.fault.RtpFault.{RtpFault};
+ghost use Rattle.rtpwire.specs.Rtp.{RtpPacket, RtpSpells, IsPacket, AreOctets, unpadded, written};
+ghost use Rattle.rtpwire.specs.RtpChecks.{rtp_fault};
+ghost use Rattle.rtpwire.specs.RtpReading.{packet_in};
+ghost use Rattle.rtpwire.specs.Content.{IsContent, IsTooLong, packet_of};
+ghost use Rattle.rtpwire.specs.Retransmission.{Repair, IsRepair, RepairSpells, repair_of, repair_packet};
 ghost use Rattle.rtpwire.specs.Framing.{IsDatagram, frame, Frames, IsRest, BeginsTooLong, Splits, Breaks};
+
+use crate::content::Content;
+use crate::octets::{are_octets, are_words, is_half_word, is_word};
 
 /// Octets and packets determine each other as far as they can.
 ///
@@ -15,7 +22,45 @@ pub fn spelling_is_determined()
     ensures one { (p q : RtpPacket) (octets : List ℕ) → RtpSpells p octets → RtpSpells q octets → p ≡ q }
     // What is written spells the packet.
     ensures written { (p : RtpPacket) → IsPacket p → RtpSpells p (written p) }
+    // What spells a packet is octets, and passes each check; so what a check refuses spells nothing.
+    ensures are_octets { (p : RtpPacket) (octets : List ℕ) → RtpSpells p octets → AreOctets octets }
+    ensures passes { (p : RtpPacket) (octets : List ℕ) → RtpSpells p octets → rtp_fault octets ≡ None }
+    ensures refused { (p : RtpPacket) (octets : List ℕ) (fault : RtpFault)
+        → rtp_fault octets ≡ Some fault → RtpSpells p octets → ⊥ }
+    // Octets that pass each check spell the packet whose fields stand in them, and this packet is all that they spell.
+    ensures seen { (octets : List ℕ) → AreOctets octets → rtp_fault octets ≡ None → RtpSpells (packet_in octets) octets }
+    ensures only_seen { (p : RtpPacket) (octets : List ℕ) → RtpSpells p octets → packet_in octets ≡ p }
 {}
+
+/// What contents and the packets that carry them say of each other.
+pub fn content_is_determined()
+    // A packet carries at most one content, and its own numbers.
+    ensures one { (c d : Content) (m n s t u v x y : ℕ)
+        → packet_of c m s u x ≡ packet_of d n t v y
+        → (c ≡ d) × (m ≡ n) × (s ≡ t) × (u ≡ v) × (x ≡ y) }
+    // No packet that carries a content is too long for one.
+    ensures held { (content : Content) (padding sequence payload_type ssrc : ℕ) → IsContent content
+        → IsTooLong (packet_of content padding sequence payload_type ssrc) → ⊥ }
+    // Each content can be carried, under any numbers that have room in a packet.
+    ensures carried { (content : Content) (padding sequence payload_type ssrc : ℕ) → IsContent content
+        → padding < 2 ^ 8 → (0 < padding → 0 < length content.payload.items)
+        → sequence < 2 ^ 16 → payload_type < 128 → ssrc < 2 ^ 32
+        → IsPacket (packet_of content padding sequence payload_type ssrc) }
+{}
+
+/// What every content holds: at most 1200 octets of payload, 15 sources and 16 words of a header extension, and
+/// in each no more than its type has room for. It computes nothing.
+pub fn content_is_bounded(content: &Content)
+    ensures { IsContent content.now }
+{
+    are_octets(&content.payload);
+    is_word(content.timestamp);
+    are_words(&content.sources);
+    if let Some(extension) = &content.extension {
+        is_half_word(extension.profile);
+        are_words(&extension.words);
+    }
+}
 
 /// Octets and retransmissions determine each other.
 ///
@@ -35,6 +80,8 @@ pub fn repair_is_determined()
         (packet : RtpPacket) → RtpSpells packet octets
         → (RepairSpells content original sequence payload_type ssrc octets
         ↔ IsRepair (repair_of content original sequence payload_type ssrc) packet) }
+    // The packet of a retransmission has a payload: the two octets of the original's number at least.
+    ensures long { (repair : Repair) (packet : RtpPacket) → IsRepair repair packet → 2 ≤ length packet.payload }
 {}
 
 /// In whatever pieces a stream comes, its datagrams are the same.

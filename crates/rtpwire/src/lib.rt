@@ -6,6 +6,7 @@ mod content;
 mod fault;
 mod framing;
 mod laws;
+mod limits;
 mod octets;
 mod retransmission;
 mod rtp;
@@ -15,7 +16,11 @@ mod write;
 pub use content::{Content, Datagram, Extension};
 pub use fault::{ConfigFault, ContentFault, FrameFault, RtpFault};
 pub use framing::{Deframer, write_frame};
-pub use laws::{framing_is_determined, repair_is_determined, spelling_is_determined};
+pub use laws::{
+    content_is_bounded, content_is_determined, framing_is_determined, repair_is_determined,
+    spelling_is_determined,
+};
+pub use limits::{MAX_DATAGRAM, MAX_FRAME, MAX_HEADER, MAX_PAYLOAD, MAX_SOURCES, MAX_WORDS};
 pub use octets::{push_octets, push_u16, push_u32, u16_at, u32_at};
 pub use retransmission::{RtxView, write_repair};
 pub use rtp::RtpView;

@@ -1,7 +1,7 @@
 //! Numbers in network order, as they are read and written.
-ghost use Rattle.std.specs.Prelude.{◌≡◌, ◌+◌, ◌*◌, ◌≤◌, ◌^◌, ◌<◌, ◌++◌, length, drop, All};
+ghost use Rattle.std.specs.Prelude.{◌≡◌, ◌+◌, ◌*◌, ◌<◌, ◌≤◌, ◌^◌, ◌++◌, length, drop};
 ghost use Rattle.byteorder.specs.Endian.{big_bytes, big_number};
-ghost use Rattle.rtpwire.specs.Rtp.{word_octets};
+ghost use Rattle.rtpwire.specs.Rtp.{AreOctets, AreWords, word_octets};
 
 use arrayvec::ArrayVec;
 use byteorder::{ByteOrder, NetworkEndian};
@@ -55,9 +55,29 @@ pub(crate) fn push_words<const N: usize>(out: &mut ArrayVec<u8, N>, words: &[u32
     requires { length out.old.items + 4 * length words.now ≤ N }
     ensures items { out.new.items ≡ out.old.items ++ word_octets words.now }
     ensures len { length out.new.items ≡ length out.old.items + 4 * length words.now }
-    ensures are_words { All (λ w. w < 2 ^ 32) words.now }
+    ensures are_words { AreWords words.now }
 {
     for word in words {
         push_u32(out, *word);
     }
 }
+
+/// What each slice of octets holds. It computes nothing.
+pub(crate) fn are_octets(octets: &[u8])
+    ensures { AreOctets octets.now }
+{}
+
+/// What each slice of words of 32 bits holds. It computes nothing.
+pub(crate) fn are_words(words: &[u32])
+    ensures { AreWords words.now }
+{}
+
+/// What each number of 16 bits is. It computes nothing.
+pub(crate) fn is_half_word(number: u16)
+    ensures { number < 2 ^ 16 }
+{}
+
+/// What each number of 32 bits is. It computes nothing.
+pub(crate) fn is_word(number: u32)
+    ensures { number < 2 ^ 32 }
+{}

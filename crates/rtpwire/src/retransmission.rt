@@ -1,10 +1,11 @@
 //! Retransmissions: a packet that repeats an earlier one (RFC 4588, section 4).
-ghost use Rattle.std.specs.Prelude.{◌≡◌, ◌↔◌, ◌^◌, ◌<◌, ◌≤◌, ◌++◌, length, IfSome, IsNone, IfOk, IfErr, IsErr};
+ghost use Rattle.std.specs.Prelude.{◌≡◌, ◌↔◌, ◌^◌, ◌<◌, ◌≤◌, ◌+◌, ◌++◌, length, IfSome, IsNone, IfOk, IfErr, IsErr};
 ghost use Rattle.byteorder.specs.Endian.{big_bytes};
 ghost use Rattle.rtpwire.specs.Retransmission.{Repair, IsRepair, RepairSpells};
 
 use crate::content::{Content, Datagram};
 use crate::fault::RtpFault;
+use crate::limits::{MAX_HEADER, MAX_PAYLOAD};
 use crate::octets::{push_octets, push_u16, u16_at};
 use crate::rtp::RtpView;
 use crate::write::push_header;
@@ -99,7 +100,7 @@ pub fn write_repair(
 ) -> Datagram
     requires { payload_type < 128 }
     ensures spells { RepairSpells content.now original sequence payload_type ssrc result.items }
-    ensures fits { length result.items ≤ 1342 }
+    ensures fits { length result.items ≤ MAX_HEADER + 2 + MAX_PAYLOAD }
 {
     let mut out = Datagram::new();
     push_header(&mut out, content, 0, sequence, payload_type, ssrc);

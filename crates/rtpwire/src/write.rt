@@ -1,9 +1,11 @@
 //! Writing an RTP packet.
 ghost use Rattle.std.specs.Prelude.{◌≡◌, ◌+◌, ◌^◌, ◌<◌, ◌≤◌, ◌++◌, [], length};
-ghost use Rattle.rtpwire.specs.Rtp.{RtpSpells, IsPacket, IsExtension, written, written_padding, fixed_header, header, extension_octets};
+ghost use Rattle.rtpwire.specs.Rtp.{RtpSpells, IsPacket, written, written_padding, fixed_header, header, extension_octets};
 ghost use Rattle.rtpwire.specs.Content.{packet_of, extension_of};
 
 use crate::content::{Content, Datagram, Extension};
+use crate::laws::content_is_bounded;
+use crate::limits::{MAX_DATAGRAM, MAX_HEADER, MAX_PAYLOAD};
 use crate::octets::{push_octets, push_u16, push_u32, push_words};
 
 /// A padding's octets before its count.
@@ -23,7 +25,7 @@ pub fn write_media(
     requires padding { 0 < padding → 0 < length content.now.payload.items }
     ensures spells { RtpSpells (packet_of content.now padding sequence payload_type ssrc) result.items }
     ensures written { result.items ≡ written (packet_of content.now padding sequence payload_type ssrc) }
-    ensures fits { length result.items ≤ 1595 }
+    ensures fits { length result.items ≤ MAX_HEADER + MAX_PAYLOAD + 255 }
 {
     let mut out = Datagram::new();
     push_header(&mut out, content, padding, sequence, payload_type, ssrc);
@@ -44,10 +46,11 @@ pub(crate) fn push_header(
     requires empty { out.old.items ≡ [] }
     requires payload_type { payload_type < 128 }
     ensures items { out.new.items ≡ header (packet_of content.now padding sequence payload_type ssrc) }
-    ensures fits { length out.new.items ≤ 140 }
+    ensures fits { length out.new.items ≤ MAX_HEADER }
     ensures packet { (0 < padding → 0 < length content.now.payload.items)
         → IsPacket (packet_of content.now padding sequence payload_type ssrc) }
 {
+    content_is_bounded(content);
     push_fixed_header(out, content, padding, sequence, payload_type, ssrc);
     push_words(out, &content.sources);
     if let Some(extension) = &content.extension {
@@ -66,7 +69,6 @@ fn push_fixed_header(
     requires empty { out.old.items ≡ [] }
     requires payload_type { payload_type < 128 }
     ensures items { out.new.items ≡ fixed_header (packet_of content.now padding sequence payload_type ssrc) }
-    ensures timestamp { content.now.timestamp < 2 ^ 32 }
 {
     let padded = u8::from(padding > 0);
     let extended = u8::from(content.extension.is_some());
@@ -82,7 +84,6 @@ fn push_extension(out: &mut Datagram, extension: &Extension)
     requires { length out.old.items ≤ 1500 }
     ensures items { out.new.items ≡ out.old.items ++ extension_octets (Some (extension_of extension.now)) }
     ensures fits { length out.new.items ≤ length out.old.items + 68 }
-    ensures extension { IsExtension (extension_of extension.now) }
 {
     push_u16(out, extension.profile);
     push_u16(out, extension.words.len() as u16);
@@ -90,7 +91,7 @@ fn push_extension(out: &mut Datagram, extension: &Extension)
 }
 
 fn push_padding(out: &mut Datagram, padding: u8)
-    requires { length out.old.items + padding ≤ 1600 }
+    requires { length out.old.items + padding ≤ MAX_DATAGRAM }
     ensures { out.new.items ≡ out.old.items ++ written_padding padding }
 {
     if padding > 0 {

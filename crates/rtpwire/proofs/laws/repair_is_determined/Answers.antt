@@ -1,4 +1,4 @@
-use Rattle.std.proofs.Common.{ap, subst}
+use Rattle.std.proofs.Common.{◌≡◌, suc, length, ap, subst, arith}
 use Rattle.rtpwire.specs.Rtp.{RtpPacket, RtpSpells}
 use Rattle.rtpwire.specs.Retransmission.{Repair}
 use Rattle.rtpwire.proofs.Repairs.{one_spelled, same_content, repair-read}
@@ -19,3 +19,6 @@ returns-clause-read c = λ content original sequence payload_type ssrc octets pa
   λ repair. repair-read content original sequence payload_type ssrc octets packet repair spells,
   λ is. record { number = is.original; spelled = subst (λ (p : RtpPacket). RtpSpells p octets) is.sent spells },
 )
+
+pub returns-clause-long : goal.returns-clause-long
+returns-clause-long c = λ repair packet is. let size : length packet.payload ≡ suc (suc (length repair.packet.payload)) = ap (λ (p : RtpPacket). length p.payload) is.sent in omega (arith, size)

@@ -5,7 +5,7 @@ use Rattle.rtpwire.specs.Rtp.{RtpPacket, RtpSpells}
 use Rattle.rtpwire.specs.RtpChecks.{rtp_fault}
 use Rattle.rtpwire.specs.RtpReading.{packet_in}
 use Rattle.rtpwire.proofs.Checks.{no_fault}
-use Rattle.rtpwire.proofs.Numbers.{AreOctets}
+use Rattle.rtpwire.proofs.Numbers.{EachOctet}
 use Rattle.rtpwire.proofs.Spelled.{spelled}
 use Rattle.rtpwire.proofs.Seen.{seen-spelled}
 use Rattle.rtpwire.proofs.rtp.RtpView.read.Goals as goal
@@ -14,7 +14,7 @@ use Rattle.rtpwire.proofs.rtp.RtpView.read.Goals as goal
 abbrev IsChecked : List ℕ → Result RtpPacket RtpFault → Type 0
 IsChecked octets r = MatchResult r (λ p. (rtp_fault octets ≡ None) × (p ≡ packet_in octets)) (λ fault. rtp_fault octets ≡ Some fault)
 
-read_spells : (octets : List ℕ) (r : Result RtpPacket RtpFault) → AreOctets octets → IsChecked octets r → IfOk r (λ p. RtpSpells p octets)
+read_spells : (octets : List ℕ) (r : Result RtpPacket RtpFault) → EachOctet octets → IsChecked octets r → IfOk r (λ p. RtpSpells p octets)
 read_spells octets (Ok p) all is = subst (λ (x : RtpPacket). RtpSpells x octets) (sym is.1) (seen-spelled octets all is.0)
 read_spells octets (Err fault) all is = tt
 
