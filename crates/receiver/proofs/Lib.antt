@@ -1,1 +1,4 @@
 pub mod Takes
+pub mod SameWindows
+pub mod SameHearing
+pub mod Whichever

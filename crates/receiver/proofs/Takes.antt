@@ -14,7 +14,7 @@ use Rattle.places.specs.Place.{IsNear}
 use Rattle.receiver.specs.declared.answer.Taken.{Taken}
 use Rattle.receiver.specs.declared.fault.ReceiveFault.{ReceiveFault}
 use Rattle.receiver.specs.Heard.{TakesNumber}
-use Rattle.receiver.specs.Window.{Window, Starts, Takes, TakesPlace, held_in, missed_in, window_at, state_of, cursor_after}
+use Rattle.receiver.specs.Window.{Window, Starts, Takes, TakesPlace, held_in, missed_in, window_at, window_of, cursor_after}
 
 -- the tests in the words on slots, decided
 at_place : (p : ℕ) (x y : Option Slot) → cond (p == p) x y ≡ x
@@ -40,7 +40,7 @@ not_between_right : (a b : Bool) (x y : Option Slot) → b ≡ false → cond (a
 not_between_right true b x y second = rw second refl
 not_between_right false b x y second = refl
 
-starts : (old new : Span) (p : ℕ) (content : Content) → StartsWith old new p content → IsSomeAnd (state_of new) (Starts p content)
+starts : (old new : Span) (p : ℕ) (content : Content) → StartsWith old new p content → IsSomeAnd (window_of new) (Starts p content)
 starts old new p content s =
     let P : Option ℕ → Type 0 = λ c. IsSomeAnd (window_at c new) (Starts p content) in
     let highest : option_map (λ k. k + length new.slots - 1) (Some p) ≡ Some p = ap (option_map (λ k. k + length new.slots - 1)) (sym s.cursor) ∙ s.highest in
@@ -58,7 +58,7 @@ module _ (slots : List Slot) (room k : ℕ) (new : Span) (p overrun : ℕ) (cont
   old = record { cursor = Some k; slots = slots; capacity = room }
 
   takes : IsSpan old → Gains old new (k + overrun) p content now → k ≤ p → overrun ≡ overrun_of room k p →
-      IsSomeAnd (state_of new)
+      IsSomeAnd (window_of new)
       (Takes room (record { cursor = k; highest = k + length slots - 1; held = λ q. held_in (slot_at old q); missing = λ q. missed_in (slot_at old q) }) p content now)
   takes is g over count =
       let P : Option ℕ → Type 0 = λ c.
@@ -117,7 +117,7 @@ overrun_is room k p overrun count = omega arith
 
 pub put_takes : (cursor : Option ℕ) (slots : List Slot) (room : ℕ) (new : Span) (p overrun : ℕ) (content : Content) (now : ℕ) →
     IsSpan (record { cursor = cursor; slots = slots; capacity = room }) → PutStep p content now (record { cursor = cursor; slots = slots; capacity = room }) (Ok overrun) new →
-    TakesPlace room (state_of (record { cursor = cursor; slots = slots; capacity = room })) p content now (Ok (record { place = p; overrun = overrun })) (state_of new)
+    TakesPlace room (window_of (record { cursor = cursor; slots = slots; capacity = room })) p content now (Ok (record { place = p; overrun = overrun })) (window_of new)
 put_takes None slots room new p overrun content now is step = (refl, step.0, starts (record { cursor = None; slots = slots; capacity = room }) new p content step.1)
 put_takes (Some k) slots room new p overrun content now is step =
     (refl, step.0, not_held _ step.1, overrun_is room k p overrun step.2, takes slots room k new p overrun content now is step.3 step.0 step.2)
@@ -125,15 +125,15 @@ put_takes (Some k) slots room new p overrun content now is step =
 -- a content at the place of its number
 module _ (slots : List Slot) (room seq : ℕ) (content : Content) (now : ℕ) (answer : Result Taken ReceiveFault) (new : Option Window) where
   pub at_first : (cursor : Option ℕ) → highest_of (record { cursor = cursor; slots = slots; capacity = room }) ≡ None →
-      TakesPlace room (state_of (record { cursor = cursor; slots = slots; capacity = room })) (65536 + seq) content now answer new →
-      TakesNumber room (state_of (record { cursor = cursor; slots = slots; capacity = room })) seq content now answer new
+      TakesPlace room (window_of (record { cursor = cursor; slots = slots; capacity = room })) (65536 + seq) content now answer new →
+      TakesNumber room (window_of (record { cursor = cursor; slots = slots; capacity = room })) seq content now answer new
   at_first None none takes = takes
   at_first (Some k) none takes = absurd cc
 
   pub at_near : (cursor : Option ℕ) (highest place : ℕ) → highest_of (record { cursor = cursor; slots = slots; capacity = room }) ≡ Some highest →
       IsNear highest seq place → place < 2 ^ 48 →
-      TakesPlace room (state_of (record { cursor = cursor; slots = slots; capacity = room })) place content now answer new →
-      TakesNumber room (state_of (record { cursor = cursor; slots = slots; capacity = room })) seq content now answer new
+      TakesPlace room (window_of (record { cursor = cursor; slots = slots; capacity = room })) place content now answer new →
+      TakesNumber room (window_of (record { cursor = cursor; slots = slots; capacity = room })) seq content now answer new
   at_near None highest place some near fits takes = absurd cc
   at_near (Some k) highest place some near fits takes =
       inr (inr (place, subst (λ h. IsNear h seq place) (sym (same_Some _ _ some)) near, fits, takes))

@@ -11,6 +11,7 @@ use Rattle.rtpwire.specs.Rtp.{RtpPacket, RtpSpells}
 use Rattle.rtpwire.specs.RtpChecks.{rtp_fault}
 use Rattle.rtpwire.specs.Content.{IsTooLong, packet_of}
 use Rattle.rtpwire.specs.Session.{Streams}
+use Rattle.receiver.specs.Config.{Config}
 use Rattle.receiver.specs.declared.answer.Taken.{Taken}
 use Rattle.receiver.specs.declared.fault.ReceiveFault.{ReceiveFault}
 use Rattle.receiver.specs.declared.fault.ReceiveFault.TheVariants as refused
@@ -56,12 +57,25 @@ abbrev pub Says : List ℕ → Result RtpPacket RtpFault → Type 0
 Says octets (Ok p) = RtpSpells p octets
 Says octets (Err fault) = rtp_fault octets ≡ Some fault
 
-abbrev pub HearsSaid : (room : ℕ) → Streams → Option Window → Result RtpPacket RtpFault → (now : ℕ) → Result Taken ReceiveFault → Option Window → Type 0
-HearsSaid room s old (Ok p) now answer new = HearsStream room old p now (stream_of s p) answer new
-HearsSaid room s old (Err fault) now answer new = (answer ≡ Err (refused.Rtp fault)) × (new ≡ old)
+abbrev pub HearsSaid : (room : ℕ) → Config → Option Window → Result RtpPacket RtpFault → (now : ℕ) → Result Taken ReceiveFault → Option Window → Type 0
+HearsSaid room c old (Ok p) now answer new = HearsStream room old p now (stream_of c.session p) answer new
+HearsSaid room c old (Err fault) now answer new = (answer ≡ Err (refused.Rtp fault)) × (new ≡ old)
 
--- One datagram at the receiver.
-pub record Hears (room : ℕ) (s : Streams) (old : Option Window) (octets : List ℕ) (now : ℕ) (answer : Result Taken ReceiveFault) (new : Option Window) : Type 0 where
+-- One datagram at a receiver of so much room.
+pub record Hears (room : ℕ) (c : Config) (old : Option Window) (octets : List ℕ) (now : ℕ) (answer : Result Taken ReceiveFault) (new : Option Window) : Type 0 where
   pub said : Result RtpPacket RtpFault
   pub says : Says octets said
-  pub heard : HearsSaid room s old said now answer new
+  pub heard : HearsSaid room c old said now answer new
+
+-- What follows for a caller that has no interest in octets: a datagram that is taken spells a media packet of the
+-- session, whose content is taken by its sequence number.
+pub record TakesSpelled (room : ℕ) (c : Config) (old : Option Window) (octets : List ℕ) (now : ℕ) (taken : Taken) (new : Option Window) : Type 0 where
+  pub content : Content
+  pub padding : ℕ
+  pub seq : ℕ
+  pub spelled : RtpSpells (packet_of content padding seq c.session.media_type c.session.media_ssrc) octets
+  pub takes : TakesNumber room old seq content now (Ok taken) new
+
+abbrev pub TakesOrRefuses : (room : ℕ) → Config → Option Window → (octets : List ℕ) → (now : ℕ) → Result Taken ReceiveFault → Option Window → Type 0
+TakesOrRefuses room c old octets now (Ok taken) new = TakesSpelled room c old octets now taken new
+TakesOrRefuses room c old octets now (Err fault) new = new ≡ old

@@ -48,8 +48,8 @@ window_at (Some k) s =
       missing = λ q. missed_in (slot_at s q);
     })
 
-abbrev pub state_of : Span → Option Window
-state_of s = window_at s.cursor s
+abbrev pub window_of : Span → Option Window
+window_of s = window_at s.cursor s
 
 abbrev pub new_missed : ℕ → Missed
 new_missed now = record { noticed = now; asks = 0; last = 0 }

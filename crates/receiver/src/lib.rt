@@ -4,12 +4,14 @@
 mod answer;
 mod config;
 mod fault;
+mod laws;
 mod receiver;
 mod stream;
 
 pub use answer::{Played, Taken};
 pub use config::ReceiverConfig;
 pub use fault::ReceiveFault;
+pub use laws::{hearing_is_determined, playing_is_determined};
 pub use receiver::Receiver;
 pub use stream::Stream;
 

@@ -1,15 +1,16 @@
 //! The receiving end.
 ghost use Rattle.std.specs.Prelude.{◌≡◌, ◌^◌, ◌<◌, None, OnErr};
 ghost use Rattle.stores.specs.Span.{IsSpan};
-ghost use Rattle.receiver.specs.Window.{state_of, TakesPlace, PlaysAny};
+ghost use Rattle.receiver.specs.Window.{window_of, TakesPlace, PlaysAny};
 ghost use Rattle.receiver.specs.Heard.{Hears, TakesNumber};
+ghost use Rattle.receiver.specs.Receiver.{state_of};
 
 use crate::answer::{Played, Taken};
 use crate::config::ReceiverConfig;
 use crate::fault::ReceiveFault;
 use crate::stream::{Stream, stream_of};
 use places::{Place, near};
-use rtpwire::{Content, RtpView, Session};
+use rtpwire::{Content, RtpView};
 use std::marker::Model;
 use stores::{Slot, Window, window_by_place};
 
@@ -57,14 +58,13 @@ impl<W: Window> Receiver<W> {
     ///   no place from 0 to 2^48 - 1.
     /// - `Put` (35, 36): the place lies below the next one to play, or is held already.
     pub fn on_media(&mut self, octets: &[u8], now: u64) -> Result<Taken, ReceiveFault>
-        ensures hears { Hears self.old.span.capacity self.old.config.session (state_of self.old.span) octets.now now result (state_of self.new.span) }
+        ensures hears { Hears self.old.span.capacity self.old.config (state_of self.old) octets.now now result (state_of self.new) }
         ensures err { OnErr result (self.new ≡ self.old) }
         ensures config { self.new.config ≡ self.old.config }
         ensures capacity { self.new.span.capacity ≡ self.old.span.capacity }
         ensures is_span { IsSpan self.new.span }
     {
-        let session = self.config.session();
-        hear(&mut self.window, &session, octets, now)
+        hear(&mut self.window, &self.config, octets, now)
     }
 
     /// Plays the next place at the moment `now`, in milliseconds, or gives it up, or waits. It may be
@@ -74,7 +74,7 @@ impl<W: Window> Receiver<W> {
     /// it was noticed; at a moment before that it waits. Where nothing is kept it waits as well. A place
     /// that was played or given up is passed, and a wait leaves the receiver as it was.
     pub fn play(&mut self, now: u64) -> Played
-        ensures plays { PlaysAny self.old.config.patience (state_of self.old.span) now result (state_of self.new.span) }
+        ensures plays { PlaysAny self.old.config.patience (state_of self.old) now result (state_of self.new) }
         ensures wait { result ≡ Played.Wait → self.new ≡ self.old }
         ensures config { self.new.config ≡ self.old.config }
         ensures capacity { self.new.span.capacity ≡ self.old.span.capacity }
@@ -95,16 +95,16 @@ impl<W: Window> Receiver<W> {
 /// Hears a datagram: its packet, its stream, its content and then its place.
 fn hear<W: Window>(
     window: &mut W,
-    session: &Session,
+    config: &ReceiverConfig,
     octets: &[u8],
     now: u64,
 ) -> Result<Taken, ReceiveFault>
-    ensures hears { Hears (W.meaning window.old).capacity session.now (state_of (W.meaning window.old)) octets.now now result (state_of (W.meaning window.new)) }
+    ensures hears { Hears (W.meaning window.old).capacity config.now (window_of (W.meaning window.old)) octets.now now result (window_of (W.meaning window.new)) }
     ensures err { OnErr result (W.meaning window.new ≡ W.meaning window.old) }
     ensures capacity { (W.meaning window.new).capacity ≡ (W.meaning window.old).capacity }
 {
     let view = RtpView::read(octets)?;
-    match stream_of(session, &view)? {
+    match stream_of(&config.session(), &view)? {
         Stream::Repair => return Err(ReceiveFault::NotStarted),
         Stream::Media => {}
     }
@@ -122,7 +122,7 @@ fn take_number<W: Window>(
     content: Content,
     now: u64,
 ) -> Result<Taken, ReceiveFault>
-    ensures takes { TakesNumber (W.meaning window.old).capacity (state_of (W.meaning window.old)) seq content now result (state_of (W.meaning window.new)) }
+    ensures takes { TakesNumber (W.meaning window.old).capacity (window_of (W.meaning window.old)) seq content now result (window_of (W.meaning window.new)) }
     ensures err { OnErr result (W.meaning window.new ≡ W.meaning window.old) }
     ensures capacity { (W.meaning window.new).capacity ≡ (W.meaning window.old).capacity }
 {
@@ -142,7 +142,7 @@ fn take_place<W: Window>(
     content: Content,
     now: u64,
 ) -> Result<Taken, ReceiveFault>
-    ensures takes { TakesPlace (W.meaning window.old).capacity (state_of (W.meaning window.old)) place content now result (state_of (W.meaning window.new)) }
+    ensures takes { TakesPlace (W.meaning window.old).capacity (window_of (W.meaning window.old)) place content now result (window_of (W.meaning window.new)) }
     ensures err { OnErr result (W.meaning window.new ≡ W.meaning window.old) }
     ensures capacity { (W.meaning window.new).capacity ≡ (W.meaning window.old).capacity }
 {
@@ -155,7 +155,7 @@ fn take_place<W: Window>(
 
 /// Plays from a window.
 fn play_from<W: Window>(window: &mut W, patience: u64, now: u64) -> Played
-    ensures plays { PlaysAny patience (state_of (W.meaning window.old)) now result (state_of (W.meaning window.new)) }
+    ensures plays { PlaysAny patience (window_of (W.meaning window.old)) now result (window_of (W.meaning window.new)) }
     ensures wait { result ≡ Played.Wait → W.meaning window.new ≡ W.meaning window.old }
     ensures capacity { (W.meaning window.new).capacity ≡ (W.meaning window.old).capacity }
 {

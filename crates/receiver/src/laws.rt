@@ -1,0 +1,42 @@
+//! Laws on what a receiver answers. These functions compute nothing: their contracts are the laws, for callers that
+//! speak of places and contents alone.
+ghost use Rattle.std.specs.Prelude.{◌≡◌, ℕ, List, Option, Result};
+ghost use Rattle.rtpwire.specs.declared.content.Content.{Content};
+ghost use Rattle.rtpwire.specs.Rtp.{RtpSpells};
+ghost use Rattle.rtpwire.specs.Content.{IsTooLong, packet_of};
+ghost use Rattle.receiver.specs.declared.answer.Taken.{Taken};
+ghost use Rattle.receiver.specs.declared.answer.Played.{Played};
+ghost use Rattle.receiver.specs.declared.fault.ReceiveFault.{ReceiveFault};
+ghost use Rattle.receiver.specs.Config.{Config};
+ghost use Rattle.receiver.specs.Window.{Window, PlaysAny};
+ghost use Rattle.receiver.specs.Heard.{Hears, TakesNumber, TakesOrRefuses};
+
+use places::near_is_determined;
+use rtpwire::{content_is_determined, spelling_is_determined};
+
+/// What a receiver answers to a datagram.
+pub fn hearing_is_determined()
+    // The octets, the moment and the receiver before determine the answer and the receiver after.
+    ensures one { (room : ℕ) (c : Config) (old : Option Window) (octets : List ℕ) (now : ℕ) (r s : Result Taken ReceiveFault) (v w : Option Window)
+        → Hears room c old octets now r v → Hears room c old octets now s w → (r ≡ s) × (v ≡ w) }
+    // Octets that spell a media packet of the session are answered as the content that it carries, by its
+    // sequence number, if a content holds what it carries.
+    ensures media { (room : ℕ) (c : Config) (old : Option Window) (octets : List ℕ) (now : ℕ) (answer : Result Taken ReceiveFault) (new : Option Window)
+        (content : Content) (padding seq : ℕ)
+        → RtpSpells (packet_of content padding seq c.session.media_type c.session.media_ssrc) octets
+        → (IsTooLong (packet_of content padding seq c.session.media_type c.session.media_ssrc) → ⊥)
+        → Hears room c old octets now answer new → TakesNumber room old seq content now answer new }
+    // Whatever the octets: the receiver takes the content that they spell, or refuses it and is as it was.
+    ensures any { (room : ℕ) (c : Config) (old : Option Window) (octets : List ℕ) (now : ℕ) (answer : Result Taken ReceiveFault) (new : Option Window)
+        → Hears room c old octets now answer new → TakesOrRefuses room c old octets now answer new }
+{
+    spelling_is_determined();
+    content_is_determined();
+    near_is_determined();
+}
+
+/// What a receiver plays: the moment and the receiver before determine it, and the receiver after.
+pub fn playing_is_determined()
+    ensures { (patience now : ℕ) (old : Option Window) (r s : Played) (v w : Option Window)
+        → PlaysAny patience old now r v → PlaysAny patience old now s w → (r ≡ s) × (v ≡ w) }
+{}
