@@ -8,7 +8,7 @@ use Rattle.std.proofs.lemmas.List.{take_all}
 use Rattle.world.specs.declared.event.Event.{Event}
 use Rattle.world.specs.Config.{Config}
 use Rattle.world.specs.Answers.{Answers, new_stand}
-use Rattle.world.specs.World.{Kept, stand_of, empty}
+use Rattle.world.specs.World.{Recorded, stand_of, empty}
 use Rattle.rtxtool.specs.declared.fault.SimFault.{SimFault}
 use Rattle.rtxtool.specs.declared.fault.SimFault.TheVariants.{BadLine, Read, Write, OutOfMemory}
 use Rattle.rtxtool.specs.Script.{script_config, script_events, bad_line, events_in, bad_in}
@@ -22,7 +22,7 @@ use Rattle.rtxtool.proofs.ScriptLemmas.{script_config-line, script_events-line, 
 
 -- What was read is the script of the events that the world did, and their log was written. Whatever follows
 -- it, the text's events are these and then those of what follows.
-pub record Progress (world : Kept) (count : ℕ) (old new : Option (List ℕ)) (text rest : List ℕ) : Type 0 where
+pub record Progress (world : Recorded) (count : ℕ) (old new : Option (List ℕ)) (text rest : List ℕ) : Type 0 where
   pub events : List Event
   pub answers : Answers world.config (reverse events) (reverse world.log) (stand_of world)
   pub on_wire : AreOnWire world.log world.wire
@@ -54,7 +54,7 @@ start config w x y b =
     }
 
 -- the log of one more event
-grown : (old new : Kept) (event : Event) (line : List ℕ) → Advances old event new line → AreOnWire old.log old.wire →
+grown : (old new : Recorded) (event : Event) (line : List ℕ) → Advances old event new line → AreOnWire old.log old.wire →
     AreOnWire new.log new.wire × (log_text new.log new.wire ≡ log_text old.log old.wire ++ line)
 grown old new event line a h =
     let g = log_text-step old.config old.log (stand_of old) event a.entry (stand_of new) h a.step in (
@@ -90,7 +90,7 @@ script_more read line config events event s says =
 one_more : (read line more : List ℕ) → (read ++ (line ++ 10 ∷ [])) ++ more ≡ read ++ (line ++ 10 ∷ more)
 one_more read line more = append_assoc read (line ++ 10 ∷ []) more ∙ ap (λ t. read ++ t) (append_assoc line (10 ∷ []) more)
 
-step : (old new : Kept) (count : ℕ) (event : Event) (line : List ℕ) (u v w : Option (List ℕ)) (x y z : List ℕ) → Progress old count u v x y → Continues (Some event) y z
+step : (old new : Recorded) (count : ℕ) (event : Event) (line : List ℕ) (u v w : Option (List ℕ)) (x y z : List ℕ) → Progress old count u v x y → Continues (Some event) y z
     → Advances old event new line → Appends v w line → Progress new (count + 1) u w x z
 step old new count event line u v w x y z p more a q =
     let text = more.line in
@@ -111,10 +111,10 @@ step old new count event line u v w x y z p more a q =
           ∙ bad_in-line (text ++ 10 ∷ r) text r event (count + 2) refl more.says.1 more.says.0 ∙ ap (λ k. bad_in k r) (omega arith);
     }
 
-prints : (world : Kept) (count : ℕ) (u v : Option (List ℕ)) (x y : List ℕ) → (p : Progress world count u v x y) → Prints world.config p.events (log_text world.log world.wire)
+prints : (world : Recorded) (count : ℕ) (u v : Option (List ℕ)) (x y : List ℕ) → (p : Progress world count u v x y) → Prints world.config p.events (log_text world.log world.wire)
 prints world count u v x y p = record { log = world.log; end = stand_of world; answers = p.answers; is = refl }
 
-done : (world : Kept) (count : ℕ) (u v : Option (List ℕ)) (x y z : List ℕ) → Progress world count u v x y → Continues None y z → IsDone count x u v
+done : (world : Recorded) (count : ℕ) (u v : Option (List ℕ)) (x y z : List ℕ) → Progress world count u v x y → Continues None y z → IsDone count x u v
 done world count u v x y z p end =
     record {
       config = world.config;
@@ -126,7 +126,7 @@ done world count u v x y z p end =
       wrote = p.wrote;
     }
 
-stopped : (world : Kept) (count : ℕ) (fault : SimFault) (u v : Option (List ℕ)) (x y : List ℕ) → Progress world count u v x y → FailsAt (count + 2) fault y → IsStopped fault x u v
+stopped : (world : Recorded) (count : ℕ) (fault : SimFault) (u v : Option (List ℕ)) (x y : List ℕ) → Progress world count u v x y → FailsAt (count + 2) fault y → IsStopped fault x u v
 stopped world count (BadLine k) u v x y p bad = (
   ap bad_line p.split ∙ p.then_bad y ∙ bad.2 ∙ ap Some (sym bad.0),
   record {
@@ -148,11 +148,11 @@ stopped_first OutOfMemory u x bad = tt
 -- ---- what was written of what was read
 
 -- whatever follows what was read, its first events print what was written
-prints_first : (world : Kept) (count : ℕ) (u v : Option (List ℕ)) (x y more : List ℕ) → (p : Progress world count u v x y) →
+prints_first : (world : Recorded) (count : ℕ) (u v : Option (List ℕ)) (x y more : List ℕ) → (p : Progress world count u v x y) →
     PrintsAny (script_config (p.read ++ more)) (take (length p.events) (script_events (p.read ++ more))) (log_text world.log world.wire)
 prints_first world count u v x y more p = rw (p.config more, p.then_events more, take-append_seam) (prints world count u v x y p)
 
-wrote_some : (world : Kept) (count : ℕ) (u v : Option (List ℕ)) (x y more : List ℕ) → (p : Progress world count u v x y) → WroteSome (p.read ++ more) u v
+wrote_some : (world : Recorded) (count : ℕ) (u v : Option (List ℕ)) (x y more : List ℕ) → (p : Progress world count u v x y) → WroteSome (p.read ++ more) u v
 wrote_some world count u v x y more p =
     record {
       count = length p.events;
@@ -162,7 +162,7 @@ wrote_some world count u v x y more p =
       wrote = rw (take_all (length (log_text world.log world.wire)) (log_text world.log world.wire) (omega arith)) p.wrote;
     }
 
-of_read : (world : Kept) (count : ℕ) (u v : Option (List ℕ)) (x y left : List ℕ) → Progress world count u v x y → EndsWith y left → WroteOfRead u v x left
+of_read : (world : Recorded) (count : ℕ) (u v : Option (List ℕ)) (x y left : List ℕ) → Progress world count u v x y → EndsWith y left → WroteOfRead u v x left
 of_read world count u v x y left p end = (
   p.read ++ end.0,
   p.split ∙ ap (λ t. p.read ++ t) end.1 ∙ sym (append_assoc p.read end.0 left),
@@ -174,7 +174,7 @@ appends_known None line = tt
 appends_known (Some x) line = refl
 
 -- an event was done, and the front of its line was written
-of_read_part : (old new : Kept) (count n : ℕ) (event : Event) (line : List ℕ) (u v w : Option (List ℕ)) (x y z left : List ℕ) → Progress old count u v x y → Continues (Some event) y z
+of_read_part : (old new : Recorded) (count n : ℕ) (event : Event) (line : List ℕ) (u v w : Option (List ℕ)) (x y z left : List ℕ) → Progress old count u v x y → Continues (Some event) y z
     → Advances old event new line → Appends v w (take n line) → EndsWith z left → WroteOfRead u w x left
 of_read_part old new count n event line u v w x y z left p more a q end =
     let later = step old new count event line u v (append_known v line) x y z p more a (appends_known v line) in
@@ -215,26 +215,26 @@ pub known_first : (fault : SimFault) (old u : Option (List ℕ)) → IfSome (pre
 known_first fault None u bad = tt
 known_first fault (Some x) u bad = stopped_first fault u x bad
 
-pub known_step : (old new : Kept) (count : ℕ) (event : Event) (line : List ℕ) (text left more u v w : Option (List ℕ)) → IfBoth text left (Progress old count u v)
+pub known_step : (old new : Recorded) (count : ℕ) (event : Event) (line : List ℕ) (text left more u v w : Option (List ℕ)) → IfBoth text left (Progress old count u v)
     → IfBoth left more (Continues (Some event)) → Advances old event new line → Appends v w line → IfBoth text more (Progress new (count + 1) u w)
 known_step old new count event line None left more u v w p next a q = tt
 known_step old new count event line (Some x) None more u v w p next a q = absurd p
 known_step old new count event line (Some x) (Some y) None u v w p next a q = absurd next
 known_step old new count event line (Some x) (Some y) (Some z) u v w p next a q = step old new count event line u v w x y z p next a q
 
-pub known_done : (world : Kept) (count : ℕ) (text left more u v : Option (List ℕ)) → IfBoth text left (Progress world count u v) → IfBoth left more (Continues None) → IfSome text (λ t. IsDone count t u v)
+pub known_done : (world : Recorded) (count : ℕ) (text left more u v : Option (List ℕ)) → IfBoth text left (Progress world count u v) → IfBoth left more (Continues None) → IfSome text (λ t. IsDone count t u v)
 known_done world count None left more u v p end = tt
 known_done world count (Some x) None more u v p end = absurd p
 known_done world count (Some x) (Some y) None u v p end = absurd end
 known_done world count (Some x) (Some y) (Some z) u v p end = done world count u v x y z p end
 
-pub known_stopped : (world : Kept) (count : ℕ) (fault : SimFault) (text left u v : Option (List ℕ)) → IfBoth text left (Progress world count u v) → IfSome left (FailsAt (count + 2) fault)
+pub known_stopped : (world : Recorded) (count : ℕ) (fault : SimFault) (text left u v : Option (List ℕ)) → IfBoth text left (Progress world count u v) → IfSome left (FailsAt (count + 2) fault)
     → IfSome text (λ t. IsStopped fault t u v)
 known_stopped world count fault None left u v p bad = tt
 known_stopped world count fault (Some x) None u v p bad = absurd p
 known_stopped world count fault (Some x) (Some y) u v p bad = stopped world count fault u v x y p bad
 
-pub known_of_read : (world : Kept) (count : ℕ) (text left more u v : Option (List ℕ)) → IfBoth text left (Progress world count u v) → IfBoth left more EndsWith → IfBoth text more (WroteOfRead u v)
+pub known_of_read : (world : Recorded) (count : ℕ) (text left more u v : Option (List ℕ)) → IfBoth text left (Progress world count u v) → IfBoth left more EndsWith → IfBoth text more (WroteOfRead u v)
 known_of_read world count None left more u v p end = tt
 known_of_read world count (Some x) None more u v p end = absurd p
 known_of_read world count (Some x) (Some y) None u v p end = absurd end
@@ -251,7 +251,7 @@ taken_ends event None more held next = tt
 taken_ends event (Some y) None held next = absurd next
 taken_ends event (Some y) (Some z) held next = (next.line ++ 10 ∷ held, next.whole ∙ sym (append_assoc next.line (10 ∷ held) z))
 
-pub known_of_read_part : (old new : Kept) (count n : ℕ) (event : Event) (line : List ℕ) (text left more u v w : Option (List ℕ)) (held : List ℕ) → IfBoth text left (Progress old count u v)
+pub known_of_read_part : (old new : Recorded) (count n : ℕ) (event : Event) (line : List ℕ) (text left more u v w : Option (List ℕ)) (held : List ℕ) → IfBoth text left (Progress old count u v)
     → IfBoth left (prepend_known held more) (Continues (Some event)) → Advances old event new line → Appends v w (take n line) → IfBoth text more (WroteOfRead u w)
 known_of_read_part old new count n event line None left more u v w held p next a q = tt
 known_of_read_part old new count n event line (Some x) None more u v w held p next a q = absurd p

@@ -5,7 +5,7 @@ use Rattle.world.specs.declared.event.Event.{Event}
 use Rattle.world.specs.declared.event.Entry.{Entry}
 use Rattle.world.specs.Config.{Config}
 use Rattle.world.specs.Answers.{Stand, Step, Answers}
-use Rattle.world.specs.World.{Kept, stand_of}
+use Rattle.world.specs.World.{Recorded, stand_of}
 use Rattle.rtxtool.specs.declared.fault.SimFault.{SimFault}
 use Rattle.rtxtool.specs.declared.fault.SimFault.TheVariants.{BadLine, Read, Write, OutOfMemory}
 use Rattle.rtxtool.specs.Script.{script_config, script_events, bad_line}
@@ -20,7 +20,7 @@ pub record Prints (c : Config) (events : List Event) (text : List ℕ) : Type 0 
   pub is : text ≡ log_text log end.wire
 
 -- A world does an event, and this is the line of its entry.
-pub record Advances (old : Kept) (event : Event) (new : Kept) (text : List ℕ) : Type 0 where
+pub record Advances (old : Recorded) (event : Event) (new : Recorded) (text : List ℕ) : Type 0 where
   pub entry : Entry
   pub step : Step old.config (stand_of old) event entry (stand_of new)
   pub log : new.log ≡ old.log ++ entry ∷ []

@@ -8,7 +8,7 @@ use Rattle.receiver.specs.Window.{Missed, Window, cursor_after, Starts, Takes, P
 use Rattle.world.specs.declared.event.Entry.{Entry}
 use Rattle.world.specs.Config.{Config}
 use Rattle.world.specs.Reading.{WasSent, cursor_of, cursor_from, cursor_next}
-use Rattle.world.specs.Reach.{highest_of, shift_of, greater, IsReached}
+use Rattle.world.specs.Reach.{highest_taken, shift_of, greater, IsReached}
 use Rattle.world.specs.Justified.{noticed_of, earlier_or}
 use Rattle.world.proofs.Near.{first_shift}
 
@@ -41,10 +41,10 @@ pub record Fresh (shift : ℕ) (cursor_at highest_at : Option ℕ) (Reached : �
   pub noticed : (k : ℕ) → noticed_at k ≡ None
 
 abbrev pub KeptBy : Config → List Entry → Window → Type 0
-KeptBy c past w = Kept (shift_of past) (cursor_of past) (highest_of past) (WasSent c past) (IsReached past) (noticed_of past) w
+KeptBy c past w = Kept (shift_of past) (cursor_of past) (highest_taken past) (WasSent c past) (IsReached past) (noticed_of past) w
 
 abbrev pub Keeps : Config → List Entry → Option Window → Type 0
-Keeps c past None = Fresh (shift_of past) (cursor_of past) (highest_of past) (IsReached past) (noticed_of past)
+Keeps c past None = Fresh (shift_of past) (cursor_of past) (highest_taken past) (IsReached past) (noticed_of past)
 Keeps c past (Some w) = KeptBy c past w
 
 -- what is held after the start is what was taken

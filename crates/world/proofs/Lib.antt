@@ -2,11 +2,10 @@ pub mod Order
 pub mod Faithful
 pub mod Runs
 pub mod Near
-pub mod Said
 pub mod Kept
 pub mod Right
 pub mod Simulates
 pub mod Headline
-pub mod SameWindows
+pub mod Strictly
 pub mod SameSteps
 pub mod Determined

@@ -1,15 +1,15 @@
 -- What a world answers. Its log answers a list of events: each entry is the answer of its end in the state
 -- that the events before it left. Events and log are newest first here, so "before" is the tail.
-use Rattle.std.specs.Prelude.{◌≡◌, ℕ, ◌+◌, ◌≤◌, List, [], ◌∷◌, ◌++◌, length, Option, Some, None, Result, Ok, Err, slice_get}
+use Rattle.std.specs.Prelude.{◌≡◌, ℕ, ◌≤◌, List, [], ◌∷◌, ◌++◌, length, Option, Some, None, Result, Ok, Err, slice_get}
 use Rattle.arrayvec.specs.ArrayVec.{ArrayVec}
 use Rattle.rtpwire.specs.declared.content.Content.{Content}
-use Rattle.rtpwire.specs.Session.{Streams}
 use Rattle.receiver.specs.declared.answer.Taken.{Taken as Took}
 use Rattle.receiver.specs.declared.fault.ReceiveFault.{ReceiveFault}
 use Rattle.receiver.specs.Window.{Window, PlaysAny}
 use Rattle.receiver.specs.Heard.{Hears}
 use Rattle.world.specs.declared.event.Event.{Event}
 use Rattle.world.specs.declared.event.Event.TheVariants.{Send, Deliver, Play, Inject}
+use Rattle.world.specs.declared.event.End.{End}
 use Rattle.world.specs.declared.event.End.TheVariants.{Receiver}
 use Rattle.world.specs.declared.event.Label.{Label}
 use Rattle.world.specs.declared.event.Label.TheVariants.{Media}
@@ -18,7 +18,8 @@ use Rattle.world.specs.declared.event.Answer.TheVariants.{Taken, Refused}
 use Rattle.world.specs.declared.event.Entry.{Entry}
 use Rattle.world.specs.declared.event.Entry.TheVariants.{Sent, SendRefused, Nothing, Delivered, Injected, Played}
 use Rattle.world.specs.Config.{Config}
-use Rattle.world.specs.Sending.{Sends, SendsAny}
+use Rattle.world.specs.Labels.{end_of}
+use Rattle.world.specs.Sending.{Sender, new_sender, Sends, SendsAny}
 
 -- a datagram on the wire, under its label
 abbrev pub Item : Type 0
@@ -26,28 +27,33 @@ Item = Label × ArrayVec ℕ
 
 -- Both ends, and the wire between them, which only grows.
 pub record Stand : Type 0 where
-  pub next : ℕ  -- the sender's next place
+  pub sender : Sender
   pub wire : List Item
   pub receiver : Option Window
 
 abbrev pub new_stand : Config → Stand
-new_stand c = record { next = 65536 + c.first; wire = []; receiver = None }
+new_stand c = record { sender = new_sender c.first; wire = []; receiver = None }
 
 -- what the receiver answers, as the log tells it
 abbrev pub told : Result Took ReceiveFault → Answer
 told (Ok taken) = Taken taken
 told (Err fault) = Refused fault
 
--- a datagram reaches the receiver
-pub record HearsAt (room : ℕ) (s : Streams) (old : Option Window) (octets : List ℕ) (now : ℕ) (answer : Answer) (new : Option Window) : Type 0 where
+-- a datagram reaches the receiver, and leaves the sender as it was
+pub record ReceiverHears (c : Config) (old : Stand) (octets : List ℕ) (now : ℕ) (answer : Answer) (new : Stand) : Type 0 where
   pub heard : Result Took ReceiveFault
-  pub hears : Hears room s old octets now heard new
+  pub hears : Hears c.window c.receiver old.receiver octets now heard new.receiver
   pub tells : answer ≡ told heard
+  pub sender : new.sender ≡ old.sender
+
+-- a datagram reaches an end
+abbrev pub HearsAt : Config → End → Stand → (octets : List ℕ) → (now : ℕ) → Answer → Stand → Type 0
+HearsAt c Receiver old octets now answer new = ReceiverHears c old octets now answer new
 
 -- a content is sent, and lies on the wire
 pub record SendsTo (c : Config) (old : Stand) (content : Content) (padding place index : ℕ) (new : Stand) : Type 0 where
   pub datagram : ArrayVec ℕ
-  pub sends : Sends c.receiver.session old.next content padding place datagram.items new.next
+  pub sends : Sends c.receiver.session old.sender content padding place datagram.items new.sender
   pub index_is : index ≡ length old.wire
   pub wire : new.wire ≡ old.wire ++ (Media place, datagram) ∷ []
   pub receiver : new.receiver ≡ old.receiver
@@ -56,20 +62,19 @@ pub record SendsTo (c : Config) (old : Stand) (content : Content) (padding place
 pub record DeliversAt (c : Config) (old : Stand) (index : ℕ) (label : Label) (now : ℕ) (answer : Answer) (new : Stand) : Type 0 where
   pub datagram : ArrayVec ℕ
   pub there : slice_get old.wire index ≡ Some (label, datagram)
-  pub hears : HearsAt c.window c.receiver.session old.receiver datagram.items now answer new.receiver
-  pub next : new.next ≡ old.next
+  pub hears : HearsAt c (end_of label) old datagram.items now answer new
   pub wire : new.wire ≡ old.wire
 
 -- One event, its entry, and the world before and after it.
 abbrev pub Step : Config → Stand → Event → Entry → Stand → Type 0
 Step c old (Send content padding) (Sent place index sent) new = (sent ≡ content) × SendsTo c old content padding place index new
-Step c old (Send content padding) (SendRefused fault) new = SendsAny c.receiver.session old.next content padding (Err fault) new.next × (new ≡ old)
+Step c old (Send content padding) (SendRefused fault) new = SendsAny c.receiver.session old.sender content padding (Err fault) new.sender × (new ≡ old)
 Step c old (Deliver index now) Nothing new = (length old.wire ≤ index) × (new ≡ old)
 Step c old (Deliver index now) (Delivered at label moment answer) new = (at ≡ index) × (moment ≡ now) × DeliversAt c old index label now answer new
 Step c old (Play now) (Played moment played) new =
-    (moment ≡ now) × PlaysAny c.receiver.patience old.receiver now played new.receiver × (new.next ≡ old.next) × (new.wire ≡ old.wire)
-Step c old (Inject Receiver datagram now) (Injected Receiver moment answer) new =
-    (moment ≡ now) × HearsAt c.window c.receiver.session old.receiver datagram.items now answer new.receiver × (new.next ≡ old.next) × (new.wire ≡ old.wire)
+    (moment ≡ now) × PlaysAny c.receiver.patience old.receiver now played new.receiver × (new.sender ≡ old.sender) × (new.wire ≡ old.wire)
+Step c old (Inject end datagram now) (Injected at moment answer) new =
+    (at ≡ end) × (moment ≡ now) × HearsAt c end old datagram.items now answer new × (new.wire ≡ old.wire)
 -- no event has another entry
 Step c old event entry new = ⊥
 

@@ -2,16 +2,19 @@
 use Rattle.std.specs.Prelude.{◌≡◌, ℕ, ◌*◌, List, take, reverse}
 use Rattle.world.specs.declared.event.Entry.{Entry}
 use Rattle.world.specs.Config.{Config}
+use Rattle.world.specs.Answers.{Stand}
 use Rattle.world.specs.Reading.{IsRising, IsFinal}
 use Rattle.world.specs.Reach.{shift_of}
 use Rattle.world.specs.Close.{IsClose, IsHonest}
 use Rattle.world.specs.Right.{IsRight}
 use Rattle.world.specs.Justified.{IsJustified}
 use Rattle.world.specs.Lawful.{IsRefusedLawfully}
-use Rattle.world.specs.PlaceRun.{PlaceWorld, PlaceRun}
+use Rattle.world.specs.PlaceRun.{PlaceRun, places_of}
+use Rattle.world.specs.World.{IsLogged}
 
-pub record IsGood (c : Config) (past : List Entry) : Type 0 where
-  pub run : (end : PlaceWorld) × PlaceRun c past end
+-- The log, which left both ends and the wire so, is good: it is a run over places, which leaves both ends so.
+pub record IsGood (c : Config) (past : List Entry) (end : Stand) : Type 0 where
+  pub run : PlaceRun c past (places_of end)
   pub shift : (cycles : ℕ) × (shift_of past ≡ cycles * 65536)  -- both ends' places differ by whole cycles
   pub rising : IsRising c past
   pub final : IsFinal past
@@ -19,7 +22,10 @@ pub record IsGood (c : Config) (past : List Entry) : Type 0 where
   pub justified : IsJustified c past
   pub refusals : IsRefusedLawfully past
 
--- Each beginning of the log, the oldest entry first, is good if it is close and honest. So no entry makes an
--- earlier one wrong.
-abbrev pub PlaysRightly : Config → List Entry → Type 0
-PlaysRightly c log = (n : ℕ) → IsClose (reverse (take n log)) → IsHonest (reverse (take n log)) → IsGood c (reverse (take n log))
+-- Each beginning of the log, the oldest entry first, is good if it is close and honest: so no entry makes an
+-- earlier one wrong. What such a beginning left is what it leaves as the answer to the events up to there.
+pub record PlaysRightly (c : Config) (log : List Entry) (end : Stand) : Type 0 where
+  pub whole : IsClose (reverse log) → IsHonest (reverse log) → IsGood c (reverse log) end
+  pub beginnings :
+      (n : ℕ) → IsClose (reverse (take n log)) → IsHonest (reverse (take n log))
+      → (mid : Stand) × IsLogged c (take n log) mid × IsGood c (reverse (take n log)) mid

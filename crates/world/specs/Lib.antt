@@ -1,4 +1,5 @@
 pub mod Config
+pub mod Labels
 pub mod Sending
 pub mod Answers
 pub mod Reading

@@ -1,16 +1,11 @@
 -- How far the deliveries of a log have come. A log is newest first here, so "before" is the tail.
 use Rattle.std.specs.Prelude.{◌≡◌, ◌≢◌, ◌⊎◌, ℕ, ◌-◌, max, List, [], ◌∷◌, Option, Some, None}
 use Rattle.receiver.specs.Fault.{receive_number}
-use Rattle.world.specs.declared.event.Label.{Label}
-use Rattle.world.specs.declared.event.Label.TheVariants.{Media}
 use Rattle.world.specs.declared.event.Answer.{Answer}
 use Rattle.world.specs.declared.event.Answer.TheVariants.{Taken, Refused}
 use Rattle.world.specs.declared.event.Entry.{Entry}
 use Rattle.world.specs.declared.event.Entry.TheVariants.{Delivered}
-
--- the sender's place of the packet under a label
-abbrev pub place_of : Label → Option ℕ
-place_of (Media place) = Some place
+use Rattle.world.specs.Labels.{place_of}
 
 abbrev pub greater : Option ℕ → Option ℕ → Option ℕ
 greater highest None = highest
@@ -18,10 +13,10 @@ greater None (Some place) = Some place
 greater (Some highest) (Some place) = Some (max highest place)
 
 -- The greatest of the sender's places of which a packet was taken.
-abbrev pub highest_of : List Entry → Option ℕ
-highest_of [] = None
-highest_of (Delivered index label now (Taken taken) ∷ before) = greater (highest_of before) (place_of label)
-highest_of (entry ∷ before) = highest_of before
+abbrev pub highest_taken : List Entry → Option ℕ
+highest_taken [] = None
+highest_taken (Delivered index label now (Taken taken) ∷ before) = greater (highest_taken before) (place_of label)
+highest_taken (entry ∷ before) = highest_taken before
 
 abbrev pub or_zero : Option ℕ → ℕ
 or_zero None = 0
@@ -35,7 +30,7 @@ first_or (Some highest) first later = later
 -- How far the sender's places lie above the receiver's: by the first packet that was taken.
 abbrev pub shift_of : List Entry → ℕ
 shift_of [] = 0
-shift_of (Delivered index label now (Taken taken) ∷ before) = first_or (highest_of before) (or_zero (place_of label) - taken.place) (shift_of before)
+shift_of (Delivered index label now (Taken taken) ∷ before) = first_or (highest_taken before) (or_zero (place_of label) - taken.place) (shift_of before)
 shift_of (entry ∷ before) = shift_of before
 
 -- A delivery reaches the started receiver, the highest place before it being this: it is taken, or refused
@@ -48,5 +43,5 @@ Reaches (Some highest) (Refused fault) = receive_number fault ≢ 34
 -- A packet of this place of the sender's had reached the started receiver.
 abbrev pub IsReached : List Entry → (place : ℕ) → Type 0
 IsReached [] place = ⊥
-IsReached (Delivered index label now answer ∷ before) place = ((place_of label ≡ Some place) × Reaches (highest_of before) answer) ⊎ IsReached before place
+IsReached (Delivered index label now answer ∷ before) place = ((place_of label ≡ Some place) × Reaches (highest_taken before) answer) ⊎ IsReached before place
 IsReached (entry ∷ before) place = IsReached before place

@@ -51,6 +51,18 @@ IsRising c (Played now (Packet place content) ∷ before) = (cursor_of before �
 IsRising c (Played now (Gap place) ∷ before) = (cursor_of before ≡ Some place) × IsRising c before
 IsRising c (entry ∷ before) = IsRising c before
 
+-- the place was played
+abbrev pub IsPlayed : List Entry → (place : ℕ) → Type 0
+IsPlayed [] place = ⊥
+IsPlayed (Played now (Packet played content) ∷ before) place = (played ≡ place) ⊎ IsPlayed before place
+IsPlayed (entry ∷ before) place = IsPlayed before place
+
+-- Each place that is played lies above all that were played before it. So none is played twice.
+abbrev pub IsStrictlyRising : List Entry → Type 0
+IsStrictlyRising [] = Unit {0}
+IsStrictlyRising (Played now (Packet place content) ∷ before) = ((earlier : ℕ) → IsPlayed before earlier → earlier < place) × IsStrictlyRising before
+IsStrictlyRising (entry ∷ before) = IsStrictlyRising before
+
 -- an overrun passed the place, the cursor before it being this
 abbrev pub PassedBy : Option ℕ → (overrun place : ℕ) → Type 0
 PassedBy None overrun place = ⊥

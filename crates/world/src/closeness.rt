@@ -1,7 +1,8 @@
-//! Whether a log is close and honest, kept as the log grows.
+//! Whether a log is close and nothing was injected, kept as the log grows.
 ghost use Rattle.std.specs.Prelude.{◌≡◌, ◌↔◌, [], ◌∷◌, List, IsTrue};
 ghost use Rattle.world.specs.declared.event.Entry.{Entry as Logged};
-ghost use Rattle.world.specs.Reach.{place_of, greater};
+ghost use Rattle.world.specs.Labels.{place_of};
+ghost use Rattle.world.specs.Reach.{greater};
 ghost use Rattle.world.specs.Close.{IsCloseTo, Tells};
 
 use crate::event::{Answer, Entry, Label};
@@ -11,12 +12,12 @@ use places::Place;
 /// 65536 - 16383, its sequence number is that of a place near the greatest one.
 const CLOSE_DISTANCE: u64 = 49153;
 
-/// What a world keeps of its log to tell whether it is close and honest, however long it is.
+/// What a world keeps of its log to tell whether it is close and nothing was injected, however long it is.
 #[derive(Clone, Copy)]
 pub(crate) struct Closeness {
     /// The greatest of the sender's places of which a packet was taken.
     highest: Option<Place>,
-    /// Whether the log is close and honest.
+    /// Whether the log is close and nothing was injected.
     holds: bool,
 }
 
@@ -57,7 +58,7 @@ impl Closeness {
         }
     }
 
-    /// Whether the log is close and honest.
+    /// Whether the log is close and nothing was injected.
     pub(crate) fn holds(&self) -> bool
         ensures { result ≡ self.now.holds }
     {

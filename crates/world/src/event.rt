@@ -1,6 +1,6 @@
 //! What happens in a world, and what its log tells of it.
 ghost use Rattle.std.specs.Prelude.{◌≡◌};
-ghost use Rattle.world.specs.Reach.{place_of};
+ghost use Rattle.world.specs.Labels.{end_of, place_of};
 
 use crate::send::SendFault;
 use places::Place;
@@ -28,13 +28,31 @@ pub enum Event {
 }
 
 /// What a datagram on the wire is.
-#[derive(Clone, Copy, Debug, PartialEq, Eq)]
+#[derive(Debug, Drop, PartialEq, Eq)]
 pub enum Label {
     /// The media packet of this place of the sender's.
     Media(Place),
 }
 
 impl Label {
+    /// The same label once more. It takes no memory.
+    pub fn copy(&self) -> Label
+        ensures { result ≡ self.now }
+    {
+        match self {
+            Label::Media(place) => Label::Media(*place),
+        }
+    }
+
+    /// The end that the datagram under it is for.
+    pub(crate) fn end(&self) -> End
+        ensures { result ≡ end_of self.now }
+    {
+        match self {
+            Label::Media(_) => End::Receiver,
+        }
+    }
+
     /// The sender's place of the packet under it, if it is a packet's.
     pub(crate) fn place(&self) -> Option<Place>
         ensures { result ≡ place_of self.now }
@@ -111,7 +129,7 @@ impl Entry {
                 answer,
             } => Entry::Delivered {
                 index: *index,
-                label: *label,
+                label: label.copy(),
                 now: *now,
                 answer: *answer,
             },

@@ -1,33 +1,45 @@
 //! Laws on logs. These functions compute nothing: their contracts are the laws.
-ghost use Rattle.std.specs.Prelude.{◌≡◌, ◌++◌, List};
+ghost use Rattle.std.specs.Prelude.{◌≡◌, ℕ, List, Some, reverse, slice_get};
 ghost use Rattle.world.specs.declared.event.Event.{Event};
 ghost use Rattle.world.specs.declared.event.Entry.{Entry};
 ghost use Rattle.world.specs.Config.{Config};
-ghost use Rattle.world.specs.Answers.{Stand, Answers};
-ghost use Rattle.world.specs.Reading.{IsRising, IsFinal};
-ghost use Rattle.world.specs.Wire.{IsFaithful};
+ghost use Rattle.world.specs.Answers.{Item, Stand, Answers};
+ghost use Rattle.world.specs.Reading.{IsRising, IsFinal, IsStrictlyRising};
+ghost use Rattle.world.specs.Wire.{IsFaithful, SpellsLabel};
 ghost use Rattle.world.specs.Close.{IsClose, IsHonest};
-ghost use Rattle.world.specs.Good.{IsGood};
+ghost use Rattle.world.specs.Good.{IsGood, PlaysRightly};
+
+use receiver::{hearing_is_determined, playing_is_determined};
 
 /// Whatever events a log answers, and whatever octets a peer injected: what is played or given up rises place
-/// by place, and a place that was given up or overrun is never played later.
+/// by place, no place is played twice, and a place that was given up or overrun is never played later.
 pub fn logs_are_in_order()
     ensures rising { (c : Config) (events : List Event) (past : List Entry) (end : Stand) → Answers c events past end → IsRising c past }
     ensures finals { (c : Config) (events : List Event) (past : List Entry) (end : Stand) → Answers c events past end → IsFinal past }
-{}
+    ensures strictly { (c : Config) (events : List Event) (past : List Entry) (end : Stand) → Answers c events past end → IsStrictlyRising past }
+{
+    hearing_is_determined();
+}
 
 /// Whatever events a log answers: each datagram on the wire has the label and the index that the log tells, and
 /// spells what its label says was sent.
 pub fn wires_are_faithful()
-    ensures { (c : Config) (events : List Event) (past : List Entry) (end : Stand) → Answers c events past end → IsFaithful c past end.wire }
+    ensures faithful { (c : Config) (events : List Event) (past : List Entry) (end : Stand) → Answers c events past end → IsFaithful c past end.wire }
+    // The same for one datagram: its octets spell what its label says.
+    ensures spelled { (c : Config) (past : List Entry) (wire : List Item) (i : ℕ) (item : Item)
+        → IsFaithful c past wire → slice_get wire i ≡ Some item → SpellsLabel c past item.0 item.1.items }
 {}
 
-/// Whatever events a log answers: each beginning of it that is close and honest is good. It is a run over
-/// places; each packet played is what was sent at its place, and had come; each gap and each wait has its cause;
-/// and nothing is refused but for coming before the start, from too far, too late or twice.
+/// Whatever events a log answers, if it is close and honest it is good, and so is each beginning of it that is. It
+/// is a run over places that leaves both ends as they are; each packet played is what was sent at its place, and had
+/// come; each gap and each wait has its cause; and nothing is refused but for coming before the start, from too far,
+/// too late or twice.
 pub fn logs_are_good()
-    ensures { (c : Config) (events : List Event) (later earlier : List Entry) (end : Stand) → Answers c events (later ++ earlier) end → IsClose earlier → IsHonest earlier → IsGood c earlier }
-{}
+    ensures good { (c : Config) (events : List Event) (past : List Entry) (end : Stand) → Answers c events past end → IsClose past → IsHonest past → IsGood c past end }
+    ensures beginnings { (c : Config) (events : List Event) (log : List Entry) (end : Stand) → Answers c events (reverse log) end → PlaysRightly c log end }
+{
+    hearing_is_determined();
+}
 
 /// A configuration and a list of events determine the rest: at most one log answers them, with one wire and one
 /// state of both ends.
@@ -35,4 +47,7 @@ pub fn answers_are_determined()
     ensures log { (c : Config) (events : List Event) (one other : List Entry) (end stop : Stand) → Answers c events one end → Answers c events other stop → one ≡ other }
     ensures wire { (c : Config) (events : List Event) (one other : List Entry) (end stop : Stand) → Answers c events one end → Answers c events other stop → end.wire ≡ stop.wire }
     ensures end { (c : Config) (events : List Event) (one other : List Entry) (end stop : Stand) → Answers c events one end → Answers c events other stop → end ≡ stop }
-{}
+{
+    hearing_is_determined();
+    playing_is_determined();
+}

@@ -1,10 +1,10 @@
 //! Numbering and writing what is sent.
-ghost use Rattle.std.specs.Prelude.{◌≡◌, ℕ, ◌≤◌, ◌^◌};
-ghost use Rattle.rtpwire.specs.Content.{IsTooLong, packet_of};
-ghost use Rattle.world.specs.Sending.{SendsAny};
+ghost use Rattle.std.specs.Prelude.{◌≡◌};
+ghost use Rattle.world.specs.Sending.{new_sender, SendsAny};
 
 use places::Place;
-use rtpwire::{Content, Datagram, Session, write_media};
+use rtpwire::{Content, Datagram, Session, content_is_bounded, content_is_determined, write_media};
+use std::marker::Model;
 
 /// Why a content is not sent: the first check that it fails, in this order.
 #[derive(Clone, Copy, Debug, PartialEq, Eq, Hash)]
@@ -29,42 +29,61 @@ impl SendFault {
     }
 }
 
-/// Writes a content at the next place, and moves that on.
-pub(crate) fn send(
-    next: &mut u64,
-    session: &Session,
-    content: &Content,
-    padding: u8,
-) -> Result<(Place, Datagram), SendFault>
-    requires { next.old ≤ 2 ^ 48 }
-    ensures sends { SendsAny session.now next.old content.now padding result next.new }
-    ensures bound { next.new ≤ 2 ^ 48 }
-{
-    if padding > 0 && content.payload.is_empty() {
-        return Err(SendFault::PaddedEmpty);
-    }
-    let Some(place) = Place::new(*next) else {
-        return Err(SendFault::Exhausted);
-    };
-    can_be_held(content);
-    let datagram = write_media(
-        content,
-        padding,
-        place.number(),
-        session.media_type(),
-        session.media_ssrc(),
-    );
-    *next += 1;
-    Ok((place, datagram))
+/// The sending end, as far as it goes: it numbers what is sent, and writes it.
+#[derive(Clone, Copy)]
+pub(crate) struct Sender {
+    /// The next place, or 2^48 where there is no further one.
+    next: u64,
 }
 
-/// A packet that carries a content is never too long for the content that a receiver makes of it: both have
-/// the same room. It computes nothing.
-fn can_be_held(content: &Content)
-    ensures { (padding sequence payload_type ssrc : ℕ) → IsTooLong (packet_of content.now padding sequence payload_type ssrc) → ⊥ }
-{
-    let _octets = content.payload.len();
-    if let Some(extension) = &content.extension {
-        let _words = extension.words.len();
+impl Model for Sender {
+    ghost use Rattle.std.specs.Prelude.{◌^◌, ◌≤◌};
+    ghost use Rattle.world.specs.Sending.{Sender as Value_of};
+
+    ghost Value = { Value_of };
+
+    ghost view = { λ s. record { next = s.next } };
+
+    ghost invariant = { λ s. s.next ≤ 2 ^ 48 };
+
+    ghost inverse = { λ s. record { next = s.next } };
+}
+
+impl Sender {
+    /// One that sent nothing. Its first packet will have the sequence number `first`.
+    pub(crate) fn new(first: u16) -> Sender
+        ensures { result ≡ new_sender first }
+    {
+        Sender {
+            next: Place::first(first).value(),
+        }
+    }
+
+    /// Writes a content at the next place, with so many octets of padding, the count included.
+    pub(crate) fn send(
+        &mut self,
+        session: &Session,
+        content: &Content,
+        padding: u8,
+    ) -> Result<(Place, Datagram), SendFault>
+        ensures { SendsAny session.now self.old content.now padding result self.new }
+    {
+        if padding > 0 && content.payload.is_empty() {
+            return Err(SendFault::PaddedEmpty);
+        }
+        let Some(place) = Place::new(self.next) else {
+            return Err(SendFault::Exhausted);
+        };
+        content_is_bounded(content);
+        content_is_determined();
+        let datagram = write_media(
+            content,
+            padding,
+            place.number(),
+            session.media_type(),
+            session.media_ssrc(),
+        );
+        self.next += 1;
+        Ok((place, datagram))
     }
 }

@@ -142,6 +142,27 @@ fn an_overrun(rt: HostRuntime) -> Result<(), Fail> {
 }
 
 #[test]
+fn a_patience_of_nothing(rt: HostRuntime) -> Result<(), Fail> {
+    let session = Session::new(0x11111111, 96, 0x22222222, 97, 0x33333333)?;
+    let config = Config::new(session, 1, 5, 8, 8, 0, 20, 3, 2)?;
+    let world = World::<ListWindow>::new(rt.alloc(), &config);
+    let mut world = world.map_err(|_| "memory is ample")?;
+    for _ in 0..3 {
+        does(&mut world, &send(b"\xaa")?)?;
+    }
+    for (event, want) in [
+        (Event::Deliver(0, 0), ("taken", 65537, 0)),
+        (Event::Deliver(2, 5), ("taken", 65539, 0)),
+        (Event::Play(4), ("play", 65537, 0)),
+        (Event::Play(4), ("wait", 0, 0)),
+        (Event::Play(5), ("gap", 65538, 0)),
+    ] {
+        assert_eq!(rt; does(&mut world, &event)?, want);
+    }
+    Ok(())
+}
+
+#[test]
 fn nothing_there_and_a_refused_send(rt: HostRuntime) -> Result<(), Fail> {
     let mut world = world(rt.alloc(), 1, 8)?;
     assert_eq!(rt; does(&mut world, &Event::Deliver(9, 0))?, ("nothing", 0, 0));

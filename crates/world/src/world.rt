@@ -1,21 +1,22 @@
 //! The world: two ends, the wire and the log.
-ghost use Rattle.std.specs.Prelude.{◌≡◌, ◌↔◌, ◌+◌, ◌^◌, ◌<◌, ◌≤◌, ◌++◌, [], ◌∷◌, List, ℕ, length, reverse, vec_len, IsTrue, IfOk, OnOk, OnErr};
+ghost use Rattle.std.specs.Prelude.{◌≡◌, ◌↔◌, ◌<◌, ◌++◌, [], ◌∷◌, List, reverse, vec_len, IsTrue, IfOk, OnOk, OnErr};
 ghost use Rattle.std.specs.Vec.{vec_capacity};
-ghost use Rattle.stores.specs.Span.{Span};
-ghost use Rattle.receiver.specs.Window.{state_of};
+ghost use Rattle.receiver.specs.Receiver.{Receiving};
 ghost use Rattle.world.specs.Config.{Config as Setup};
-ghost use Rattle.world.specs.Answers.{HearsAt, Step, Answers};
+ghost use Rattle.world.specs.Labels.{end_of};
+ghost use Rattle.world.specs.Sending.{Sender as Sending};
+ghost use Rattle.world.specs.Answers.{Item, HearsAt, Step, Answers};
 ghost use Rattle.world.specs.Reading.{IsRising, IsFinal};
 ghost use Rattle.world.specs.Wire.{IsFaithful};
-ghost use Rattle.world.specs.Close.{IsClose, IsHonest};
-ghost use Rattle.world.specs.Good.{PlaysRightly};
+ghost use Rattle.world.specs.Close.{IsClose, IsUninjected};
+ghost use Rattle.world.specs.Good.{IsGood, PlaysRightly};
 ghost use Rattle.world.specs.World.{IsLogged, stand_at, stand_of, empty};
 
 use crate::closeness::Closeness;
 use crate::config::Config;
 use crate::event::{Answer, End, Entry, Event, Label};
-use crate::send::send;
-use places::Place;
+use crate::laws::{logs_are_good, logs_are_in_order, wires_are_faithful};
+use crate::send::Sender;
 use receiver::Receiver;
 use rtpwire::{Content, Datagram};
 use std::alloc::Global;
@@ -26,7 +27,7 @@ use stores::{OutOfMemory, Window};
 #[derive(Drop)]
 pub struct World<W: Window> {
     config: Config,
-    next: u64,
+    sender: Sender,
     wire: Vec<(Label, Datagram)>,
     receiver: Receiver<W>,
     log: Vec<Entry>,
@@ -34,16 +35,16 @@ pub struct World<W: Window> {
 }
 
 impl<W: Window> Model for World<W> {
-    ghost use Rattle.std.specs.Prelude.{◌≡◌, ◌^◌, ◌≤◌, reverse};
+    ghost use Rattle.std.specs.Prelude.{◌≡◌, reverse};
     ghost use Rattle.world.specs.Close.{Tells};
-    ghost use Rattle.world.specs.World.{Kept, IsLogged, stand_at};
+    ghost use Rattle.world.specs.World.{Recorded, IsLogged, stand_at};
 
-    ghost Value = { Kept };
+    ghost Value = { Recorded };
 
-    ghost view = { λ w. record { config = w.config; next = w.next; wire = w.wire.items; span = w.receiver.span; log = w.log.items } };
+    ghost view = { λ w. record { config = w.config; sender = w.sender; wire = w.wire.items; receiver = w.receiver; log = w.log.items } };
 
-    ghost invariant = { λ w. (w.next ≤ 2 ^ 48) × (w.receiver.config ≡ w.config.receiver) × (w.receiver.span.capacity ≡ w.config.window)
-        × IsLogged w.config w.log.items (stand_at w.next w.wire.items w.receiver.span)
+    ghost invariant = { λ w. (w.receiver.config ≡ w.config.receiver) × (w.receiver.span.capacity ≡ w.config.window)
+        × IsLogged w.config w.log.items (stand_at w.sender w.wire.items w.receiver)
         × Tells w.closeness.highest w.closeness.holds (reverse w.log.items) };
 }
 
@@ -57,7 +58,7 @@ impl<W: Window> World<W> {
         let window = W::new(alloc, config.window())?;
         Ok(World {
             config: *config,
-            next: Place::first(config.first()).value(),
+            sender: Sender::new(config.first()),
             wire: Vec::new(alloc),
             receiver: Receiver::new(config.receiver(), window),
             log: Vec::new(alloc),
@@ -72,6 +73,7 @@ impl<W: Window> World<W> {
         ensures step { IfOk result (λ entry. Step self.old.config (stand_of self.old) event.now entry (stand_of self.new)) }
         ensures log { IfOk result (λ entry. self.new.log ≡ self.old.log ++ entry ∷ []) }
         ensures config { self.new.config ≡ self.old.config }
+        ensures capacity { self.new.receiver.span.capacity ≡ self.new.config.window }
         ensures err { OnErr result (self.new ≡ self.old) }
 
         // The log answers the events so far, so it is in order, and the wire is faithful to it.
@@ -80,13 +82,16 @@ impl<W: Window> World<W> {
         ensures finals { OnOk result (IsFinal (reverse self.new.log)) }
         ensures faithful { OnOk result (IsFaithful self.new.config (reverse self.new.log) self.new.wire) }
         // Each beginning of the log that is close and honest is good.
-        ensures good { OnOk result (PlaysRightly self.new.config self.new.log) }
+        ensures good { OnOk result (PlaysRightly self.new.config self.new.log (stand_of self.new)) }
     {
+        logs_are_in_order();
+        wires_are_faithful();
+        logs_are_good();
         self.log.reserve(1)?;
         self.wire.reserve(1)?;
         let entry = answered(
             &self.config,
-            &mut self.next,
+            &mut self.sender,
             &mut self.wire,
             &mut self.receiver,
             event,
@@ -110,19 +115,21 @@ impl<W: Window> World<W> {
         self.log.as_slice()
     }
 
-    /// Whether the log is close and honest: each packet that was delivered lay less than 49153 from the greatest
-    /// place taken before it, and nothing was injected. It takes no memory, and walks no log.
+    /// Whether the log is close and nothing was injected: each packet that was delivered lay less than 49153 from
+    /// the greatest place taken before it. It takes no memory, and walks no log.
     ///
-    /// As long as it is so, the receiver plays rightly, by the contract of [`step`](World::step).
+    /// As long as it is so, the log is good: what the receiver played is what was sent.
     pub fn close(&self) -> bool
-        ensures { IsTrue result ↔ (IsClose (reverse self.now.log) × IsHonest (reverse self.now.log)) }
+        ensures exact { IsTrue result ↔ (IsClose (reverse self.now.log) × IsUninjected (reverse self.now.log)) }
+        ensures good { IsTrue result → IsGood self.now.config (reverse self.now.log) (stand_of self.now) }
     {
+        logs_are_good();
         self.closeness.holds()
     }
 
     /// The receiver's window.
     pub fn window(&self) -> &W
-        ensures { W.meaning result.now ≡ self.now.span }
+        ensures { W.meaning result.now ≡ self.now.receiver.span }
     {
         self.receiver.window()
     }
@@ -137,6 +144,8 @@ pub fn run<W: Window>(
     events: &[Event],
 ) -> Result<World<W>, OutOfMemory>
     ensures config { IfOk result (λ world. world.config ≡ config.now) }
+    // The receiver's window is that of the configuration.
+    ensures capacity { IfOk result (λ world. world.receiver.span.capacity ≡ config.now.window) }
     // One entry for each event, each the answer of its end in the state that those before it left.
     ensures answers { IfOk result (λ world. Answers config.now (reverse events.now) (reverse world.log) (stand_of world)) }
     // What is played or given up rises, and is played never again.
@@ -146,8 +155,11 @@ pub fn run<W: Window>(
     ensures faithful { IfOk result (λ world. IsFaithful config.now (reverse world.log) world.wire) }
     // The headline: each beginning of the log that is close and honest is good. The receiver plays what was
     // sent at each place, gives up and waits for cause alone, and refuses lawfully.
-    ensures good { IfOk result (λ world. PlaysRightly config.now world.log) }
+    ensures good { IfOk result (λ world. PlaysRightly config.now world.log (stand_of world)) }
 {
+    logs_are_in_order();
+    wires_are_faithful();
+    logs_are_good();
     let mut world = World::new(alloc, config)?;
     for event in events {
         world.step(event)?;
@@ -158,32 +170,30 @@ pub fn run<W: Window>(
 /// What the ends do with an event. There is room on the wire.
 fn answered<W: Window>(
     config: &Config,
-    next: &mut u64,
+    sender: &mut Sender,
     wire: &mut Vec<(Label, Datagram)>,
     receiver: &mut Receiver<W>,
     event: &Event,
 ) -> Entry
     requires room { vec_len wire.old < vec_capacity wire.old }
-    requires next { next.old ≤ 2 ^ 48 }
     requires receiver { receiver.old.config ≡ config.now.receiver }
     requires window { receiver.old.span.capacity ≡ config.now.window }
-    ensures step { Step config.now (stand_at next.old wire.old.items receiver.old.span) event.now result
-        (stand_at next.new wire.new.items receiver.new.span) }
-    ensures next { next.new ≤ 2 ^ 48 }
+    ensures step { Step config.now (stand_at sender.old wire.old.items receiver.old) event.now result
+        (stand_at sender.new wire.new.items receiver.new) }
     ensures receiver { receiver.new.config ≡ receiver.old.config }
     ensures window { receiver.new.span.capacity ≡ receiver.old.span.capacity }
 {
     match event {
-        Event::Send(content, padding) => sent(config, next, wire, content, *padding),
+        Event::Send(content, padding) => sent(config, sender, wire, content, *padding),
         Event::Deliver(index, now) => delivered(wire.as_slice(), receiver, *index, *now),
         Event::Play(now) => Entry::Played {
             now: *now,
             played: receiver.play(*now),
         },
-        Event::Inject(End::Receiver, datagram, now) => Entry::Injected {
-            end: End::Receiver,
+        Event::Inject(end, datagram, now) => Entry::Injected {
+            end: *end,
             now: *now,
-            answer: heard(receiver, datagram.as_slice(), *now),
+            answer: heard(*end, receiver, datagram.as_slice(), *now),
         },
     }
 }
@@ -191,19 +201,17 @@ fn answered<W: Window>(
 /// Sends a content. There is room on the wire.
 fn sent(
     config: &Config,
-    next: &mut u64,
+    sender: &mut Sender,
     wire: &mut Vec<(Label, Datagram)>,
     content: &Content,
     padding: u8,
 ) -> Entry
     requires room { vec_len wire.old < vec_capacity wire.old }
-    requires next { next.old ≤ 2 ^ 48 }
-    ensures step { (span : Span) → Step config.now (stand_at next.old wire.old.items span) (Event.Send content.now padding) result
-        (stand_at next.new wire.new.items span) }
-    ensures next { next.new ≤ 2 ^ 48 }
+    ensures step { (receiver : Receiving) → Step config.now (stand_at sender.old wire.old.items receiver) (Event.Send content.now padding) result
+        (stand_at sender.new wire.new.items receiver) }
 {
     let index = wire.len() as u64;
-    match send(next, &config.receiver().session(), content, padding) {
+    match sender.send(&config.receiver().session(), content, padding) {
         Err(fault) => Entry::SendRefused(fault),
         Ok((place, datagram)) => {
             wire.push_reserved((Label::Media(place), datagram));
@@ -223,8 +231,8 @@ fn delivered<W: Window>(
     index: u64,
     now: u64,
 ) -> Entry
-    ensures step { (c : Setup) (next : ℕ) → c.receiver ≡ receiver.old.config → c.window ≡ receiver.old.span.capacity
-        → Step c (stand_at next wire.now receiver.old.span) (Event.Deliver index now) result (stand_at next wire.now receiver.new.span) }
+    ensures step { (c : Setup) (sender : Sending) → c.receiver ≡ receiver.old.config → c.window ≡ receiver.old.span.capacity
+        → Step c (stand_at sender wire.now receiver.old) (Event.Deliver index now) result (stand_at sender wire.now receiver.new) }
     ensures receiver { receiver.new.config ≡ receiver.old.config }
     ensures window { receiver.new.span.capacity ≡ receiver.old.span.capacity }
 {
@@ -232,23 +240,24 @@ fn delivered<W: Window>(
         None => Entry::Nothing,
         Some((label, datagram)) => Entry::Delivered {
             index,
-            label: *label,
+            label: label.copy(),
             now,
-            answer: match label {
-                Label::Media(_) => heard(receiver, datagram.as_slice(), now),
-            },
+            answer: heard(label.end(), receiver, datagram.as_slice(), now),
         },
     }
 }
 
-/// Hands octets to the receiver.
-fn heard<W: Window>(receiver: &mut Receiver<W>, octets: &[u8], now: u64) -> Answer
-    ensures hears { HearsAt receiver.old.span.capacity receiver.old.config.session (state_of receiver.old.span) octets.now now result (state_of receiver.new.span) }
+/// Hands octets to an end.
+fn heard<W: Window>(end: End, receiver: &mut Receiver<W>, octets: &[u8], now: u64) -> Answer
+    ensures hears { (c : Setup) (sender : Sending) (wire : List Item) → c.receiver ≡ receiver.old.config → c.window ≡ receiver.old.span.capacity
+        → HearsAt c end (stand_at sender wire receiver.old) octets.now now result (stand_at sender wire receiver.new) }
     ensures receiver { receiver.new.config ≡ receiver.old.config }
     ensures window { receiver.new.span.capacity ≡ receiver.old.span.capacity }
 {
-    match receiver.on_media(octets, now) {
-        Ok(taken) => Answer::Taken(taken),
-        Err(fault) => Answer::Refused(fault),
+    match end {
+        End::Receiver => match receiver.on_media(octets, now) {
+            Ok(taken) => Answer::Taken(taken),
+            Err(fault) => Answer::Refused(fault),
+        },
     }
 }

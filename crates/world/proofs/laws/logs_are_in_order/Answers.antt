@@ -1,8 +1,12 @@
 use Rattle.world.proofs.Order.{ordered}
+use Rattle.world.proofs.Strictly.{strictly}
 use Rattle.world.proofs.laws.logs_are_in_order.Goals as goal
 
-pub returns-clause-rising : goal.returns-clause-rising
-returns-clause-rising c config events past end answers = (ordered config events past end answers).rising
-
-pub returns-clause-finals : goal.returns-clause-finals
-returns-clause-finals c config events past end answers = (ordered config events past end answers).final
+pub returns : goal.returns
+returns c =
+    let order = ordered c.hearing_is_determined.ensures.any in
+    record {
+      rising = λ config events past end answers. (order config events past end answers).rising;
+      finals = λ config events past end answers. (order config events past end answers).final;
+      strictly = λ config events past end answers. strictly config past (order config events past end answers).rising;
+    }

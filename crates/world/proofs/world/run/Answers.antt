@@ -3,24 +3,21 @@ use Rattle.std.proofs.lemmas.List.{take_all}
 use Rattle.world.specs.declared.event.Event.{Event}
 use Rattle.world.specs.Answers.{Answers}
 use Rattle.world.specs.World.{stand_of}
-use Rattle.world.proofs.Order.{ordered}
-use Rattle.world.proofs.Faithful.{wired}
-use Rattle.world.proofs.Headline.{plays_rightly}
 use Rattle.world.proofs.world.run.Goals as goal
 
 pub returns-clause-answers : goal.returns-clause-answers
 returns-clause-answers g c =
     subst (λ (events : List Event). Answers c.args.config.now (reverse events) (reverse c.loop-event.world.log) (stand_of c.loop-event.world))
-    (take_all c.loop-event.event-index c.args.events.now (omega (arith, c.loop-event-test.false))) c.loop-event.invariant.1
+    (take_all c.loop-event.event-index c.args.events.now (omega (arith, c.loop-event-test.false))) c.loop-event.invariant.2
 
 pub returns-clause-rising : goal.returns-clause-rising
-returns-clause-rising g c = (ordered _ _ _ _ (returns-clause-answers g c)).rising
+returns-clause-rising g c = c.logs_are_in_order.ensures.rising _ _ _ _ (returns-clause-answers g c)
 
 pub returns-clause-finals : goal.returns-clause-finals
-returns-clause-finals g c = (ordered _ _ _ _ (returns-clause-answers g c)).final
+returns-clause-finals g c = c.logs_are_in_order.ensures.finals _ _ _ _ (returns-clause-answers g c)
 
 pub returns-clause-faithful : goal.returns-clause-faithful
-returns-clause-faithful g c = (wired _ _ _ _ (returns-clause-answers g c)).faithful
+returns-clause-faithful g c = c.wires_are_faithful.ensures.faithful _ _ _ _ (returns-clause-answers g c)
 
 pub returns-clause-good : goal.returns-clause-good
-returns-clause-good g c = plays_rightly _ _ _ _ (returns-clause-answers g c)
+returns-clause-good g c = c.logs_are_good.ensures.beginnings _ _ _ _ (returns-clause-answers g c)

@@ -1,9 +1,6 @@
 use Rattle.std.proofs.Common.{List, ◌∙◌, reverse, subst}
 use Rattle.world.specs.Answers.{Item, Step}
 use Rattle.world.specs.World.{stand_at}
-use Rattle.world.proofs.Order.{ordered}
-use Rattle.world.proofs.Faithful.{wired}
-use Rattle.world.proofs.Headline.{plays_rightly}
 use Rattle.world.proofs.Runs.{pushed, logged_more, tells_more}
 use Rattle.world.proofs.world.World.step.Goals as goal
 
@@ -11,31 +8,30 @@ pub returns-clause-logged : goal.returns-clause-logged
 returns-clause-logged g c =
     let w = c.self.inside in
     let log = pushed w.log.items c.reserve.new.self.items c.push_reserved.new.self.items c.answered-entry.result c.copy.result c.push_reserved.ensures.items c.reserve.ensures.items c.copy.ensures in
-    let new = stand_at c.answered-entry.new.next c.answered-entry.new.wire.items c.answered-entry.new.receiver.span in
-    let step = subst (λ (x : List Item). Step w.config (stand_at w.next x w.receiver.span) c.args.event.now c.answered-entry.result new) c.reserve-2.ensures.items c.answered-entry.ensures.step in
-    logged_more w.config w.log.items c.push_reserved.new.self.items c.answered-entry.result c.args.event.now (stand_at w.next w.wire.items w.receiver.span) new
-    c.self.invariant.3 log step
+    let new = stand_at c.answered-entry.new.sender c.answered-entry.new.wire.items c.answered-entry.new.receiver in
+    let step = subst (λ (x : List Item). Step w.config (stand_at w.sender x w.receiver) c.args.event.now c.answered-entry.result new) c.reserve-2.ensures.items c.answered-entry.ensures.step in
+    logged_more w.config w.log.items c.push_reserved.new.self.items c.answered-entry.result c.args.event.now (stand_at w.sender w.wire.items w.receiver) new
+    c.self.invariant.2 log step
 
 pub invariant_of-self-2 : goal.invariant_of-self-2
 invariant_of-self-2 g c =
     let w = c.self.inside in
     let log = pushed w.log.items c.reserve.new.self.items c.push_reserved.new.self.items c.answered-entry.result c.copy.result c.push_reserved.ensures.items c.reserve.ensures.items c.copy.ensures in
     let closeness = c.after-self-inside in (
-      c.answered-entry.ensures.next,
-      c.answered-entry.ensures.receiver ∙ c.self.invariant.1,
-      c.answered-entry.ensures.window ∙ c.self.invariant.2,
+      c.answered-entry.ensures.receiver ∙ c.self.invariant.0,
+      c.answered-entry.ensures.window ∙ c.self.invariant.1,
       returns-clause-logged g c,
-      tells_more closeness.result.highest closeness.result.holds w.log.items c.push_reserved.new.self.items c.answered-entry.result log (closeness.ensures (reverse w.log.items) c.self.invariant.4),
+      tells_more closeness.result.highest closeness.result.holds w.log.items c.push_reserved.new.self.items c.answered-entry.result log (closeness.ensures (reverse w.log.items) c.self.invariant.3),
     )
 
 pub returns-clause-rising : goal.returns-clause-rising
-returns-clause-rising g c = (ordered _ _ _ _ (returns-clause-logged g c).answers).rising
+returns-clause-rising g c = c.logs_are_in_order.ensures.rising _ _ _ _ (returns-clause-logged g c).answers
 
 pub returns-clause-finals : goal.returns-clause-finals
-returns-clause-finals g c = (ordered _ _ _ _ (returns-clause-logged g c).answers).final
+returns-clause-finals g c = c.logs_are_in_order.ensures.finals _ _ _ _ (returns-clause-logged g c).answers
 
 pub returns-clause-faithful : goal.returns-clause-faithful
-returns-clause-faithful g c = (wired _ _ _ _ (returns-clause-logged g c).answers).faithful
+returns-clause-faithful g c = c.wires_are_faithful.ensures.faithful _ _ _ _ (returns-clause-logged g c).answers
 
 pub returns-clause-good : goal.returns-clause-good
-returns-clause-good g c = plays_rightly _ _ _ _ (returns-clause-logged g c).answers
+returns-clause-good g c = c.logs_are_good.ensures.beginnings _ _ _ _ (returns-clause-logged g c).answers
