@@ -50,6 +50,8 @@ fn configurations(rt: HostRuntime) -> Result<(), Fail> {
     let config = ReceiverConfig::new(session()?, 0, 1, 1)?;
     assert_eq!(rt; config.session(), session()?);
     assert_eq!(rt; config.patience(), 0);
+    hearing_is_determined();
+    playing_is_determined();
     Ok(())
 }
 
@@ -78,6 +80,57 @@ fn a_receiver_that_took_nothing(rt: HostRuntime) -> Result<(), Fail> {
         assert_eq!(rt; heard(&mut receiver, octets, 0), Err(refusal));
         assert_eq!(rt; receiver.play(0), Played::Wait);
         assert_eq!(rt; receiver.window().cursor(), None);
+    }
+    Ok(())
+}
+
+/// A media packet whose payload is one octet too long, under this type and sequence number.
+fn too_long(payload_type: u8, seq: u8) -> [u8; 1213] {
+    let mut octets = [0x11; 1213];
+    octets[0] = 0x80;
+    octets[1] = payload_type;
+    octets[2] = 0x40;
+    octets[3] = seq;
+    octets
+}
+
+#[test]
+fn the_first_of_two_faults(rt: HostRuntime) -> Result<(), Fail> {
+    let mut receiver = receiver(rt.alloc(), 8, 100)?;
+    for (octets, refusal) in [
+        // No version 2, and an unknown source.
+        (
+            b"\x40\x60\x00\x01\x00\x00\x00\x00\x44\x44\x44\x44".as_slice(),
+            2,
+        ),
+        // Padding of no octets, and an unknown source.
+        (
+            b"\xa0\x60\x00\x01\x00\x00\x00\x00\x44\x44\x44\x44\xaa\x00".as_slice(),
+            5,
+        ),
+        // An unknown source, and an unknown type.
+        (
+            b"\x80\x62\x00\x01\x00\x00\x00\x00\x44\x44\x44\x44".as_slice(),
+            31,
+        ),
+        // A retransmission before the start, under the media's type.
+        (
+            b"\x80\x60\x00\x05\x00\x00\x00\x00\x22\x22\x22\x22\x00\x01".as_slice(),
+            32,
+        ),
+        (too_long(0x62, 0).as_slice(), 32),
+    ] {
+        assert_eq!(rt; heard(&mut receiver, octets, 0), Err(refusal));
+    }
+
+    // Too long, and from too far (16384 ahead), held already, or below the cursor.
+    let first = b"\x80\x60\x00\x01\x00\x00\x00\x00\x11\x11\x11\x11";
+    assert_eq!(rt; heard(&mut receiver, first, 0), Ok((65537, 0)));
+    assert_eq!(rt; heard(&mut receiver, &too_long(0x60, 1), 0), Err(37));
+    for seq in [0, 1] {
+        let mut octets = too_long(0x60, seq);
+        octets[2] = 0;
+        assert_eq!(rt; heard(&mut receiver, &octets, 0), Err(37));
     }
     Ok(())
 }
