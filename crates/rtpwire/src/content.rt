@@ -6,7 +6,7 @@ ghost use Rattle.rtpwire.specs.RtpReading.{words_at};
 
 use crate::fault::ContentFault;
 use crate::limits::{MAX_DATAGRAM, MAX_PAYLOAD, MAX_SOURCES, MAX_WORDS};
-use crate::octets::u32_at;
+use crate::octets::{push_octets, u32_at};
 use crate::retransmission::RtxView;
 use crate::rtp::RtpView;
 use arrayvec::ArrayVec;
@@ -75,8 +75,9 @@ impl Content {
     pub fn copy(&self) -> Content
         ensures { result ≡ self.now }
     {
-        Content {
-            payload: copy_items(&self.payload),
+        // The payload goes straight to where it stays, as in `with_payload`.
+        let mut copy = Content {
+            payload: ArrayVec::new(),
             timestamp: self.timestamp,
             marker: self.marker,
             sources: copy_items(&self.sources),
@@ -84,7 +85,9 @@ impl Content {
                 Some(extension) => Some(extension.copy()),
                 None => None,
             },
-        }
+        };
+        push_octets(&mut copy.payload, &self.payload);
+        copy
     }
 }
 
@@ -95,17 +98,20 @@ fn with_payload(view: &RtpView<'_>, payload: &[u8]) -> Result<Content, ContentFa
         ≡ record view.now { payload = payload.now }) }
     ensures too_long { IsErr result ↔ IsTooLong (record view.now { payload = payload.now }) }
 {
-    let extension = extension_in(view)?;
-    let Ok(payload) = ArrayVec::try_from(payload) else {
+    if payload.len() > MAX_PAYLOAD {
         return Err(ContentFault::TooLong);
-    };
-    Ok(Content {
-        payload,
+    }
+    let extension = extension_in(view)?;
+    // The payload goes straight to where it stays: a vector of it would be moved there, whole.
+    let mut content = Content {
+        payload: ArrayVec::new(),
         timestamp: view.timestamp(),
         marker: view.marker(),
         sources: sources_in(view),
         extension,
-    })
+    };
+    push_octets(&mut content.payload, payload);
+    Ok(content)
 }
 
 fn copy_items<T: Copy + Default + Drop, const N: usize>(items: &ArrayVec<T, N>) -> ArrayVec<T, N>

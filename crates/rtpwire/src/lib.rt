@@ -4,6 +4,7 @@
 
 mod content;
 mod fault;
+mod first_octet;
 mod framing;
 mod laws;
 mod limits;

@@ -7,6 +7,7 @@ ghost use Rattle.rtpwire.specs.RtpChecks.{rtp_fault};
 ghost use Rattle.rtpwire.specs.RtpReading.{packet_in};
 
 use crate::fault::RtpFault;
+use crate::first_octet::FirstOctet;
 use crate::octets::{u16_at, u32_at};
 use std::marker::Model;
 
@@ -30,36 +31,6 @@ impl<'a> Model for RtpView<'a> {
     ghost view = { λ v. packet_in v.octets.now };
 
     ghost invariant = { λ v. IsView v.octets.now v.payload_start v.payload_end };
-}
-
-/// The fields of a packet's first octet.
-#[derive(Clone, Copy)]
-struct FirstOctet(u8);
-
-impl FirstOctet {
-    fn version(self) -> u8
-        ensures { result ≡ self.0 / 64 }
-    {
-        self.0 >> 6
-    }
-
-    fn is_padded(self) -> bool
-        ensures { result ≡ (self.0 / 32 % 2 == 1) }
-    {
-        self.0 >> 5 & 1 == 1
-    }
-
-    fn is_extended(self) -> bool
-        ensures { result ≡ (self.0 / 16 % 2 == 1) }
-    {
-        self.0 >> 4 & 1 == 1
-    }
-
-    fn source_count(self) -> usize
-        ensures { result ≡ self.0 % 16 }
-    {
-        usize::from(self.0 & 0x0f)
-    }
 }
 
 impl<'a> RtpView<'a> {

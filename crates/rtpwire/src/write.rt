@@ -4,6 +4,7 @@ ghost use Rattle.rtpwire.specs.Rtp.{RtpSpells, IsPacket, written, written_paddin
 ghost use Rattle.rtpwire.specs.Content.{packet_of, extension_of};
 
 use crate::content::{Content, Datagram, Extension};
+use crate::first_octet::FirstOctet;
 use crate::laws::content_is_bounded;
 use crate::limits::{MAX_DATAGRAM, MAX_HEADER, MAX_PAYLOAD};
 use crate::octets::{push_octets, push_u16, push_u32, push_words};
@@ -70,11 +71,10 @@ fn push_fixed_header(
     requires payload_type { payload_type < 128 }
     ensures items { out.new.items ≡ fixed_header (packet_of content.now padding sequence payload_type ssrc) }
 {
-    let padded = u8::from(padding > 0);
-    let extended = u8::from(content.extension.is_some());
-    let first = (2 << 6) + (padded << 5) + (extended << 4) + content.sources.len() as u8;
+    let is_extended = content.extension.is_some();
+    let first = FirstOctet::new(padding > 0, is_extended, content.sources.len() as u8);
     let second = (u8::from(content.marker) << 7) + payload_type;
-    push_octets(out, &[first, second]);
+    push_octets(out, &[first.0, second]);
     push_u16(out, sequence);
     push_u32(out, content.timestamp);
     push_u32(out, ssrc);
