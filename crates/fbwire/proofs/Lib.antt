@@ -10,4 +10,5 @@ pub mod Fewest
 pub mod Packings
 pub mod OnePacking
 pub mod WholePackets
+pub mod InOrder
 pub mod Walks

@@ -3,7 +3,8 @@ use Rattle.std.proofs.Common.{◌≡◌, ◌↔◌, ℕ, zero, suc, ◌+◌, ◌
 use Rattle.std.specs.List.{Contains}
 use Rattle.std.proofs.lemmas.Bool.{cases_eq, cases_Bool, cond_both}
 use Rattle.fbwire.specs.declared.nack.Pair.{Pair}
-use Rattle.fbwire.specs.Nack.{has_bit, up_from, mask_bits, masked_numbers, pair_numbers, numbers_of, PairNames, Names}
+use Rattle.fbwire.specs.Compound.{NacksName}
+use Rattle.fbwire.specs.Nack.{Nack, has_bit, up_from, mask_bits, masked_numbers, pair_numbers, numbers_of, PairNames, Names}
 
 -- x is one of the list's members
 abbrev pub IsAmong : {X : Type 0} → List X → X → Type 0
@@ -98,3 +99,21 @@ names_contains pairs n = (
   λ names. Contains-from_among (numbers_of pairs) n (names_among pairs n names),
   λ contains. among_names pairs n (IsAmong-from_contains (numbers_of pairs) n contains),
 )
+
+-- The numbers that a list of NACKs names.
+
+pub list_names : (nacks : List Nack) (n : ℕ) → NacksName nacks n ↔ ((nack : Nack) × Contains nacks nack × Names nack.pairs n)
+list_names nacks n = (
+  λ named. let r = from_list nacks named in (r.0, Contains-from_among nacks r.0 r.1, r.2),
+  λ (nack, among, named). to_list nacks nack (IsAmong-from_contains nacks nack among) named,
+)
+  where
+    from_list : (nacks : List Nack) → NacksName nacks n → (nack : Nack) × IsAmong nacks nack × Names nack.pairs n
+    from_list [] named = absurd named
+    from_list (nack ∷ nacks) (inl here) = (nack, inl refl, here)
+    from_list (nack ∷ nacks) (inr there) = let r = from_list nacks there in (r.0, inr r.1, r.2)
+
+    to_list : (nacks : List Nack) (nack : Nack) → IsAmong nacks nack → Names nack.pairs n → NacksName nacks n
+    to_list [] nack among named = absurd among
+    to_list (m ∷ nacks) nack (inl e) named = inl (subst (λ (x : Nack). Names x.pairs n) e named)
+    to_list (m ∷ nacks) nack (inr among) named = inr (to_list nacks nack among named)

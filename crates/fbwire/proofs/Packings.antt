@@ -89,6 +89,12 @@ packs_all places pairs covered before =
     let none : covered + 0 ≡ covered = omega arith in
     subst (λ ps. Packs places ps covered) (append-nil pairs) (subst (Packs places (pairs ++ [])) none (before [] 0 refl))
 
+-- of some places some are covered, by some pairs
+pub some_packed : (places : List ℕ) (pairs : List Pair) (covered : ℕ) → Packs places pairs covered → (covered < length places → length pairs ≡ 64)
+    → 0 < length places → (0 < length pairs) × (0 < covered)
+some_packed places [] covered none full some = absurd (let many = full (omega (arith, none, some)) in omega (arith, many))
+some_packed places (p ∷ pairs) covered (count, later, takes, rest, e) full some = let more = takes.some in (omega arith, omega (arith, more, e))
+
 -- where 64 pairs can name all, all are covered
 pub whole : (places : List ℕ) (pairs : List Pair) (covered : ℕ) → IsPacking places pairs covered
     → (others : List Pair) → length others ≤ 64 → NamesExactly others (map number places) → covered ≡ length places

@@ -10,7 +10,6 @@ use Rattle.fbwire.specs.declared.fault.FeedbackFault.TheVariants.{Short, Version
 use Rattle.fbwire.specs.Header.{version_of, is_padded, message_type, packet_type, packet_length, is_nack}
 use Rattle.fbwire.specs.Nack.{Nack, IsNack, NackSpells, nack_octets, pair_octets}
 use Rattle.fbwire.specs.NackChecks.{nack_fault}
-use Rattle.fbwire.specs.Compound.{IsOther}
 use Rattle.fbwire.specs.CompoundChecks.{packet_fault, is_feedback}
 use Rattle.fbwire.proofs.PairLists.{length-pair_octets}
 use Rattle.fbwire.proofs.NackSpelling.{passed}
@@ -127,6 +126,12 @@ packet_part octets s =
       };
       whole = omega arith;
     }
+
+-- a packet that is no generic NACK
+pub record IsOther (octets : List ℕ) : Type 0 where
+  pub version : version_of octets ≡ 2
+  pub other : is_nack octets ≡ false
+  pub whole : length octets ≡ packet_length octets
 
 -- a packet is a NACK or another
 pub other_packet : (p : List ℕ) → IsOther p → IsPacket p

@@ -1,24 +1,21 @@
 -- Compound datagrams (RFC 3550, section 6.1): packets one after another, of which only the generic NACKs
 -- matter. (RFC 5506 allows a datagram to have no report first.)
-use Rattle.std.specs.Prelude.{◌≡◌, ◌⊎◌, ℕ, false, ◌<◌, List, [], ◌∷◌, length}
+use Rattle.std.specs.Prelude.{◌≡◌, ◌⊎◌, ℕ, ◌<◌, List, [], ◌∷◌, length, map, filter, All}
 use Rattle.std.specs.List.{concat}
 use Rattle.fbwire.specs.Header.{version_of, packet_length, is_nack}
-use Rattle.fbwire.specs.Nack.{Nack, NackSpells}
+use Rattle.fbwire.specs.Nack.{Nack, IsNack, Names, nack_octets}
 
--- The octets are a whole packet that is no generic NACK: the four octets of a header of version 2, and as
--- many words of 32 bits as its length field says. Its P and its contents may be anything.
-pub record IsOther (octets : List ℕ) : Type 0 where
+-- The octets are one whole packet: the four octets of a header of version 2, and as many words of 32 bits
+-- as its length field says. Its P and its contents may be anything.
+pub record IsWhole (octets : List ℕ) : Type 0 where
   pub version : version_of octets ≡ 2
-  pub other : is_nack octets ≡ false
   pub whole : length octets ≡ packet_length octets
 
--- Of the packets, the NACKs are spelled for these NACKs, in their order, and the others are skipped.
-abbrev pub SpellInOrder : List Nack → List (List ℕ) → Type 0
-SpellInOrder [] [] = Unit {0}
-SpellInOrder (n ∷ nacks) [] = ⊥
-SpellInOrder [] (packet ∷ packets) = IsOther packet × SpellInOrder [] packets
-SpellInOrder (n ∷ nacks) (packet ∷ packets) =
-    (IsOther packet × SpellInOrder (n ∷ nacks) packets) ⊎ (NackSpells n packet × SpellInOrder nacks packets)
+-- The packets are whole, and those of them that are generic NACKs are the spellings of these, in order.
+pub record SpellInOrder (nacks : List Nack) (packets : List (List ℕ)) : Type 0 where
+  pub whole : All IsWhole packets
+  pub each : All IsNack nacks
+  pub spelled : filter is_nack packets ≡ map nack_octets nacks
 
 -- The octets are packets, of which the NACKs are these, and there is one or more.
 pub record CompoundSpells (nacks : List Nack) (octets : List ℕ) : Type 0 where
@@ -26,3 +23,8 @@ pub record CompoundSpells (nacks : List Nack) (octets : List ℕ) : Type 0 where
   pub joined : octets ≡ concat packets
   pub in_order : SpellInOrder nacks packets
   pub some : 0 < length nacks
+
+-- the numbers that NACKs name, as a set: one of them names the number
+abbrev pub NacksName : List Nack → ℕ → Type 0
+NacksName [] n = ⊥
+NacksName (nack ∷ nacks) n = Names nack.pairs n ⊎ NacksName nacks n

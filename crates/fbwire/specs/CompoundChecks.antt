@@ -1,12 +1,12 @@
 -- Which octets are no compound datagram with a generic NACK, and why: the first packet with a fault
 -- decides, and after packets without a fault it is that no one is a NACK.
-use Rattle.std.specs.Prelude.{◌≡◌, ◌⊎◌, ℕ, Bool, ◌<◌, ◌==◌, ◌&&◌, not, nat_lt, List, [], length, All, Option, Some, None, if◌then◌else◌, ◌++◌}
+use Rattle.std.specs.Prelude.{◌≡◌, ◌⊎◌, ℕ, Bool, ◌<◌, ◌==◌, ◌&&◌, not, nat_lt, List, [], length, Option, Some, None, if◌then◌else◌, ◌++◌}
 use Rattle.std.specs.List.{concat, list_any}
 use Rattle.fbwire.specs.declared.fault.FeedbackFault.{FeedbackFault}
 use Rattle.fbwire.specs.declared.fault.FeedbackFault.TheVariants.{Short, Version, Padded, NotRtpfb, NotNack, Length, Empty}
 use Rattle.fbwire.specs.Header.{version_of, is_padded, packet_type, packet_length, is_nack}
 use Rattle.fbwire.specs.Nack.{Nack}
-use Rattle.fbwire.specs.Compound.{IsOther, SpellInOrder}
+use Rattle.fbwire.specs.Compound.{SpellInOrder}
 
 -- The first check that the packet at the front of the octets fails.
 abbrev pub packet_fault : List ℕ → Option FeedbackFault
@@ -43,7 +43,7 @@ pub record LacksNack (octets : List ℕ) (fault : FeedbackFault) : Type 0 where
   pub packets : List (List ℕ)
   pub walked : octets ≡ concat packets
   pub some : 0 < length packets
-  pub others : All IsOther packets
+  pub others : SpellInOrder [] packets
   pub lacks : fault ≡ (if list_any is_feedback packets then NotNack else NotRtpfb)
 
 -- the fault for which the octets are refused

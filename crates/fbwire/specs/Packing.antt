@@ -35,7 +35,9 @@ pub record IsPacking (places : List ℕ) (pairs : List Pair) (covered : ℕ) : T
   pub within : covered ≤ length places
   pub fit : All IsPair pairs
   pub few : length pairs ≤ 64
-  -- They name exactly the numbers of these places, and fewer pairs don't.
+  -- They name exactly the numbers of these places, and fewer pairs don't. (That fewer don't follows from where
+  -- they start, said last here: places that are more than 16 apart take a pair each. So a body that were allowed
+  -- one pair more would make no more.)
   pub fewest : IsFewest pairs (first_numbers covered places)
   -- No 64 pairs name exactly the numbers of a longer beginning.
   pub longest : (n : ℕ) (others : List Pair) → n ≤ length places → length others ≤ 64

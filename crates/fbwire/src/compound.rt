@@ -1,16 +1,16 @@
 //! Reading a compound datagram.
-ghost use Rattle.std.specs.Prelude.{◌≡◌, ℕ, List, [], ◌∷◌, None, length, IfOk, IfErr, MatchResult, MatchOption};
+ghost use Rattle.std.specs.Prelude.{◌≡◌, ◌↔◌, ◌<◌, ℕ, Contains, List, [], ◌∷◌, None, length, IfOk, IfErr, MatchResult, MatchOption};
 ghost use Rattle.std.specs.Iterator.{YieldsFirst, item_count};
-ghost use Rattle.fbwire.specs.Header.{packet_length};
-ghost use Rattle.fbwire.specs.Nack.{Nack};
-ghost use Rattle.fbwire.specs.Compound.{CompoundSpells};
-ghost use Rattle.fbwire.specs.CompoundChecks.{IsRefused, packet_fault};
+ghost use Rattle.fbwire.specs.Nack.{Nack, NackSpells, Names};
+ghost use Rattle.fbwire.specs.Compound.{CompoundSpells, NacksName};
+ghost use Rattle.fbwire.specs.CompoundChecks.{IsRefused};
 ghost use Rattle.fbwire.specs.CompoundReading.{nacks_in};
 ghost use Rattle.fbwire.specs.CompoundWalk.{CanWalk};
 
 use crate::fault::FeedbackFault;
-use crate::header::{FirstOctet, RTPFB, is_nack, length_of};
-use crate::nack::{HEADER, NackView};
+use crate::header::{RTPFB, is_nack};
+use crate::nack::NackView;
+use crate::packets::Packets;
 use std::marker::Model;
 
 /// A compound datagram with one generic NACK or more, in the octets that spell it, which it borrows.
@@ -23,14 +23,14 @@ pub struct Compound<'a> {
 impl<'a> Model for Compound<'a> {
     ghost use Rattle.std.specs.Prelude.{List};
     ghost use Rattle.fbwire.specs.Nack.{Nack};
+    ghost use Rattle.fbwire.specs.Compound.{CompoundSpells};
     ghost use Rattle.fbwire.specs.CompoundReading.{nacks_in};
-    ghost use Rattle.fbwire.specs.CompoundWalk.{CanWalk};
 
     ghost Value = { List Nack };
 
     ghost view = { λ v. nacks_in v.octets.now };
 
-    ghost invariant = { λ v. CanWalk v.octets.now };
+    ghost invariant = { λ v. CompoundSpells (nacks_in v.octets.now) v.octets.now };
 }
 
 /// The generic NACKs of a compound datagram, one after another.
@@ -76,7 +76,8 @@ impl<'a> Compound<'a> {
 
     /// Its NACKs, in order: one or more.
     pub fn nacks(&self) -> Nacks<'a>
-        ensures { result ≡ self.now }
+        ensures value { result ≡ self.now }
+        ensures some { 0 < length self.now }
     {
         Nacks {
             octets: self.octets,
@@ -105,15 +106,13 @@ fn walked(octets: &[u8]) -> Result<Compound<'_>, FeedbackFault>
     if octets.is_empty() {
         return Err(FeedbackFault::Short);
     }
-    let mut rest = octets;
+    let mut packets = Packets { octets };
     let mut has_nack = false;
     let mut has_feedback = false;
-    while !rest.is_empty() {
-        let length = first_packet(rest)?;
-        let (packet, others) = rest.split_at(length);
+    while let Some(packet) = packets.next() {
+        let packet = packet?;
         has_nack |= is_nack(packet);
         has_feedback |= packet[1] == RTPFB;
-        rest = others;
     }
     if has_nack {
         Ok(Compound { octets })
@@ -124,35 +123,6 @@ fn walked(octets: &[u8]) -> Result<Compound<'_>, FeedbackFault>
     }
 }
 
-/// How many octets the packet at the front has, or the first check that it fails.
-fn first_packet(octets: &[u8]) -> Result<usize, FeedbackFault>
-    ensures { MatchResult result
-        (λ length. (packet_fault octets.now ≡ None) × (length ≡ packet_length octets.now))
-        (λ fault. packet_fault octets.now ≡ Some fault) }
-{
-    if octets.len() < 4 {
-        return Err(FeedbackFault::Short);
-    }
-    let first = FirstOctet(octets[0]);
-    if first.version() != 2 {
-        return Err(FeedbackFault::Version);
-    }
-    if is_nack(octets) && first.is_padded() {
-        return Err(FeedbackFault::Padded);
-    }
-    let length = length_of(octets);
-    if octets.len() < length {
-        return Err(FeedbackFault::Length);
-    }
-    if is_nack(octets) && length < HEADER {
-        return Err(FeedbackFault::Short);
-    }
-    if is_nack(octets) && length == HEADER {
-        return Err(FeedbackFault::Empty);
-    }
-    Ok(length)
-}
-
 /// The first NACK of these packets, and the octets after it.
 fn next_nack(octets: &[u8]) -> Option<(NackView<'_>, &[u8])>
     requires { CanWalk octets.now }
@@ -160,19 +130,21 @@ fn next_nack(octets: &[u8]) -> Option<(NackView<'_>, &[u8])>
         (nacks_in octets.now ≡ [])
         (λ found. (nacks_in octets.now ≡ found.0 ∷ nacks_in found.1.now) × CanWalk found.1.now) }
 {
-    let mut left = octets;
-    while !left.is_empty() {
-        let (packet, rest) = left.split_at(length_of(left));
+    let mut packets = Packets { octets };
+    while let Some(packet) = packets.next() {
+        // A datagram that was read has no fault.
+        let Ok(packet) = packet else {
+            return None;
+        };
         if is_nack(packet) {
-            return Some((NackView::of_checked(packet), rest));
+            return Some((NackView::of_checked(packet), packets.octets));
         }
-        left = rest;
     }
     None
 }
 
-/// What the octets of a compound datagram determine. It computes nothing: its contract is a law on the
-/// definitions, for callers of [`Compound::read`].
+/// What the octets of a compound datagram determine, and what its NACKs name. It computes nothing: its
+/// contract is a law on the definitions, for callers of [`Compound::read`] and [`write_nack`](crate::write_nack).
 pub fn compound_is_determined()
     // Octets spell at most one list of NACKs.
     ensures one_list { (octets : List ℕ) (a b : List Nack) → CompoundSpells a octets → CompoundSpells b octets → a ≡ b }
@@ -180,4 +152,11 @@ pub fn compound_is_determined()
     // They are refused for at most one fault, and not where they spell NACKs.
     ensures one_fault { (octets : List ℕ) (a b : FeedbackFault) → IsRefused octets a → IsRefused octets b → a ≡ b }
     ensures not_both { (octets : List ℕ) (nacks : List Nack) (a : FeedbackFault) → CompoundSpells nacks octets → IsRefused octets a → ⊥ }
+
+    // The octets of one NACK are a datagram with this NACK, and no other.
+    ensures alone { (nack : Nack) (octets : List ℕ) → NackSpells nack octets → CompoundSpells (nack ∷ []) octets }
+
+    // A list of NACKs names the numbers that one of them names.
+    ensures names { (nacks : List Nack) (number : ℕ) → NacksName nacks number
+        ↔ ((nack : Nack) × Contains nacks nack × Names nack.pairs number) }
 {}

@@ -1,7 +1,7 @@
 ghost use Rattle.std.specs.Prelude.{◌≡◌};
 
-/// Why octets are no generic NACK: the first check that they fail, in this order (RFC 4585, sections 6.1
-/// and 6.2.1).
+/// Why octets are no generic NACK, or none for this session: the first check that they fail, in this order
+/// (RFC 4585, sections 6.1 and 6.2.1).
 #[derive(Clone, Copy, Debug, PartialEq, Eq, Hash)]
 pub enum FeedbackFault {
     /// Fewer octets than the headers have.
@@ -18,6 +18,11 @@ pub enum FeedbackFault {
     Length,
     /// The packet has no pair.
     Empty,
+    /// It is a NACK for another source than the session's media. No reader answers it: only an end that knows
+    /// its session can.
+    WrongMedia,
+    /// Else, it is from another reporter than the session's receiver. No reader answers it either.
+    WrongReporter,
 }
 
 impl FeedbackFault {
@@ -35,6 +40,8 @@ impl FeedbackFault {
             FeedbackFault::NotNack => 15,
             FeedbackFault::Length => 16,
             FeedbackFault::Empty => 17,
+            FeedbackFault::WrongMedia => 18,
+            FeedbackFault::WrongReporter => 19,
         }
     }
 }

@@ -1,5 +1,5 @@
 //! The first four octets of an RTCP packet (RFC 3550, section 6.4.1; RFC 4585, section 6.1).
-ghost use Rattle.std.specs.Prelude.{◌≡◌, ◌/◌, ◌%◌, ◌==◌, ◌≤◌, length};
+ghost use Rattle.std.specs.Prelude.{◌≡◌, ◌+◌, ◌*◌, ◌/◌, ◌%◌, ◌==◌, ◌<◌, ◌≤◌, length};
 ghost use Rattle.fbwire.specs.Header.{is_nack as has_nack_header, packet_length};
 
 use byteorder::{ByteOrder, NetworkEndian};
@@ -10,11 +10,20 @@ pub(crate) const RTPFB: u8 = 205;
 /// The feedback message type of a generic NACK.
 pub(crate) const GENERIC_NACK: u8 = 1;
 
-/// The fields of a packet's first octet.
+/// A packet's first octet: V, the version, in its two highest bits; P; and in the lowest five the feedback
+/// message type.
 #[derive(Clone, Copy)]
 pub(crate) struct FirstOctet(pub(crate) u8);
 
 impl FirstOctet {
+    /// That of a packet of version 2 without padding.
+    pub(crate) fn new(message_type: u8) -> FirstOctet
+        requires { message_type < 32 }
+        ensures { result.0 ≡ 2 * 64 + message_type }
+    {
+        FirstOctet((2 << 6) + message_type)
+    }
+
     pub(crate) fn version(self) -> u8
         ensures { result ≡ self.0 / 64 }
     {

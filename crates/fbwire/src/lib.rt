@@ -7,6 +7,7 @@ mod fault;
 mod header;
 mod nack;
 mod numbers;
+mod packets;
 mod packing;
 
 pub use compound::{Compound, Nacks, compound_is_determined};

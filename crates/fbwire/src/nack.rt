@@ -10,7 +10,7 @@ use crate::header::{FirstOctet, GENERIC_NACK, RTPFB, length_of};
 use crate::numbers::{Numbers, Pairs};
 use arrayvec::ArrayVec;
 use byteorder::{ByteOrder, NetworkEndian};
-use rtpwire::{Datagram, push_u16, push_u32};
+use rtpwire::{Datagram, push_octets, push_u16, push_u32};
 use std::marker::Model;
 
 /// How many octets come before the pairs.
@@ -143,7 +143,7 @@ pub fn write_nack(reporter: u32, media: u32, pairs: &[Pair]) -> Datagram
     ensures { NackSpells (record { reporter = reporter; media = media; pairs = pairs.now }) result.items }
 {
     let mut out = ArrayVec::new();
-    push_u16(&mut out, 0x81cd);
+    push_octets(&mut out, &[FirstOctet::new(GENERIC_NACK).0, RTPFB]);
     push_u16(&mut out, 2 + pairs.len() as u16);
     push_u32(&mut out, reporter);
     push_u32(&mut out, media);

@@ -26,6 +26,8 @@ pub fn pack(places: &[Place]) -> (ArrayVec<Pair, 64>, usize)
     requires narrow { IsNarrow places.now }
     ensures packing { IsPacking places.now result.0.items result.1 }
 
+    // Of some places one is covered at least, by one pair at least.
+    ensures some { 0 < length places.now → (0 < length result.0.items) × (0 < result.1) }
     // Some places are left only where all 64 pairs are made, and only where 64 pairs can't name all.
     ensures full { result.1 < length places.now → length result.0.items ≡ 64 }
     ensures whole { (others : List Pair) → length others ≤ 64 → NamesExactly others (map number places.now)

@@ -1,4 +1,5 @@
-use Rattle.fbwire.proofs.Walks.{one_list, one_fault, not_both}
+use Rattle.fbwire.proofs.NameLists.{list_names}
+use Rattle.fbwire.proofs.Walks.{one_list, one_fault, not_both, alone}
 use Rattle.fbwire.proofs.compound.compound_is_determined.Goals as goal
 
 pub returns-clause-one_list : goal.returns-clause-one_list
@@ -9,3 +10,9 @@ returns-clause-one_fault c = one_fault
 
 pub returns-clause-not_both : goal.returns-clause-not_both
 returns-clause-not_both c = not_both
+
+pub returns-clause-alone : goal.returns-clause-alone
+returns-clause-alone c = alone
+
+pub returns-clause-names : goal.returns-clause-names
+returns-clause-names c = list_names
