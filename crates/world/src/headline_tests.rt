@@ -1,5 +1,5 @@
 use super::*;
-use crate::tests::{config, content, does, inject, send, world};
+use crate::tests::{Row, content, does, send, shows, world};
 use arrayvec::ArrayVec;
 use places::Place;
 use receiver::{Played, ReceiveFault, Taken};
@@ -22,14 +22,14 @@ fn with_sends(alloc: Global) -> Result<World<ListWindow>, Fail> {
 fn distances_up_to_49152(rt: HostRuntime) -> Result<(), Fail> {
     let mut world = with_sends(rt.alloc())?;
     assert!(rt; world.close());
-    for (index, want) in [
-        (0, ("taken", 65537, 0)),
-        (16384, ("refused", 34, 0)),
-        (49152, ("refused", 34, 0)),
-        (16383, ("taken", 81920, 16376)),
-        (0, ("refused", 35, 0)),
+    for row in [
+        (Row::Deliver(0, 0), ("taken", 65537, 0)),
+        (Row::Deliver(16384, 0), ("refused", 34, 0)),
+        (Row::Deliver(49152, 0), ("refused", 34, 0)),
+        (Row::Deliver(16383, 0), ("taken", 81920, 16376)),
+        (Row::Deliver(0, 0), ("refused", 35, 0)),
     ] {
-        assert_eq!(rt; does(&mut world, &Event::Deliver(index, 0))?, want);
+        shows(&mut world, &[row])?;
         assert!(rt; world.close());
     }
     Ok(())
@@ -39,13 +39,13 @@ fn distances_up_to_49152(rt: HostRuntime) -> Result<(), Fail> {
 #[test]
 fn a_distance_of_49153(rt: HostRuntime) -> Result<(), Fail> {
     let mut world = with_sends(rt.alloc())?;
-    for (event, want, close) in [
-        (Event::Deliver(0, 0), ("taken", 65537, 0), true),
-        (Event::Deliver(49153, 0), ("refused", 35, 0), false),
-        (Event::Play(0), ("play", 65537, 0), false),
-        (Event::Deliver(1, 0), ("taken", 65538, 0), false),
+    for (row, want, close) in [
+        (Row::Deliver(0, 0), ("taken", 65537, 0), true),
+        (Row::Deliver(49153, 0), ("refused", 35, 0), false),
+        (Row::Play(0), ("play", 65537, 0), false),
+        (Row::Deliver(1, 0), ("taken", 65538, 0), false),
     ] {
-        assert_eq!(rt; does(&mut world, &event)?, want);
+        shows(&mut world, &[(row, want)])?;
         assert_eq!(rt; world.close(), close);
     }
     Ok(())
@@ -54,13 +54,13 @@ fn a_distance_of_49153(rt: HostRuntime) -> Result<(), Fail> {
 #[test]
 fn an_injection(rt: HostRuntime) -> Result<(), Fail> {
     let mut world = world(rt.alloc(), 1, 8)?;
-    for (event, want, close) in [
-        (send(b"\xaa")?, ("sent", 65537, 0), true),
-        (Event::Deliver(9, 0), ("nothing", 0, 0), true),
-        (inject(b"")?, ("refused", 1, 0), false),
-        (Event::Deliver(0, 0), ("taken", 65537, 0), false),
+    for (row, want, close) in [
+        (Row::Send(b"\xaa"), ("sent", 65537, 0), true),
+        (Row::Deliver(9, 0), ("nothing", 0, 0), true),
+        (Row::Inject(b""), ("refused", 1, 0), false),
+        (Row::Deliver(0, 0), ("taken", 65537, 0), false),
     ] {
-        assert_eq!(rt; does(&mut world, &event)?, want);
+        shows(&mut world, &[(row, want)])?;
         assert_eq!(rt; world.close(), close);
     }
     Ok(())
@@ -109,100 +109,47 @@ fn logs(world: &mut World<ListWindow>, event: &Event, want: &Entry) -> Result<()
     }
 }
 
-/// Delivers an index at a moment. The sender's places begin at 131070.
-fn delivers(
-    world: &mut World<ListWindow>,
-    index: u64,
-    now: u64,
-    answer: Answer,
-) -> Result<(), Fail> {
+/// What happens in the worked run: the sender's datagram with an index reaches the receiver, or it plays. What it
+/// plays is what was sent with an index.
+#[derive(Clone, Copy)]
+enum Happens {
+    Takes(u64, u64, u64),
+    Refuses(u64, PutFault),
+    Plays(u64, u64),
+    GivesUp(u64),
+    Waits,
+}
+
+/// The delivery of an index at a moment. The sender's places begin at 131070.
+fn delivery(index: u64, now: u64, answer: Answer) -> Result<(Event, Entry), Fail> {
     let want = Entry::Delivered {
         index,
         label: Label::Media(at(131070u64.wrapping_add(index))?),
         now,
         answer,
     };
-    logs(world, &Event::Deliver(index, now), &want)
+    Ok((Event::Deliver(index, now), want))
 }
 
-fn takes(
-    world: &mut World<ListWindow>,
-    index: u64,
-    now: u64,
-    place: u64,
-    overrun: u64,
-) -> Result<(), Fail> {
-    let place = at(place)?;
-    delivers(world, index, now, Answer::Taken(Taken { place, overrun }))
-}
-
-fn refuses(
-    world: &mut World<ListWindow>,
-    index: u64,
-    now: u64,
-    fault: PutFault,
-) -> Result<(), Fail> {
-    delivers(world, index, now, Answer::Refused(ReceiveFault::Put(fault)))
-}
-
-fn plays(world: &mut World<ListWindow>, now: u64, played: Played) -> Result<(), Fail> {
-    logs(world, &Event::Play(now), &Entry::Played { now, played })
-}
-
-fn plays_packet(
-    world: &mut World<ListWindow>,
-    now: u64,
-    place: u64,
-    index: u64,
-) -> Result<(), Fail> {
-    plays(
-        world,
-        now,
-        Played::Packet(at(place)?, worked_content(index)?),
-    )
-}
-
-/// The second packet comes first, so that is where the receiver starts. One packet is repeated, and one comes
-/// late, but in time.
-fn reorders(world: &mut World<ListWindow>) -> Result<(), Fail> {
-    takes(world, 1, 10, 131071, 0)?;
-    refuses(world, 0, 11, PutFault::Late)?;
-    plays_packet(world, 12, 131071, 1)?;
-    takes(world, 3, 20, 131073, 0)?;
-    refuses(world, 3, 21, PutFault::Duplicate)?;
-    plays(world, 30, Played::Wait)?;
-    takes(world, 2, 40, 131072, 0)?;
-    plays_packet(world, 41, 131072, 2)?;
-    plays_packet(world, 42, 131073, 3)?;
-    plays(world, 43, Played::Wait)
-}
-
-/// One packet is lost, and given up when its patience of 100 has passed.
-fn gives_up(world: &mut World<ListWindow>) -> Result<(), Fail> {
-    takes(world, 5, 50, 131075, 0)?;
-    plays(world, 149, Played::Wait)?;
-    plays(world, 150, Played::Gap(at(131074)?))?;
-    refuses(world, 4, 151, PutFault::Late)?;
-    plays_packet(world, 152, 131075, 5)
-}
-
-/// Five packets are missing when a higher one comes, which overruns two of them. Three come after it, one of
-/// them too late, and one is given up.
-fn overruns(world: &mut World<ListWindow>) -> Result<(), Fail> {
-    takes(world, 11, 160, 131081, 2)?;
-    refuses(world, 6, 161, PutFault::Late)?;
-    takes(world, 8, 162, 131078, 0)?;
-    plays_packet(world, 163, 131078, 8)?;
-    plays(world, 259, Played::Wait)?;
-    plays(world, 260, Played::Gap(at(131079)?))?;
-    takes(world, 10, 261, 131080, 0)?;
-    plays_packet(world, 262, 131080, 10)?;
-    plays_packet(world, 263, 131081, 11)?;
-    plays(world, 264, Played::Wait)
+/// The event and the entry of what happens at a moment.
+fn worked(now: u64, happens: Happens) -> Result<(Event, Entry), Fail> {
+    let played = match happens {
+        Happens::Takes(index, place, overrun) => {
+            let place = at(place)?;
+            return delivery(index, now, Answer::Taken(Taken { place, overrun }));
+        }
+        Happens::Refuses(index, fault) => {
+            return delivery(index, now, Answer::Refused(ReceiveFault::Put(fault)));
+        }
+        Happens::Plays(place, index) => Played::Packet(at(place)?, worked_content(index)?),
+        Happens::GivesUp(place) => Played::Gap(at(place)?),
+        Happens::Waits => Played::Wait,
+    };
+    Ok((Event::Play(now), Entry::Played { now, played }))
 }
 
 /// Twelve sends across a wrap, at the places 131070 to 131081, whose sequence numbers are 65534, 65535 and 0 to
-/// 9. The window has 4 places.
+/// 9. The window has 4 places, and a patience of 100.
 #[test]
 fn a_worked_run(rt: HostRuntime) -> Result<(), Fail> {
     let mut world = world(rt.alloc(), 65534, 4)?;
@@ -210,9 +157,41 @@ fn a_worked_run(rt: HostRuntime) -> Result<(), Fail> {
         let event = Event::Send(worked_content(index)?, 0);
         assert_eq!(rt; does(&mut world, &event)?, ("sent", 131070 + index, index));
     }
-    reorders(&mut world)?;
-    gives_up(&mut world)?;
-    overruns(&mut world)?;
+    for (now, happens) in [
+        // The second packet comes first, so that is where the receiver starts. One packet is repeated, and one
+        // comes late, but in time.
+        (10, Happens::Takes(1, 131071, 0)),
+        (11, Happens::Refuses(0, PutFault::Late)),
+        (12, Happens::Plays(131071, 1)),
+        (20, Happens::Takes(3, 131073, 0)),
+        (21, Happens::Refuses(3, PutFault::Duplicate)),
+        (30, Happens::Waits),
+        (40, Happens::Takes(2, 131072, 0)),
+        (41, Happens::Plays(131072, 2)),
+        (42, Happens::Plays(131073, 3)),
+        (43, Happens::Waits),
+        // One packet is lost, and given up when its patience has passed.
+        (50, Happens::Takes(5, 131075, 0)),
+        (149, Happens::Waits),
+        (150, Happens::GivesUp(131074)),
+        (151, Happens::Refuses(4, PutFault::Late)),
+        (152, Happens::Plays(131075, 5)),
+        // Five packets are missing when a higher one comes, which overruns two of them. Three come after it, one
+        // of them too late, and one is given up.
+        (160, Happens::Takes(11, 131081, 2)),
+        (161, Happens::Refuses(6, PutFault::Late)),
+        (162, Happens::Takes(8, 131078, 0)),
+        (163, Happens::Plays(131078, 8)),
+        (259, Happens::Waits),
+        (260, Happens::GivesUp(131079)),
+        (261, Happens::Takes(10, 131080, 0)),
+        (262, Happens::Plays(131080, 10)),
+        (263, Happens::Plays(131081, 11)),
+        (264, Happens::Waits),
+    ] {
+        let (event, want) = worked(now, happens)?;
+        logs(&mut world, &event, &want)?;
+    }
     logs(&mut world, &Event::Deliver(12, 270), &Entry::Nothing)
 }
 

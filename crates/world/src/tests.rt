@@ -38,8 +38,38 @@ pub(crate) fn inject(octets: &[u8]) -> Result<Event, Fail> {
     Ok(Event::Inject(End::Receiver, datagram, 0))
 }
 
+/// An event of a table, as data that costs a proof nothing to drop.
+#[derive(Clone, Copy)]
+pub(crate) enum Row {
+    Send(&'static [u8]),
+    Deliver(u64, u64),
+    Play(u64),
+    Inject(&'static [u8]),
+}
+
+fn event_of(row: Row) -> Result<Event, Fail> {
+    match row {
+        Row::Send(payload) => send(payload),
+        Row::Deliver(index, now) => Ok(Event::Deliver(index, now)),
+        Row::Play(now) => Ok(Event::Play(now)),
+        Row::Inject(octets) => inject(octets),
+    }
+}
+
 /// What an entry tells, in short: a name and up to two numbers.
-fn told(entry: &Entry) -> (&'static str, u64, u64) {
+type Told = (&'static str, u64, u64);
+
+/// Does the events of a table, each of which is to give the entry beside it.
+pub(crate) fn shows(world: &mut World<ListWindow>, rows: &[(Row, Told)]) -> Result<(), Fail> {
+    for &(row, want) in rows {
+        if does(world, &event_of(row)?)? != want {
+            return Err(Fail::from(want.0));
+        }
+    }
+    Ok(())
+}
+
+fn told(entry: &Entry) -> Told {
     match entry {
         Entry::Sent { place, index, .. } => ("sent", place.value(), *index),
         Entry::SendRefused(fault) => ("refused", u64::from(fault.number()), 0),
@@ -57,10 +87,7 @@ fn told(entry: &Entry) -> (&'static str, u64, u64) {
 }
 
 /// Does an event, and tells its entry.
-pub(crate) fn does(
-    world: &mut World<ListWindow>,
-    event: &Event,
-) -> Result<(&'static str, u64, u64), Fail> {
+pub(crate) fn does(world: &mut World<ListWindow>, event: &Event) -> Result<Told, Fail> {
     let entry = world.step(event).map_err(|_| "memory is ample")?;
     Ok(told(&entry))
 }
@@ -109,68 +136,71 @@ fn the_first_path(rt: HostRuntime) -> Result<(), Fail> {
 #[test]
 fn the_fixed_difference(rt: HostRuntime) -> Result<(), Fail> {
     let mut world = world(rt.alloc(), 65534, 8)?;
-    for (event, want) in [
-        (send(b"\xaa")?, ("sent", 131070, 0)),
-        (send(b"\xaa")?, ("sent", 131071, 1)),
-        (send(b"\xaa")?, ("sent", 131072, 2)),
-        (Event::Deliver(2, 0), ("taken", 65536, 0)),
-        (Event::Deliver(1, 0), ("refused", 35, 0)),
-        (Event::Play(0), ("play", 65536, 0)),
-    ] {
-        assert_eq!(rt; does(&mut world, &event)?, want);
-    }
-    Ok(())
+    shows(
+        &mut world,
+        &[
+            (Row::Send(b"\xaa"), ("sent", 131070, 0)),
+            (Row::Send(b"\xaa"), ("sent", 131071, 1)),
+            (Row::Send(b"\xaa"), ("sent", 131072, 2)),
+            (Row::Deliver(2, 0), ("taken", 65536, 0)),
+            (Row::Deliver(1, 0), ("refused", 35, 0)),
+            (Row::Play(0), ("play", 65536, 0)),
+        ],
+    )
 }
 
 #[test]
 fn an_overrun(rt: HostRuntime) -> Result<(), Fail> {
     let mut world = world(rt.alloc(), 1, 2)?;
-    for _ in 0..4 {
-        does(&mut world, &send(b"\xaa")?)?;
-    }
-    for (event, want) in [
-        (Event::Deliver(0, 0), ("taken", 65537, 0)),
-        (Event::Deliver(1, 0), ("taken", 65538, 0)),
-        (Event::Deliver(3, 0), ("taken", 65540, 2)),
-        (Event::Play(0), ("wait", 0, 0)),
-        (Event::Play(100), ("gap", 65539, 0)),
-        (Event::Play(100), ("play", 65540, 0)),
-    ] {
-        assert_eq!(rt; does(&mut world, &event)?, want);
-    }
-    Ok(())
+    shows(
+        &mut world,
+        &[
+            (Row::Send(b"\xaa"), ("sent", 65537, 0)),
+            (Row::Send(b"\xaa"), ("sent", 65538, 1)),
+            (Row::Send(b"\xaa"), ("sent", 65539, 2)),
+            (Row::Send(b"\xaa"), ("sent", 65540, 3)),
+            (Row::Deliver(0, 0), ("taken", 65537, 0)),
+            (Row::Deliver(1, 0), ("taken", 65538, 0)),
+            (Row::Deliver(3, 0), ("taken", 65540, 2)),
+            (Row::Play(0), ("wait", 0, 0)),
+            (Row::Play(100), ("gap", 65539, 0)),
+            (Row::Play(100), ("play", 65540, 0)),
+        ],
+    )
 }
 
+/// With no patience a missing place is given up from the moment on at which it was noticed, and not before.
 #[test]
 fn a_patience_of_nothing(rt: HostRuntime) -> Result<(), Fail> {
     let session = Session::new(0x11111111, 96, 0x22222222, 97, 0x33333333)?;
     let config = Config::new(session, 1, 5, 8, 8, 0, 20, 3, 2)?;
     let world = World::<ListWindow>::new(rt.alloc(), &config);
-    let mut world = world.map_err(|_| "memory is ample")?;
-    for _ in 0..3 {
-        does(&mut world, &send(b"\xaa")?)?;
-    }
-    for (event, want) in [
-        (Event::Deliver(0, 0), ("taken", 65537, 0)),
-        (Event::Deliver(2, 5), ("taken", 65539, 0)),
-        (Event::Play(4), ("play", 65537, 0)),
-        (Event::Play(4), ("wait", 0, 0)),
-        (Event::Play(5), ("gap", 65538, 0)),
-    ] {
-        assert_eq!(rt; does(&mut world, &event)?, want);
-    }
-    Ok(())
+    shows(
+        &mut world.map_err(|_| "memory is ample")?,
+        &[
+            (Row::Send(b"\xaa"), ("sent", 65537, 0)),
+            (Row::Send(b"\xaa"), ("sent", 65538, 1)),
+            (Row::Send(b"\xaa"), ("sent", 65539, 2)),
+            (Row::Deliver(0, 0), ("taken", 65537, 0)),
+            (Row::Deliver(2, 5), ("taken", 65539, 0)),
+            (Row::Play(4), ("play", 65537, 0)),
+            (Row::Play(4), ("wait", 0, 0)),
+            (Row::Play(5), ("gap", 65538, 0)),
+        ],
+    )
 }
 
 #[test]
 fn nothing_there_and_a_refused_send(rt: HostRuntime) -> Result<(), Fail> {
     let mut world = world(rt.alloc(), 1, 8)?;
-    assert_eq!(rt; does(&mut world, &Event::Deliver(9, 0))?, ("nothing", 0, 0));
-    assert_eq!(rt;
-        does(&mut world, &Event::Deliver(u64::MAX, 0))?,
-        ("nothing", 0, 0)
-    );
-    assert_eq!(rt; does(&mut world, &Event::Play(0))?, ("wait", 0, 0));
+    shows(
+        &mut world,
+        &[
+            (Row::Deliver(9, 0), ("nothing", 0, 0)),
+            (Row::Deliver(u64::MAX, 0), ("nothing", 0, 0)),
+            (Row::Play(0), ("wait", 0, 0)),
+        ],
+    )?;
     let padded = Event::Send(content(b"", 0, false)?, 1);
     assert_eq!(rt; does(&mut world, &padded)?, ("refused", 44, 0));
     assert_eq!(rt; SendFault::Exhausted.number(), 45);
@@ -182,31 +212,31 @@ fn nothing_there_and_a_refused_send(rt: HostRuntime) -> Result<(), Fail> {
 #[test]
 fn a_peer_that_invents(rt: HostRuntime) -> Result<(), Fail> {
     let mut world = world(rt.alloc(), 1, 8)?;
-    for (event, want) in [
-        (inject(b"")?, ("refused", 1, 0)),
-        (
-            inject(b"\x80\x60\x00\x01\x00\x00\x00\x00\x44\x44\x44\x44")?,
-            ("refused", 31, 0),
-        ),
-        (
-            inject(b"\x80\x62\x00\x01\x00\x00\x00\x00\x11\x11\x11\x11")?,
-            ("refused", 32, 0),
-        ),
-        (
-            inject(b"\x80\x60\x00\x09\x00\x00\x00\x00\x11\x11\x11\x11\xee")?,
-            ("taken", 65545, 0),
-        ),
-        (send(b"\xaa")?, ("sent", 65537, 0)),
-        (Event::Deliver(0, 0), ("refused", 35, 0)),
-        (Event::Play(0), ("play", 65545, 0)),
-        (
-            inject(b"\x80\x60\xff\xff\x00\x00\x00\x00\x11\x11\x11\x11")?,
-            ("refused", 35, 0),
-        ),
-    ] {
-        assert_eq!(rt; does(&mut world, &event)?, want);
-    }
-    Ok(())
+    shows(
+        &mut world,
+        &[
+            (Row::Inject(b""), ("refused", 1, 0)),
+            (
+                Row::Inject(b"\x80\x60\x00\x01\x00\x00\x00\x00\x44\x44\x44\x44"),
+                ("refused", 31, 0),
+            ),
+            (
+                Row::Inject(b"\x80\x62\x00\x01\x00\x00\x00\x00\x11\x11\x11\x11"),
+                ("refused", 32, 0),
+            ),
+            (
+                Row::Inject(b"\x80\x60\x00\x09\x00\x00\x00\x00\x11\x11\x11\x11\xee"),
+                ("taken", 65545, 0),
+            ),
+            (Row::Send(b"\xaa"), ("sent", 65537, 0)),
+            (Row::Deliver(0, 0), ("refused", 35, 0)),
+            (Row::Play(0), ("play", 65545, 0)),
+            (
+                Row::Inject(b"\x80\x60\xff\xff\x00\x00\x00\x00\x11\x11\x11\x11"),
+                ("refused", 35, 0),
+            ),
+        ],
+    )
 }
 
 #[test]
@@ -237,12 +267,13 @@ fn a_refused_growth(rt: HostRuntime) -> Result<(), Fail> {
         Err(_) => World::<ListWindow>::new(rt.alloc(), &config(1, 8)?),
     };
     let mut world = made.map_err(|_| "memory is back")?;
-    for (event, want) in [
-        (send(b"\xaa")?, ("sent", 65537, 0)),
-        (Event::Deliver(0, 0), ("taken", 65537, 0)),
-        (Event::Play(0), ("play", 65537, 0)),
-        (inject(b"")?, ("refused", 1, 0)),
+    for (row, want) in [
+        (Row::Send(b"\xaa"), ("sent", 65537, 0)),
+        (Row::Deliver(0, 0), ("taken", 65537, 0)),
+        (Row::Play(0), ("play", 65537, 0)),
+        (Row::Inject(b""), ("refused", 1, 0)),
     ] {
+        let event = event_of(row)?;
         let (before, wire) = (world.log().len(), world.wire().len());
         let entry = match world.step(&event) {
             Ok(entry) => entry,
