@@ -43,6 +43,13 @@ fn refused_nacks(rt: HostRuntime) -> Result<(), Fail> {
         (&[0x81cd0004, REPORTER, MEDIA, 0x00010000], 16),
         (&[0x81cd0002, REPORTER, MEDIA], 17),
         (&[], 11),
+        // Each fails the check after it too.
+        (&[0x40cd0000, REPORTER], 11),
+        (&[0x61cd0003, REPORTER, MEDIA, 0x00010000], 12),
+        (&[0xa1ce0003, REPORTER, MEDIA, 0x00010000], 13),
+        (&[0x82ce0003, REPORTER, MEDIA, 0x00010000], 14),
+        (&[0x82cd0004, REPORTER, MEDIA, 0x00010000], 15),
+        (&[0x81cd0003, REPORTER, MEDIA], 16),
     ] {
         let octets = octets(words)?;
         let fault = NackView::read(&octets).err().ok_or("it is refused")?;
@@ -151,6 +158,16 @@ fn refused_compounds(rt: HostRuntime) -> Result<(), Fail> {
             12,
         ),
         (&[], &[], 11),
+        (&[0x81cd0001, REPORTER], &[], 11),
+        (&[0x81cd0002, REPORTER, MEDIA], &[], 17),
+        // Each fails the check after it too.
+        (&[0x80c90001, REPORTER], &[0x41, 0xcd, 0], 11),
+        (&[0x61cd0003, REPORTER, MEDIA, 0x00010000], &[], 12),
+        (&[0xa1cd0004, REPORTER, MEDIA, 0x00010000], &[], 13),
+        (&[0x81cd0002, REPORTER], &[], 16),
+        // The first packet with a fault decides, and any fault before a want of NACKs.
+        (&[0x81cd0002, REPORTER, MEDIA, 0x40c90000], &[], 17),
+        (&[0x82cd0002, REPORTER, MEDIA, 0x40c90000], &[], 12),
     ] {
         let mut octets = octets(words)?;
         octets
@@ -198,4 +215,10 @@ fn compounds(rt: HostRuntime) -> Result<(), Fail> {
     }
     compound_is_determined();
     Ok(())
+}
+
+#[test]
+fn faults_of_a_session(rt: HostRuntime) {
+    assert_eq!(rt; FeedbackFault::WrongMedia.number(), 18);
+    assert_eq!(rt; FeedbackFault::WrongReporter.number(), 19);
 }

@@ -87,13 +87,11 @@ impl Deframer {
         ensures too_long { (result ≡ Err FrameFault.FrameTooLong) ↔ IsTrue self.now.has_failed }
         ensures ok { OnOk result ((self.now.has_failed ≡ false) × (self.now.rest ≡ [])) }
     {
-        if self.has_failed {
-            return Err(FrameFault::FrameTooLong);
+        match (self.has_failed, self.held.is_empty()) {
+            (true, _) => Err(FrameFault::FrameTooLong),
+            (false, false) => Err(FrameFault::Truncated),
+            (false, true) => Ok(()),
         }
-        if !self.held.is_empty() {
-            return Err(FrameFault::Truncated);
-        }
-        Ok(())
     }
 }
 

@@ -76,6 +76,11 @@ fn what_is_refused(rt: HostRuntime) {
         refusal_of(b"\x80\x60\x00\x01\x00\x00\x00\x00\x11\x11\x11"),
         1
     );
+    // A version that is wrong too.
+    assert_eq!(rt;
+        refusal_of(b"\x40\x60\x00\x01\x00\x00\x00\x00\x11\x11\x11"),
+        1
+    );
     for (first, rest, refusal) in [
         (0x40, b"".as_slice(), 2),
         (0x82, b"\x00\x00\x00\x07".as_slice(), 3),
@@ -88,6 +93,10 @@ fn what_is_refused(rt: HostRuntime) {
         (0xa0, b"\xaa\x02".as_slice(), 5),
         (0xa0, b"".as_slice(), 5),
         (0xa0, b"\xaa\x01".as_slice(), 0),
+        // Each fails the check after it too.
+        (0x42, b"".as_slice(), 2),
+        (0x91, b"".as_slice(), 3),
+        (0xb0, b"\x00\x00\x00\x01\x00".as_slice(), 4),
     ] {
         assert!(rt; rest.len() <= 100);
         let octets = after_header(first, rest);
@@ -180,6 +189,8 @@ fn the_largest_packet_is_read_back(rt: HostRuntime) -> Result<(), Fail> {
     assert!(rt; read == content);
     assert!(rt; content.copy() == read);
     spelling_is_determined();
+    content_is_determined();
+    content_is_bounded(&read);
     Ok(())
 }
 
@@ -215,6 +226,9 @@ fn sessions(rt: HostRuntime) -> Result<(), Fail> {
         let refused = Session::new(1, media, 2, repair, 3).map_err(|fault| fault.number());
         assert_eq!(rt; refused.err(), Some(51));
     }
+    // The types come first.
+    let refused = Session::new(1, 96, 1, 96, 3).map_err(|fault| fault.number());
+    assert_eq!(rt; refused.err(), Some(51));
     for (media, repair, receiver) in [(1, 1, 2), (1, 2, 1), (1, 2, 2)] {
         let refused = Session::new(media, 96, repair, 97, receiver).map_err(|fault| fault.number());
         assert_eq!(rt; refused.err(), Some(52));
