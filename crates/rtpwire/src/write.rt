@@ -81,7 +81,7 @@ fn push_fixed_header(
 }
 
 fn push_extension(out: &mut Datagram, extension: &Extension)
-    requires { length out.old.items ≤ 1500 }
+    requires { length out.old.items + 68 ≤ MAX_DATAGRAM }
     ensures items { out.new.items ≡ out.old.items ++ extension_octets (Some (extension_of extension.now)) }
     ensures fits { length out.new.items ≤ length out.old.items + 68 }
 {
