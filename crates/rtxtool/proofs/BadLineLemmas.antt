@@ -4,12 +4,12 @@ use Rattle.std.specs.List.{list_any}
 use Rattle.std.proofs.lemmas.List.Elements.{recursion_from_All}
 use Rattle.std.proofs.lemmas.Bool.Decides.{leb_tells}
 use Rattle.rtxtool.specs.Lines.{lines_of, tail_of}
-use Rattle.rtxtool.specs.ConfigLine.{config_of}
-use Rattle.rtxtool.specs.EventLine.{event_of}
+use Rattle.lines.specs.ConfigLine.{config_of}
+use Rattle.lines.specs.EventLine.{event_of}
 use Rattle.rtxtool.specs.Script.{script_config, bad_line, events_in, bad_in}
 use Rattle.rtxtool.specs.IsScript.{LacksFeed}
-use Rattle.rtxtool.proofs.ByteLemmas.{byte_differs, Lacks}
-use Rattle.rtxtool.proofs.LineLemmas.{lines_of-none, tail_of-none}
+use Rattle.std.proofs.lemmas.Bool.{ne_eqb}
+use Rattle.rtxtool.proofs.LineLemmas.{LacksFeedInTurn, lines_of-none, tail_of-none}
 
 abbrev feed : ℕ → Bool
 feed x = nat_eq x 10
@@ -29,11 +29,11 @@ line_or_none-more (c ∷ cs) = go (nat_eq c 10) refl (line_or_none-more cs)
     go false e (inl none) = inl (rw (e, none.0) refl, rw (e, none.1) refl)
     go false e (inr some) = inr (c ∷ some.0, some.1, rw (e, some.2) refl)
 
-line_or_none : (front more : List ℕ) → Lacks 10 front → LineOrNone front more
+line_or_none : (front more : List ℕ) → LacksFeedInTurn front → LineOrNone front more
 line_or_none [] more h = line_or_none-more more
 line_or_none (c ∷ cs) more h = elim (line_or_none cs more h.1) [
-  | inl none ↦ inl (rw (byte_differs c 10 h.0, none.0) refl, rw (byte_differs c 10 h.0, none.1) refl)
-  | inr some ↦ inr (some.0, some.1, rw (byte_differs c 10 h.0, some.2) refl)
+  | inl none ↦ inl (rw (ne_eqb c 10 h.0, none.0) refl, rw (ne_eqb c 10 h.0, none.1) refl)
+  | inr some ↦ inr (some.0, some.1, rw (ne_eqb c 10 h.0, some.2) refl)
 ]
 
 tail_of-plain : (text : List ℕ) → list_any feed text ≡ false → tail_of text ≡ text

@@ -7,8 +7,8 @@ use Rattle.std.proofs.lemmas.Bool.Decides.{eqb_tells}
 use Rattle.world.specs.declared.event.Event.{Event}
 use Rattle.world.specs.Config.{Config}
 use Rattle.rtxtool.specs.Lines.{lines_of, tail_of}
-use Rattle.rtxtool.specs.ConfigLine.{config_of}
-use Rattle.rtxtool.specs.EventLine.{event_of}
+use Rattle.lines.specs.ConfigLine.{config_of}
+use Rattle.lines.specs.EventLine.{event_of}
 use Rattle.rtxtool.specs.Script.{script_config, script_events, bad_line, events_in, events_from, bad_in, bad_from, config_first}
 use Rattle.rtxtool.specs.IsScript.{IsScript, LacksFeed, Says, ended}
 use Rattle.rtxtool.proofs.ScriptLemmas.{events_in-line, bad_in-line, script_config-line, script_events-line, bad_line-line}

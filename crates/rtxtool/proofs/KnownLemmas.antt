@@ -1,9 +1,12 @@
 -- What several reads and writes do together to octets that are known.
-use Rattle.std.proofs.Common.{ℕ, List, [], ◌++◌, None, Some, Option, sym, ap, ◌∙◌, append_assoc, append-nil, length, take, drop, ◌+◌, ◌-◌, subst, refl}
-use Rattle.std.specs.Io.KnownBytes.{Keeps, Appends, Consumes, prepend_known}
+use Rattle.std.proofs.Common.{◌≡◌, ℕ, List, [], ◌++◌, None, Some, Option, sym, ap, ◌∙◌, append_assoc, append-nil, length, take, drop, ◌+◌, ◌-◌, subst, refl}
+use Rattle.std.specs.Io.KnownBytes.{Keeps, Appends, Consumes, append_known, prepend_known}
 use Rattle.std.proofs.lemmas.List.{take_rest}
 use Rattle.std.proofs.Math.Seq.{take-add}
-use Rattle.rtxtool.specs.Reading.{IfBoth, EndsWith}
+use Rattle.rtxtool.specs.declared.fault.SimFault.{SimFault}
+use Rattle.rtxtool.specs.declared.fault.SimFault.TheVariants.{BadLine, Read, Write, OutOfMemory}
+use Rattle.rtxtool.specs.IsScript.{LacksFeed}
+use Rattle.rtxtool.specs.Reading.{IfBoth, EndsWith, EndsInLine, FailsToFill, Leaves}
 
 -- ---- what was written
 
@@ -29,6 +32,12 @@ wrote_more a b d text i n p q =
     let more = rw (take_rest text i) at q in
     subst (Appends a d) (sym (take-add i n text)) (Appends-trans a b d _ _ p more)
 
+-- what was written and then brought out, where the buffer held nothing more
+pub brought_out : (mid inner : Option (List ℕ)) (rest : List ℕ) → Keeps mid (append_known inner rest) → rest ≡ [] → Keeps mid inner
+brought_out None inner rest k empty = tt
+brought_out (Some x) None rest k empty = absurd k
+brought_out (Some x) (Some y) rest k empty = sym (append-nil y) ∙ ap (λ l. y ++ l) (sym empty) ∙ k
+
 -- ---- what is left of a text after what was read
 
 pub lost_held : (old left : Option (List ℕ)) (held : List ℕ) → Keeps old (prepend_known held left) → IfBoth old left EndsWith
@@ -51,6 +60,29 @@ pub lost_read : (old left : Option (List ℕ)) (held read : List ℕ) → Consum
 lost_read None left held read p = tt
 lost_read (Some x) None held read p = absurd p
 lost_read (Some x) (Some y) held read p = (held ++ read, ap (λ l. held ++ l) p ∙ sym (append_assoc held read y))
+
+-- a reader failed behind octets in which no line ends
+lost_in_line : (old mid left : Option (List ℕ)) (held : List ℕ) → Keeps old (prepend_known held mid) → Keeps mid left → LacksFeed held → IfBoth old left EndsInLine
+lost_in_line None mid left held p q plain = tt
+lost_in_line (Some x) None left held p q plain = absurd p
+lost_in_line (Some x) (Some y) None held p q plain = absurd q
+lost_in_line (Some x) (Some y) (Some z) held p q plain = (held, sym p ∙ ap (λ l. held ++ l) (sym q), plain)
+
+-- no piece could be had, behind octets in which no line ends
+pub lost_filling : (fault : SimFault) (old mid left : Option (List ℕ)) (held : List ℕ) → Keeps old (prepend_known held mid) → LacksFeed held → FailsToFill fault held mid left → Leaves fault old left
+lost_filling (BadLine k) old mid left held p plain h = absurd h
+lost_filling Read old mid left held p plain h = lost_in_line old mid left held p h plain
+lost_filling Write old mid left held p plain h = absurd h
+lost_filling OutOfMemory old mid left held p plain h = lost_after old (prepend_known held mid) left p h
+
+-- what a fault leaves is an end of the text
+pub leaves_end : (fault : SimFault) (text left : Option (List ℕ)) → Leaves fault text left → IfBoth text left EndsWith
+leaves_end (BadLine k) text left h = h
+leaves_end Read None left h = tt
+leaves_end Read (Some x) None h = absurd h
+leaves_end Read (Some x) (Some y) h = (h.0, h.1)
+leaves_end Write text left h = h
+leaves_end OutOfMemory text left h = h
 
 pub Keeps-trans : (a b d : Option (List ℕ)) → Keeps a b → Keeps b d → Keeps a d
 Keeps-trans None b d p q = tt

@@ -1,10 +1,4 @@
-pub mod ByteLemmas
-pub mod WordLemmas
-pub mod DecimalLemmas
-pub mod OctetLemmas
-pub mod NumberLemmas
-pub mod EventLemmas
-pub mod HexText
+pub mod CommandLemmas
 pub mod LogLemmas
 pub mod LineLemmas
 pub mod BadLineLemmas
@@ -12,3 +6,4 @@ pub mod ScriptLemmas
 pub mod KnownLemmas
 pub mod ProgressLemmas
 pub mod IsScriptLemmas
+pub mod ProgramLemmas

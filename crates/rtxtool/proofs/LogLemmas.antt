@@ -10,8 +10,8 @@ use Rattle.world.specs.declared.event.Entry.{Entry}
 use Rattle.world.specs.declared.event.Entry.TheVariants.{Sent, SendRefused, Nothing, Delivered, Injected, Played}
 use Rattle.world.specs.Config.{Config}
 use Rattle.world.specs.Answers.{Item, Stand, Step, Answers}
-use Rattle.rtxtool.specs.ContentText.{octets_text}
-use Rattle.rtxtool.specs.LogText.{line_of, octets_in, entry_line, log_text}
+use Rattle.lines.specs.ContentText.{octets_text}
+use Rattle.lines.specs.LogText.{line_of, octets_in, entry_line, log_text}
 
 -- one entry more, behind those before it
 pub log_text-append : (log : List Entry) (entry : Entry) (wire : List Item) → log_text (log ++ entry ∷ []) wire ≡ log_text log wire ++ entry_line wire entry

@@ -1,8 +1,8 @@
 -- How far a simulation has come: what was read and written, and what the rest of the text says.
-use Rattle.std.proofs.Common.{◌≡◌, ℕ, ◌+◌, List, [], ◌∷◌, ◌++◌, length, take, reverse, refl, sym, ap, ◌∙◌, subst, arith, Option, Some, None, append_assoc, append-nil, length-append}
+use Rattle.std.proofs.Common.{◌≡◌, ℕ, ◌+◌, List, [], ◌∷◌, ◌++◌, length, take, reverse, refl, sym, ap, ◌∙◌, subst, arith, Option, Some, None, append_assoc, append-nil, length-append, inl, inr}
 use Rattle.std.specs.List.{flat_map, AllZip}
 use Rattle.std.specs.Option.{IfSome}
-use Rattle.std.specs.Io.KnownBytes.{Appends, append_known, prepend_known}
+use Rattle.std.specs.Io.KnownBytes.{Appends, Keeps, append_known, prepend_known}
 use Rattle.std.proofs.Math.Seq.{take-append_seam, take-append-add}
 use Rattle.std.proofs.lemmas.List.{take_all}
 use Rattle.world.specs.declared.event.Event.{Event}
@@ -13,10 +13,10 @@ use Rattle.rtxtool.specs.declared.fault.SimFault.{SimFault}
 use Rattle.rtxtool.specs.declared.fault.SimFault.TheVariants.{BadLine, Read, Write, OutOfMemory}
 use Rattle.rtxtool.specs.Script.{script_config, script_events, bad_line, events_in, bad_in}
 use Rattle.rtxtool.specs.IsScript.{IsScript, Says, ended}
-use Rattle.rtxtool.specs.LogText.{log_text}
-use Rattle.rtxtool.specs.Reading.{IfBoth, TakesConfig, Continues, EndsWith, FailsFirst, FailsAt}
-use Rattle.rtxtool.specs.Sim.{Prints, PrintsAny, Advances, IsDone, IsStopped, WroteSome, WroteOfRead}
-use Rattle.rtxtool.proofs.KnownLemmas.{Appends-trans, Appends-nil}
+use Rattle.lines.specs.LogText.{log_text}
+use Rattle.rtxtool.specs.Reading.{IfBoth, TakesConfig, Continues, EndsWith, FailsFirst, FailsAt, Leaves}
+use Rattle.rtxtool.specs.Sim.{Prints, PrintsAny, Advances, IsDone, IsStopped, WroteSome, WroteOfRead, AnswersRead}
+use Rattle.rtxtool.proofs.KnownLemmas.{Appends-trans, Appends-nil, Appends-kept}
 use Rattle.rtxtool.proofs.LogLemmas.{AreOnWire, log_text-step, answers_more}
 use Rattle.rtxtool.proofs.ScriptLemmas.{script_config-line, script_events-line, bad_line-line, events_in-line, bad_in-line}
 
@@ -37,20 +37,37 @@ pub record Progress (world : Recorded) (count : ℕ) (old new : Option (List ℕ
 
 -- ---- of texts
 
-start : (config : Config) (w : Option (List ℕ)) (x y : List ℕ) → TakesConfig config x y → Progress (empty config) 0 w w x y
-start config w x y b =
+start : (config : Config) (v w : Option (List ℕ)) (x y : List ℕ) → TakesConfig config x y → Keeps v w → Progress (empty config) 0 v w x y
+start config v w x y b k =
     record {
       events = [];
       answers = refl;
       on_wire = tt;
       counted = refl;
-      wrote = Appends-nil w;
+      wrote = Appends-kept v v w [] (Appends-nil v) k;
       read = b.line ++ 10 ∷ [];
       split = b.whole ∙ sym (append_assoc b.line (10 ∷ []) y);
       script = record { first = b.line; lines = []; whole = sym (append-nil (b.line ++ 10 ∷ [])); config_line = b.says; one_line = b.one_line; event_lines = tt };
       config = λ r. script_config-line _ b.line r config (append_assoc b.line (10 ∷ []) r) b.one_line b.says;
       then_events = λ r. script_events-line _ b.line r config (append_assoc b.line (10 ∷ []) r) b.one_line b.says;
       then_bad = λ r. bad_line-line _ b.line r config (append_assoc b.line (10 ∷ []) r) b.one_line b.says;
+    }
+
+-- what was written stays, as while it is brought out
+kept : (world : Kept) (count : ℕ) (u v w : Option (List ℕ)) (x y : List ℕ) → Progress world count u v x y → Keeps v w → Progress world count u w x y
+kept world count u v w x y p k =
+    record {
+      events = p.events;
+      answers = p.answers;
+      on_wire = p.on_wire;
+      counted = p.counted;
+      wrote = Appends-kept u v w _ p.wrote k;
+      read = p.read;
+      split = p.split;
+      script = p.script;
+      config = p.config;
+      then_events = p.then_events;
+      then_bad = p.then_bad;
     }
 
 -- the log of one more event
@@ -139,11 +156,11 @@ stopped world count Read u v x y p bad = tt
 stopped world count Write u v x y p bad = tt
 stopped world count OutOfMemory u v x y p bad = tt
 
-stopped_first : (fault : SimFault) (u : Option (List ℕ)) (x : List ℕ) → FailsFirst fault x → IsStopped fault x u u
-stopped_first (BadLine k) u x bad = (bad.1 ∙ ap Some (sym bad.0), record { printed = []; prints = rw bad.2 refl; wrote = Appends-nil u })
-stopped_first Read u x bad = tt
-stopped_first Write u x bad = tt
-stopped_first OutOfMemory u x bad = tt
+stopped_first : (fault : SimFault) (u v : Option (List ℕ)) (x : List ℕ) → FailsFirst fault x → Keeps u v → IsStopped fault x u v
+stopped_first (BadLine n) u v x bad k = (bad.1 ∙ ap Some (sym bad.0), record { printed = []; prints = rw bad.2 refl; wrote = Appends-kept u u v [] (Appends-nil u) k })
+stopped_first Read u v x bad k = tt
+stopped_first Write u v x bad k = tt
+stopped_first OutOfMemory u v x bad k = tt
 
 -- ---- what was written of what was read
 
@@ -197,23 +214,28 @@ prints_nothing : (o : Option Config) (events : List Event) → PrintsAny o (take
 prints_nothing None events = refl
 prints_nothing (Some c) events = record { log = []; end = new_stand c; answers = refl; is = refl }
 
-nothing_of_read : (u : Option (List ℕ)) (x left : List ℕ) → EndsWith x left → WroteOfRead u u x left
-nothing_of_read u x left end = (
+nothing_of_read : (u v : Option (List ℕ)) (x left : List ℕ) → EndsWith x left → Keeps u v → WroteOfRead u v x left
+nothing_of_read u v x left end k = (
   end.0,
   end.1,
-  record { count = 0; printed = []; prints = prints_nothing (script_config end.0) (script_events end.0); size = 0; wrote = Appends-nil u },
+  record { count = 0; printed = []; prints = prints_nothing (script_config end.0) (script_events end.0); size = 0; wrote = Appends-kept u u v [] (Appends-nil u) k },
 )
 
 -- ---- of what is known
 
-pub known_start : (config : Config) (old left w : Option (List ℕ)) → IfBoth (prepend_known [] old) left (TakesConfig config) → IfBoth old left (Progress (empty config) 0 w w)
-known_start config None left w b = tt
-known_start config (Some x) None w b = absurd b
-known_start config (Some x) (Some y) w b = start config w x y b
+pub known_start : (config : Config) (old left v w : Option (List ℕ)) → IfBoth (prepend_known [] old) left (TakesConfig config) → Keeps v w → IfBoth old left (Progress (empty config) 0 v w)
+known_start config None left v w b k = tt
+known_start config (Some x) None v w b k = absurd b
+known_start config (Some x) (Some y) v w b k = start config v w x y b k
 
-pub known_first : (fault : SimFault) (old u : Option (List ℕ)) → IfSome (prepend_known [] old) (FailsFirst fault) → IfSome old (λ text. IsStopped fault text u u)
-known_first fault None u bad = tt
-known_first fault (Some x) u bad = stopped_first fault u x bad
+pub known_first : (fault : SimFault) (old u v : Option (List ℕ)) → IfSome (prepend_known [] old) (FailsFirst fault) → Keeps u v → IfSome old (λ text. IsStopped fault text u v)
+known_first fault None u v bad k = tt
+known_first fault (Some x) u v bad k = stopped_first fault u v x bad k
+
+pub known_kept : (world : Kept) (count : ℕ) (text left u v w : Option (List ℕ)) → IfBoth text left (Progress world count u v) → Keeps v w → IfBoth text left (Progress world count u w)
+known_kept world count None left u v w p k = tt
+known_kept world count (Some x) None u v w p k = absurd p
+known_kept world count (Some x) (Some y) u v w p k = kept world count u v w x y p k
 
 pub known_step : (old new : Recorded) (count : ℕ) (event : Event) (line : List ℕ) (text left more u v w : Option (List ℕ)) → IfBoth text left (Progress old count u v)
     → IfBoth left more (Continues (Some event)) → Advances old event new line → Appends v w line → IfBoth text more (Progress new (count + 1) u w)
@@ -258,13 +280,49 @@ known_of_read_part old new count n event line (Some x) None more u v w held p ne
 known_of_read_part old new count n event line (Some x) (Some y) None u v w held p next a q = absurd next
 known_of_read_part old new count n event line (Some x) (Some y) (Some z) u v w held p next a q = of_read_part old new count n event line u v w x y (held ++ z) z p next a q (held, refl)
 
-pub known_nothing_of_read : (text left u : Option (List ℕ)) → IfBoth (prepend_known [] text) left EndsWith → IfBoth text left (WroteOfRead u u)
-known_nothing_of_read None left u end = tt
-known_nothing_of_read (Some x) None u end = absurd end
-known_nothing_of_read (Some x) (Some y) u end = nothing_of_read u x y end
+pub known_nothing_of_read : (text left u v : Option (List ℕ)) → IfBoth (prepend_known [] text) left EndsWith → Keeps u v → IfBoth text left (WroteOfRead u v)
+known_nothing_of_read None left u v end k = tt
+known_nothing_of_read (Some x) None u v end k = absurd end
+known_nothing_of_read (Some x) (Some y) u v end k = nothing_of_read u v x y end k
 
 -- the configuration was read, which leaves so much
 pub config_ends : (config : Config) (old left : Option (List ℕ)) (held : List ℕ) → IfBoth old (prepend_known held left) (TakesConfig config) → IfBoth old left EndsWith
 config_ends config None left held b = tt
 config_ends config (Some x) None held b = absurd b
 config_ends config (Some x) (Some y) held b = (b.line ++ 10 ∷ held, b.whole ∙ sym (append_assoc b.line (10 ∷ held) y))
+
+-- ---- what was answered of what was read
+
+-- the reader failed behind whole lines
+pub known_answered : (world : Kept) (count : ℕ) (fault : SimFault) (text left more u v : Option (List ℕ)) → IfBoth text left (Progress world count u v) → Leaves fault left more → AnswersRead fault u v text more
+known_answered world count (BadLine k) text left more u v p end = tt
+known_answered world count Read None left more u v p end = tt
+known_answered world count Read (Some x) None more u v p end = absurd p
+known_answered world count Read (Some x) (Some y) None u v p end = absurd end
+known_answered world count Read (Some x) (Some y) (Some z) u v p end = (
+  p.read ++ end.0,
+  p.split ∙ ap (λ t. p.read ++ t) end.1 ∙ sym (append_assoc p.read end.0 z),
+  inr (record {
+    config = world.config;
+    events = p.events;
+    script = p.read;
+    front = end.0;
+    split = refl;
+    whole_lines = p.script;
+    in_line = end.2;
+    printed = log_text world.log world.wire;
+    prints = prints world count u v x y p;
+    wrote = p.wrote;
+  }),
+)
+known_answered world count Write text left more u v p end = tt
+known_answered world count OutOfMemory text left more u v p end = tt
+
+-- and before the config line's end
+pub known_answered_first : (fault : SimFault) (text left u v : Option (List ℕ)) → Leaves fault (prepend_known [] text) left → Keeps u v → AnswersRead fault u v text left
+known_answered_first (BadLine k) text left u v end same = tt
+known_answered_first Read None left u v end same = tt
+known_answered_first Read (Some x) None u v end same = absurd end
+known_answered_first Read (Some x) (Some y) u v end same = (end.0, end.1, inl (end.2, Appends-kept u u v [] (Appends-nil u) same))
+known_answered_first Write text left u v end same = tt
+known_answered_first OutOfMemory text left u v end same = tt

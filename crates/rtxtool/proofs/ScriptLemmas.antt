@@ -5,9 +5,9 @@ use Rattle.std.specs.Io.KnownBytes.{Keeps, prepend_known}
 use Rattle.world.specs.declared.event.Event.{Event}
 use Rattle.world.specs.Config.{Config}
 use Rattle.rtxtool.specs.declared.fault.SimFault.TheVariants.{BadLine}
-use Rattle.rtxtool.specs.declared.pending.Next.TheVariants.{Line, End, Refused}
-use Rattle.rtxtool.specs.ConfigLine.{config_of}
-use Rattle.rtxtool.specs.EventLine.{event_of}
+use Rattle.rtxtool.specs.declared.sim.Next.TheVariants.{Line, End, Refused}
+use Rattle.lines.specs.ConfigLine.{config_of}
+use Rattle.lines.specs.EventLine.{event_of}
 use Rattle.rtxtool.specs.Script.{script_config, script_events, bad_line, events_in, events_from, bad_in}
 use Rattle.rtxtool.specs.IsScript.{LacksFeed}
 use Rattle.rtxtool.specs.Found.{Found}

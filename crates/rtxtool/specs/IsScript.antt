@@ -3,8 +3,8 @@ use Rattle.std.specs.Prelude.{◌≡◌, ◌≢◌, ℕ, List, [], ◌∷◌, �
 use Rattle.std.specs.List.{flat_map, AllZip}
 use Rattle.world.specs.declared.event.Event.{Event}
 use Rattle.world.specs.Config.{Config}
-use Rattle.rtxtool.specs.ConfigLine.{config_of}
-use Rattle.rtxtool.specs.EventLine.{event_of}
+use Rattle.lines.specs.ConfigLine.{config_of}
+use Rattle.lines.specs.EventLine.{event_of}
 
 -- no line feed stands there
 abbrev pub LacksFeed : List ℕ → Type 0

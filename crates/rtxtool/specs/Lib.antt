@@ -1,12 +1,3 @@
-pub mod Steps
-pub mod Words
-pub mod Decimal
-pub mod Octets
-pub mod ConfigLine
-pub mod ConfigSteps
-pub mod EventLine
-pub mod ContentText
-pub mod LogText
 pub mod Lines
 pub mod Script
 pub mod IsScript
@@ -14,3 +5,5 @@ pub mod Found
 pub mod Reading
 pub mod Sim
 pub mod Status
+pub mod CommandLine
+pub mod Program

@@ -1,11 +1,11 @@
 -- What reading one line of a script says of the text before and after it.
 use Rattle.std.specs.Prelude.{◌≡◌, ℕ, ◌⊎◌, List, [], ◌∷◌, ◌++◌, Option, Some, None}
-use Rattle.std.specs.Io.KnownBytes.{IsAtEnd}
+use Rattle.std.specs.Io.KnownBytes.{IsAtEnd, Keeps, prepend_known}
 use Rattle.world.specs.declared.event.Event.{Event}
 use Rattle.world.specs.Config.{Config}
 use Rattle.rtxtool.specs.declared.fault.SimFault.{SimFault}
 use Rattle.rtxtool.specs.declared.fault.SimFault.TheVariants.{BadLine, Read, Write, OutOfMemory}
-use Rattle.rtxtool.specs.ConfigLine.{config_of}
+use Rattle.lines.specs.ConfigLine.{config_of}
 use Rattle.rtxtool.specs.Script.{script_config, bad_line, events_in, bad_in}
 use Rattle.rtxtool.specs.IsScript.{LacksFeed, Says}
 
@@ -56,6 +56,24 @@ FailsAt number Read text = Unit {0}
 FailsAt number Write text = Unit {0}
 FailsAt number OutOfMemory text = Unit {0}
 
--- a line could not be had: nothing is said of the text
-abbrev pub IsReadFault : SimFault → Type 0
-IsReadFault fault = (fault ≡ Read) ⊎ (fault ≡ OutOfMemory)
+-- left is what remains of text behind octets in which no line ends
+abbrev pub EndsInLine : (text left : List ℕ) → Type 0
+EndsInLine text left = (front : List ℕ) × (text ≡ front ++ left) × LacksFeed front
+
+-- What a fault leaves of the text: where the reader failed, no whole line was read in vain.
+abbrev pub Leaves : SimFault → Option (List ℕ) → Option (List ℕ) → Type 0
+Leaves (BadLine k) text left = IfBoth text left EndsWith
+Leaves Read text left = IfBoth text left EndsInLine
+Leaves Write text left = IfBoth text left EndsWith
+Leaves OutOfMemory text left = IfBoth text left EndsWith
+
+-- no line could be had, whatever the text says
+abbrev pub IsNoLine : SimFault → Type 0
+IsNoLine fault = (fault ≡ Read) ⊎ (fault ≡ Write) ⊎ (fault ≡ OutOfMemory)
+
+-- no piece could be had: a reader that failed gave nothing
+abbrev pub FailsToFill : SimFault → (pending : List ℕ) → (old new : Option (List ℕ)) → Type 0
+FailsToFill (BadLine k) pending old new = ⊥
+FailsToFill Read pending old new = Keeps old new
+FailsToFill Write pending old new = ⊥
+FailsToFill OutOfMemory pending old new = IfBoth (prepend_known pending old) new EndsWith

@@ -4,8 +4,8 @@ use Rattle.std.specs.Option.{option_map_or}
 use Rattle.world.specs.declared.event.Event.{Event}
 use Rattle.world.specs.Config.{Config}
 use Rattle.rtxtool.specs.Lines.{lines_of, tail_of}
-use Rattle.rtxtool.specs.ConfigLine.{config_of}
-use Rattle.rtxtool.specs.EventLine.{event_of}
+use Rattle.lines.specs.ConfigLine.{config_of}
+use Rattle.lines.specs.EventLine.{event_of}
 
 -- the events of lines, up to the first that is none
 abbrev pub events_from : List (List ℕ) → List Event

@@ -1,5 +1,5 @@
 -- What a simulation of a script writes.
-use Rattle.std.specs.Prelude.{◌≡◌, ℕ, List, [], ◌∷◌, ◌++◌, length, take, reverse, Option, Some, None}
+use Rattle.std.specs.Prelude.{◌≡◌, ℕ, ◌⊎◌, List, [], ◌∷◌, ◌++◌, length, take, reverse, Option, Some, None}
 use Rattle.std.specs.Io.KnownBytes.{Appends}
 use Rattle.world.specs.declared.event.Event.{Event}
 use Rattle.world.specs.declared.event.Entry.{Entry}
@@ -9,8 +9,9 @@ use Rattle.world.specs.World.{Recorded, stand_of}
 use Rattle.rtxtool.specs.declared.fault.SimFault.{SimFault}
 use Rattle.rtxtool.specs.declared.fault.SimFault.TheVariants.{BadLine, Read, Write, OutOfMemory}
 use Rattle.rtxtool.specs.Script.{script_config, script_events, bad_line}
-use Rattle.rtxtool.specs.IsScript.{IsScript}
-use Rattle.rtxtool.specs.LogText.{entry_line, log_text}
+use Rattle.rtxtool.specs.IsScript.{IsScript, LacksFeed}
+use Rattle.rtxtool.specs.Reading.{IfBoth}
+use Rattle.lines.specs.LogText.{entry_line, log_text}
 
 -- The text is that of the log and the wire that answer these events.
 pub record Prints (c : Config) (events : List Event) (text : List ℕ) : Type 0 where
@@ -66,3 +67,27 @@ IsStopped OutOfMemory text old new = Unit {0}
 -- of the text that was read, which lies before what is left, a beginning of the log was written
 abbrev pub WroteOfRead : Option (List ℕ) → Option (List ℕ) → (text left : List ℕ) → Type 0
 WroteOfRead old new text left = (read : List ℕ) × (text ≡ read ++ left) × WroteSome read old new
+
+-- The text is a script and the front of one more line, and the script's whole log was written.
+pub record AnsweredLines (text : List ℕ) (old new : Option (List ℕ)) : Type 0 where
+  pub config : Config
+  pub events : List Event
+  pub script : List ℕ
+  pub front : List ℕ
+  pub split : text ≡ script ++ front
+  pub whole_lines : IsScript script config events
+  pub in_line : LacksFeed front
+  pub printed : List ℕ
+  pub prints : Prints config events printed
+  pub wrote : Appends old new printed
+
+-- each whole line of the text was answered; before the config line's end there is none
+abbrev pub AnsweredAll : List ℕ → Option (List ℕ) → Option (List ℕ) → Type 0
+AnsweredAll text old new = (LacksFeed text × Appends old new []) ⊎ AnsweredLines text old new
+
+-- where the reader failed, each whole line of what was read was answered
+abbrev pub AnswersRead : SimFault → (old new : Option (List ℕ)) → (text left : Option (List ℕ)) → Type 0
+AnswersRead (BadLine k) old new text left = Unit {0}
+AnswersRead Read old new text left = IfBoth text left (λ text left. (read : List ℕ) × (text ≡ read ++ left) × AnsweredAll read old new)
+AnswersRead Write old new text left = Unit {0}
+AnswersRead OutOfMemory old new text left = Unit {0}

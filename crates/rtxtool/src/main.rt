@@ -2,14 +2,9 @@
 #![tactic(auto)]
 
 mod command_line;
-mod config_line;
-mod content_text;
-mod decimal;
-mod event_line;
 mod fault;
+mod host;
 mod laws;
-mod log_text;
-mod octets;
 mod output;
 mod pending;
 mod program;
@@ -17,36 +12,33 @@ mod sim;
 mod tell;
 #[cfg(test)]
 mod tests;
-mod words;
 
-use clap::error::ErrorKind;
-use command_line::choose;
+use host::Host;
+use program::program;
 use std::env;
+use std::io::{BufWriter, ErrorKind};
 use std::process::ExitCode;
 use tell::{ToolFault, tell};
 
-fn main(rt: HostRuntime) -> ExitCode {
-    let Ok(words) = env::args(&rt) else {
-        return stopped(&rt, &ToolFault::Memory);
-    };
-    let Ok(words) = words.collect::<Vec<String>>(rt.alloc()) else {
-        return stopped(&rt, &ToolFault::Memory);
-    };
-    match choose(rt.alloc(), &words) {
-        Ok(Some(choice)) => match program::run(&rt, choice) {
-            Ok(()) => ExitCode::SUCCESS,
-            Err(fault) => stopped(&rt, &fault),
-        },
-        Ok(None) => stopped(&rt, &ToolFault::Input),
-        Err(error) if error.kind() == ErrorKind::OutOfMemory => stopped(&rt, &ToolFault::Memory),
-        Err(error) => {
-            // Help is such an error too, with the status 0.
-            let _ = error.print(&rt);
-            ExitCode::from(error.exit_code() as u8)
-        }
-    }
-}
+/// How much of a log is held back, in octets, while the script goes on.
+const BUFFER: usize = 65536;
 
-fn stopped(rt: &HostRuntime, fault: &ToolFault) -> ExitCode {
-    ExitCode::from(tell(fault, &mut rt.stderr()))
+fn main(rt: HostRuntime) -> ExitCode {
+    let mut error = rt.stderr();
+    let Ok(mut output) = BufWriter::with_capacity(rt.alloc(), BUFFER, rt.stdout()) else {
+        return ExitCode::from(tell(&ToolFault::Memory, &mut error));
+    };
+    let words = match env::args(&rt) {
+        Ok(words) => words.collect::<Vec<String>>(rt.alloc()),
+        Err(fault) if fault.kind() == ErrorKind::InvalidData => {
+            let _ = eprintln!(rt; "error: a word of the command line is not UTF-8");
+            return ExitCode::from(2);
+        }
+        Err(_) => return ExitCode::from(tell(&ToolFault::Memory, &mut error)),
+    };
+    let Ok(words) = words else {
+        return ExitCode::from(tell(&ToolFault::Memory, &mut error));
+    };
+    let host = Host { rt: &rt };
+    ExitCode::from(program(rt.alloc(), &words, &host, &mut output, &mut error))
 }

@@ -2,6 +2,7 @@
 ghost use Rattle.std.specs.Prelude.{◌≡◌};
 ghost use Rattle.rtxtool.specs.Status.{status_of};
 
+use crate::command_line::ChooseFault;
 use crate::fault::SimFault;
 use std::io::Write;
 use thiserror::Error;
@@ -15,6 +16,9 @@ pub enum ToolFault {
     /// What was written could not be brought out.
     #[error("fault output")]
     Output,
+    /// The command line asks for nothing that the program does.
+    #[error(transparent)]
+    Choose(#[from] ChooseFault),
     /// The script was not done to its end.
     #[error(transparent)]
     Sim(#[from] SimFault),
@@ -23,16 +27,22 @@ pub enum ToolFault {
     Memory,
 }
 
-/// Writes the line of a fault, and answers the exit status, whatever the writer does: 1 for an input that
-/// is refused, 3 for a file, 4 for memory.
+/// Writes the line of a fault, or the text of `clap`, and answers the exit status, whatever the writer does:
+/// 1 for an input that is refused, 2 for a command line, 3 for a file, 4 for memory.
 pub fn tell<W: Write>(fault: &ToolFault, error: &mut W) -> u8
     ensures { result ≡ status_of fault.now }
 {
-    let _ = writeln!(error, "{fault}");
+    let _ = match fault {
+        // It ends in a line feed of its own.
+        ToolFault::Choose(ChooseFault::Line(text)) => write!(error, "{text}"),
+        _ => writeln!(error, "{fault}"),
+    };
     match fault {
         ToolFault::Sim(SimFault::BadLine(_)) => 1,
+        ToolFault::Choose(ChooseFault::Line(_) | ChooseFault::Value) => 2,
         ToolFault::Input | ToolFault::Output => 3,
         ToolFault::Sim(SimFault::Read | SimFault::Write) => 3,
+        ToolFault::Choose(ChooseFault::OutOfMemory) => 4,
         ToolFault::Sim(SimFault::OutOfMemory) | ToolFault::Memory => 4,
     }
 }

@@ -2,6 +2,5 @@
 mod command_lines;
 mod devices;
 mod fakes;
-mod lines;
-mod logs;
+mod programs;
 mod rows;

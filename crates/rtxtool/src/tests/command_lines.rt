@@ -1,29 +1,26 @@
 //! Command lines that are taken, refused, or that ask for help.
-use crate::command_line::{Choice, choose};
-use std::alloc::Global;
+use crate::command_line::{Choice, ChooseFault, choose};
 use std::test::Fail;
-
-fn strings(alloc: Global, words: &[&str]) -> Result<Vec<String>, Fail> {
-    let mut strings = Vec::new(alloc);
-    for word in words {
-        strings.push(String::from_str(alloc, word)?)?;
-    }
-    Ok(strings)
-}
 
 #[test]
 fn the_file_of_a_simulation(rt: HostRuntime) -> Result<(), Fail> {
-    let words = strings(rt.alloc(), &["rtxtool", "sim", "a script"])?;
-    match choose(rt.alloc(), &words) {
-        Ok(Some(choice)) => assert_eq!(rt; choice, Choice::Sim("a script")),
-        _ => return Err(Fail::new("the line should be taken")),
+    let lines: [(&[&str], &str); 3] = [
+        (&["rtxtool", "sim", "a script"], "a script"),
+        (&["rtxtool", "sim", "-"], "-"),
+        (&["rtxtool", "sim", "--", "--help"], "--help"),
+    ];
+    for (line, file) in lines {
+        match choose(rt.alloc(), line) {
+            Ok(choice) => assert_eq!(rt; choice, Choice::Sim(file)),
+            Err(_) => return Err(Fail::new("the line should be taken")),
+        }
     }
     Ok(())
 }
 
 #[test]
 fn lines_that_ask_for_nothing(rt: HostRuntime) -> Result<(), Fail> {
-    let lines: [(&[&str], i32); 7] = [
+    let lines: [(&[&str], i32); 8] = [
         (&["rtxtool"], 2),
         (&["rtxtool", "sim"], 2),
         (&["rtxtool", "sim", "one", "two"], 2),
@@ -31,13 +28,24 @@ fn lines_that_ask_for_nothing(rt: HostRuntime) -> Result<(), Fail> {
         (&["rtxtool", "sim", "--fast", "one"], 2),
         (&["rtxtool", "--help"], 0),
         (&["rtxtool", "sim", "--help"], 0),
+        (&["rtxtool", "--version"], 0),
     ];
     for (line, status) in lines {
-        let words = strings(rt.alloc(), line)?;
-        match choose(rt.alloc(), &words) {
-            Ok(_) => return Err(Fail::new("the line should not be taken")),
-            Err(error) => assert_eq!(rt; error.exit_code(), status),
+        match choose(rt.alloc(), line) {
+            Err(ChooseFault::Line(error)) => assert_eq!(rt; error.exit_code(), status),
+            _ => return Err(Fail::new("the line should not be taken")),
         }
+    }
+    Ok(())
+}
+
+/// A refused growth is told as such: `rt try --test --fail-alloc N` refuses the Nth allocation.
+#[test]
+fn a_refused_growth(rt: HostRuntime) -> Result<(), Fail> {
+    match choose(rt.alloc(), &["rtxtool", "sim", "script"]) {
+        Ok(choice) => assert_eq!(rt; choice, Choice::Sim("script")),
+        Err(ChooseFault::OutOfMemory) => {}
+        Err(_) => return Err(Fail::new("the line is right")),
     }
     Ok(())
 }

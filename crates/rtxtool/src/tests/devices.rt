@@ -1,8 +1,10 @@
 //! Readers and writers that fail, and what a fault is told as.
+use crate::command_line::ChooseFault;
 use crate::fault::SimFault;
 use crate::sim::sim_text;
 use crate::tell::{ToolFault, tell};
-use crate::tests::fakes::{Giver, Taker};
+use crate::tests::fakes::{Giver, LineGiver, Shower, Taker};
+use std::cell::Cell;
 use std::io;
 use std::io::{ErrorKind, Read};
 use std::test::Fail;
@@ -58,6 +60,27 @@ fn whole_lines_before_a_failing_reader(rt: HostRuntime) -> Result<(), Fail> {
     Ok(())
 }
 
+/// What is known is brought out before each read.
+#[test]
+fn a_script_that_comes_line_by_line(rt: HostRuntime) -> Result<(), Fail> {
+    let shown = Cell::new(0);
+    let mut input = LineGiver {
+        octets: SCRIPT,
+        shown: &shown,
+        seen: Vec::new(rt.alloc()),
+    };
+    let mut output = Shower {
+        taken: 0,
+        shown: &shown,
+    };
+    assert_eq!(rt; sim_text(rt.alloc(), &mut input, &mut output), Ok(5));
+    assert_eq!(rt;
+        input.seen.as_slice(),
+        [0, 0, 40, 54, 62, 86, 91].as_slice()
+    );
+    Ok(())
+}
+
 #[test]
 fn a_writer_that_fails_after_each_octet(rt: HostRuntime) -> Result<(), Fail> {
     for room in 0..LOG.len() {
@@ -68,6 +91,8 @@ fn a_writer_that_fails_after_each_octet(rt: HostRuntime) -> Result<(), Fail> {
                 piece: 3,
                 room,
                 fails,
+                flushes: true,
+                calls: 0,
             };
             let outcome = sim_text(rt.alloc(), &mut input, &mut output);
             assert_eq!(rt; outcome, Err(SimFault::Write));
@@ -85,6 +110,8 @@ fn a_writer_that_takes_one_octet_a_call(rt: HostRuntime) -> Result<(), Fail> {
         piece: 1,
         room: LOG.len(),
         fails: true,
+        flushes: true,
+        calls: 0,
     };
     assert_eq!(rt; sim_text(rt.alloc(), &mut input, &mut output), Ok(5));
     assert_eq!(rt; output.taken.as_slice(), LOG);
@@ -103,6 +130,8 @@ fn a_refused_growth(rt: HostRuntime) -> Result<(), Fail> {
         piece: 100,
         room: LOG.len(),
         fails: true,
+        flushes: true,
+        calls: 0,
     };
     let mut input = SCRIPT;
     match sim_text(rt.alloc(), &mut input, &mut output) {
@@ -171,7 +200,7 @@ fn deliveries_from_far_away(rt: HostRuntime) -> Result<(), Fail> {
 
 #[test]
 fn what_a_fault_is_told_as(rt: HostRuntime) -> Result<(), Fail> {
-    let faults: [(ToolFault, u8, &[u8]); 7] = [
+    let faults: [(ToolFault, u8, &[u8]); 9] = [
         (
             ToolFault::Sim(SimFault::BadLine(3)),
             1,
@@ -181,6 +210,12 @@ fn what_a_fault_is_told_as(rt: HostRuntime) -> Result<(), Fail> {
         (ToolFault::Sim(SimFault::Read), 3, b"fault input\n"),
         (ToolFault::Output, 3, b"fault output\n"),
         (ToolFault::Sim(SimFault::Write), 3, b"fault output\n"),
+        (ToolFault::Choose(ChooseFault::Value), 2, b"fault value\n"),
+        (
+            ToolFault::Choose(ChooseFault::OutOfMemory),
+            4,
+            b"out of memory\n",
+        ),
         (ToolFault::Memory, 4, b"out of memory\n"),
         (ToolFault::Sim(SimFault::OutOfMemory), 4, b"out of memory\n"),
     ];
@@ -194,6 +229,8 @@ fn what_a_fault_is_told_as(rt: HostRuntime) -> Result<(), Fail> {
             piece: 1,
             room: 0,
             fails: true,
+            flushes: true,
+            calls: 0,
         };
         assert_eq!(rt; tell(&fault, &mut full), status);
     }

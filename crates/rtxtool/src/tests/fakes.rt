@@ -1,4 +1,7 @@
-//! Readers and writers that do as a test wants.
+//! Readers, writers and files that do as a test wants.
+use crate::program::Inputs;
+use std::alloc::Global;
+use std::cell::Cell;
 use std::io;
 use std::io::{ErrorKind, Read, Write};
 
@@ -40,10 +43,15 @@ pub struct Taker {
     pub room: usize,
     /// What a call answers where there is no room: an error, or else that it took nothing.
     pub fails: bool,
+    /// Whether what was taken can be brought out.
+    pub flushes: bool,
+    /// How many calls there were.
+    pub calls: usize,
 }
 
 impl Write for Taker {
     fn write(&mut self, buf: &[u8]) -> io::Result<usize> {
+        self.calls = self.calls.saturating_add(1);
         let n = self.room.min(buf.len()).min(self.piece.max(1));
         if n == 0 && self.fails {
             return Err(io::Error::from(ErrorKind::StorageFull));
@@ -54,6 +62,91 @@ impl Write for Taker {
     }
 
     fn flush(&mut self) -> io::Result<()> {
+        if self.flushes {
+            Ok(())
+        } else {
+            Err(io::Error::from(ErrorKind::Other))
+        }
+    }
+}
+
+/// A writer with ample room.
+pub fn ample(alloc: Global) -> Taker {
+    Taker {
+        taken: Vec::new(alloc),
+        piece: usize::MAX,
+        room: usize::MAX,
+        fails: true,
+        flushes: true,
+        calls: 0,
+    }
+}
+
+/// Files of which there is one, `script`.
+#[derive(Drop)]
+pub struct OneFile<'a> {
+    pub octets: &'a [u8],
+    /// The call at which its reader fails; 0 for none.
+    pub fails: usize,
+}
+
+impl<'a> Inputs for OneFile<'a> {
+    ghost use Rattle.std.specs.Prelude.{Some};
+
+    type Input = Giver<'a>;
+
+    ghost octets = { λ files _. Some files.octets.now };
+
+    fn open(&self, path: &str) -> Option<Giver<'a>> {
+        if path != "script" {
+            return None;
+        }
+        Some(Giver {
+            octets: self.octets,
+            piece: 10,
+            fails: self.fails,
+        })
+    }
+}
+
+/// Gives a line a call, and notes how much its writer had brought out by then.
+#[derive(Drop)]
+pub struct LineGiver<'a> {
+    pub octets: &'a [u8],
+    pub shown: &'a Cell<usize>,
+    pub seen: Vec<usize>,
+}
+
+impl Read for LineGiver<'_> {
+    fn read(&mut self, buf: &mut [u8]) -> io::Result<usize> {
+        self.seen.push(self.shown.get())?;
+        let line = match self.octets.iter().position(|x| *x == b'\n') {
+            Some(at) => at.saturating_add(1),
+            None => 0,
+        };
+        let n = line.min(buf.len()).min(self.octets.len());
+        let (front, rest) = self.octets.split_at(n);
+        buf[..n].copy_from_slice(front);
+        self.octets = rest;
+        Ok(n)
+    }
+}
+
+/// Tells how much it has brought out.
+#[derive(Drop)]
+pub struct Shower<'a> {
+    pub taken: usize,
+    pub shown: &'a Cell<usize>,
+}
+
+impl Write for Shower<'_> {
+    fn write(&mut self, buf: &[u8]) -> io::Result<usize> {
+        self.taken = self.taken.saturating_add(buf.len());
+        Ok(buf.len())
+    }
+
+    fn flush(&mut self) -> io::Result<()> {
+        self.shown.set(self.taken);
         Ok(())
     }
 }

@@ -1,0 +1,6 @@
+pub mod WordLemmas
+pub mod DecimalLemmas
+pub mod OctetLemmas
+pub mod NumberLemmas
+pub mod EventLemmas
+pub mod HexText

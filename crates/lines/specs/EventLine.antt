@@ -1,0 +1,68 @@
+-- What an event line says.
+use Rattle.std.specs.Prelude.{ℕ, ◌^◌, ◌-◌, ◌==◌, nat_le, List, [], ◌∷◌, length, codes, if◌then◌else◌, Option, Some, None}
+use Rattle.std.specs.Str.{bytes_eq}
+use Rattle.world.specs.declared.event.Event.{Event}
+use Rattle.world.specs.declared.event.Event.TheVariants.{Send, Deliver, Play, Inject}
+use Rattle.world.specs.declared.event.End.TheVariants.{Receiver}
+use Rattle.lines.specs.Steps.{◌>>=◌}
+use Rattle.lines.specs.Words.{words_of, longest_line}
+use Rattle.lines.specs.Decimal.{decimal_up_to}
+use Rattle.lines.specs.Octets.{vector_of, octets_up_to, sources_of_word, extension_of_word}
+
+-- a moment in milliseconds, or an index from 0
+abbrev pub number_of : List ℕ → Option ℕ
+number_of word = decimal_up_to (2 ^ 64 - 1) word
+
+-- `S TIMESTAMP MARKER PADDING PAYLOAD CSRC EXT`: a send. The marker is 0 or 1, PADDING the count of its
+-- octets.
+abbrev pub send_of : List (List ℕ) → Option Event
+send_of (timestamp ∷ marker ∷ padding ∷ payload ∷ sources ∷ extension ∷ []) = do
+  timestamp ← decimal_up_to (2 ^ 32 - 1) timestamp
+  marker ← decimal_up_to 1 marker
+  padding ← decimal_up_to 255 padding
+  payload ← octets_up_to 1200 payload
+  sources ← sources_of_word sources
+  extension ← extension_of_word extension
+  Some (Send (record { payload = vector_of payload; timestamp = timestamp; marker = marker == 1; sources = vector_of sources; extension = extension }) padding)
+send_of _ = None
+
+-- `D INDEX NOW`: the wire's datagram at an index is delivered
+abbrev pub delivery_of : List (List ℕ) → Option Event
+delivery_of (index ∷ now ∷ []) = do
+  index ← number_of index
+  moment ← number_of now
+  Some (Deliver index moment)
+delivery_of _ = None
+
+-- `P NOW`: the receiver plays
+abbrev pub play_of : List (List ℕ) → Option Event
+play_of (now ∷ []) = do
+  moment ← number_of now
+  Some (Play moment)
+play_of _ = None
+
+-- a datagram that nobody sent reaches the receiver
+abbrev pub injection : List ℕ → List ℕ → Option Event
+injection octets now = do
+  datagram ← octets_up_to 1600 octets
+  moment ← number_of now
+  Some (Inject Receiver (vector_of datagram) moment)
+
+-- `I r OCTETS NOW`
+abbrev pub injection_of : List (List ℕ) → Option Event
+injection_of (end ∷ octets ∷ now ∷ []) =
+    if bytes_eq end (codes "r") then injection octets now else None
+injection_of _ = None
+
+abbrev pub event_of_words : List (List ℕ) → Option Event
+event_of_words [] = None
+event_of_words (kind ∷ words) =
+    if bytes_eq kind (codes "S") then send_of words
+    else if bytes_eq kind (codes "D") then delivery_of words
+    else if bytes_eq kind (codes "P") then play_of words
+    else if bytes_eq kind (codes "I") then injection_of words
+    else None
+
+-- what a line says as an event line, if it is one
+abbrev pub event_of : List ℕ → Option Event
+event_of line = if nat_le (length line) longest_line then event_of_words (words_of line) else None

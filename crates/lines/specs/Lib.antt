@@ -1,0 +1,9 @@
+pub mod Steps
+pub mod Words
+pub mod Decimal
+pub mod Octets
+pub mod ConfigLine
+pub mod ConfigSteps
+pub mod EventLine
+pub mod ContentText
+pub mod LogText

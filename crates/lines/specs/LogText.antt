@@ -1,0 +1,70 @@
+-- The text of a log: one line for each entry. Numbers are decimals.
+use Rattle.std.specs.Prelude.{ℕ, List, [], ◌∷◌, ◌++◌, Option, Some, None, slice_get, codes}
+use Rattle.std.specs.Fmt.{decimal}
+use Rattle.std.specs.List.{flat_map}
+use Rattle.std.specs.Option.{option_map}
+use Rattle.rtpwire.specs.declared.content.Content.{Content}
+use Rattle.rtpwire.specs.Content.{extension_of}
+use Rattle.receiver.specs.declared.answer.Played as receiver
+use Rattle.receiver.specs.declared.answer.Played.TheVariants.{Packet, Gap, Wait}
+use Rattle.receiver.specs.Fault.{receive_number}
+use Rattle.world.specs.declared.event.Answer.{Answer}
+use Rattle.world.specs.declared.event.Answer.TheVariants.{Taken, Refused}
+use Rattle.world.specs.declared.event.Entry.{Entry}
+use Rattle.world.specs.declared.event.Entry.TheVariants.{Sent, SendRefused, Nothing, Delivered, Injected, Played}
+use Rattle.world.specs.Answers.{Item}
+use Rattle.world.specs.Fault.{send_number}
+use Rattle.lines.specs.ContentText.{octets_text, sources_text, extension_text, marker_text}
+
+-- words, with one space between them and a line feed behind the last
+abbrev pub line_of : List (List ℕ) → List ℕ
+line_of [] = codes "\n"
+line_of (word ∷ []) = word ++ codes "\n"
+line_of (word ∷ next ∷ words) = word ++ codes " " ++ line_of (next ∷ words)
+
+-- the octets of the datagram at an index of the wire; none where the wire ends before it, which no log of
+-- a world tells
+abbrev pub octets_in : Option Item → List ℕ
+octets_in None = []
+octets_in (Some item) = item.1.items
+
+abbrev pub octets_at : List Item → ℕ → List ℕ
+octets_at wire index = octets_in (slice_get wire index)
+
+abbrev pub refused_line : (number : ℕ) → List ℕ
+refused_line number = line_of (codes "refused" ∷ decimal number ∷ [])
+
+-- what the receiver answered to a datagram
+abbrev pub answer_line : Answer → List ℕ
+answer_line (Taken taken) = line_of (codes "taken" ∷ decimal taken.place ∷ decimal taken.overrun ∷ [])
+answer_line (Refused fault) = refused_line (receive_number fault)
+
+-- a content, as words
+abbrev pub content_words : Content → List (List ℕ)
+content_words content =
+    decimal content.timestamp
+    ∷ marker_text content.marker
+    ∷ octets_text content.payload.items
+    ∷ sources_text content.sources.items
+    ∷ extension_text (option_map extension_of content.extension)
+    ∷ []
+
+-- what a play gave
+abbrev pub played_line : receiver.Played → List ℕ
+played_line (Packet place content) = line_of (codes "play" ∷ decimal place ∷ content_words content)
+played_line (Gap place) = line_of (codes "gap" ∷ decimal place ∷ [])
+played_line Wait = line_of (codes "wait" ∷ [])
+
+-- the line of an entry, where this is the wire
+abbrev pub entry_line : List Item → Entry → List ℕ
+entry_line wire (Sent place index content) =
+    line_of (codes "sent" ∷ decimal place ∷ decimal index ∷ octets_text (octets_at wire index) ∷ [])
+entry_line wire (SendRefused fault) = refused_line (send_number fault)
+entry_line wire Nothing = line_of (codes "nothing" ∷ [])
+entry_line wire (Delivered index label now answer) = answer_line answer
+entry_line wire (Injected end now answer) = answer_line answer
+entry_line wire (Played now played) = played_line played
+
+-- the lines of a log, the oldest entry first
+abbrev pub log_text : List Entry → List Item → List ℕ
+log_text log wire = flat_map (entry_line wire) log

@@ -1,0 +1,110 @@
+//! The lines of a script that follow the first: an event each.
+ghost use Rattle.std.specs.Prelude.{◌≡◌};
+ghost use Rattle.lines.specs.EventLine.{delivery_of, event_of, injection_of, play_of, send_of};
+ghost use Rattle.lines.specs.Words.{words_left};
+
+use crate::decimal::parse_decimal;
+use crate::octets::{parse_extension, parse_octets, parse_sources};
+use crate::words::{LONGEST_LINE, cut};
+use rtpwire::Content;
+use world::{End, Event};
+
+/// What a line says as an event line, if it is one.
+pub fn parse_event(line: &[u8]) -> Option<Event>
+    ensures { result ≡ event_of line.now }
+{
+    if line.len() > LONGEST_LINE {
+        return None;
+    }
+    let (kind, rest) = cut(line);
+    if kind == b"S".as_slice() {
+        return send(rest);
+    }
+    if kind == b"D".as_slice() {
+        return delivery(rest);
+    }
+    if kind == b"P".as_slice() {
+        return play(rest);
+    }
+    if kind == b"I".as_slice() {
+        return injection(rest);
+    }
+    None
+}
+
+/// `TIMESTAMP MARKER PADDING PAYLOAD CSRC EXT`.
+#[tactic(auto, using(crate::proofs::EventLemmas::more_than_a_send))]
+fn send(rest: Option<&[u8]>) -> Option<Event>
+    ensures { result ≡ send_of (words_left rest.entry) }
+{
+    let (timestamp, rest) = cut(rest?);
+    let (marker, rest) = cut(rest?);
+    let (padding, rest) = cut(rest?);
+    let (payload, rest) = cut(rest?);
+    let (sources, rest) = cut(rest?);
+    let (extension, rest) = cut(rest?);
+    if rest.is_some() {
+        return None;
+    }
+    let timestamp = parse_decimal(timestamp, 0xffff_ffff)?;
+    let marker = parse_decimal(marker, 1)?;
+    let padding = parse_decimal(padding, 255)?;
+    let payload = parse_octets(payload)?;
+    let sources = parse_sources(sources)?;
+    let extension = parse_extension(extension)?;
+    let content = Content {
+        payload,
+        timestamp: timestamp as u32,
+        marker: marker == 1,
+        sources,
+        extension,
+    };
+    Some(Event::Send(content, padding as u8))
+}
+
+/// `INDEX NOW`.
+#[tactic(auto, using(crate::proofs::EventLemmas::more_than_a_delivery))]
+fn delivery(rest: Option<&[u8]>) -> Option<Event>
+    ensures { result ≡ delivery_of (words_left rest.entry) }
+{
+    let (index, rest) = cut(rest?);
+    let (now, rest) = cut(rest?);
+    if rest.is_some() {
+        return None;
+    }
+    let index = parse_decimal(index, u64::MAX)?;
+    let moment = parse_decimal(now, u64::MAX)?;
+    Some(Event::Deliver(index, moment))
+}
+
+/// `NOW`.
+#[tactic(auto, using(crate::proofs::EventLemmas::more_than_a_play))]
+fn play(rest: Option<&[u8]>) -> Option<Event>
+    ensures { result ≡ play_of (words_left rest.entry) }
+{
+    let (now, rest) = cut(rest?);
+    if rest.is_some() {
+        return None;
+    }
+    let moment = parse_decimal(now, u64::MAX)?;
+    Some(Event::Play(moment))
+}
+
+/// `r OCTETS NOW`.
+#[tactic(auto, using(crate::proofs::EventLemmas::more_than_an_injection))]
+fn injection(rest: Option<&[u8]>) -> Option<Event>
+    ensures { result ≡ injection_of (words_left rest.entry) }
+{
+    let (end, rest) = cut(rest?);
+    let (octets, rest) = cut(rest?);
+    let (now, rest) = cut(rest?);
+    if rest.is_some() {
+        return None;
+    }
+    if end != b"r".as_slice() {
+        return None;
+    }
+    let datagram = parse_octets(octets)?;
+    let moment = parse_decimal(now, u64::MAX)?;
+    Some(Event::Inject(End::Receiver, datagram, moment))
+}

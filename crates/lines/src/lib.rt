@@ -1,0 +1,18 @@
+//! What a line says, and what is written as a line: words, decimals, octets and contents as text, the lines of
+//! scripts and of logs. Nothing here reads or writes a stream.
+#![tactic(auto)]
+
+mod config_line;
+mod content_text;
+mod decimal;
+mod event_line;
+mod log_text;
+mod octets;
+#[cfg(test)]
+mod tests;
+mod words;
+
+pub use config_line::parse_config;
+pub use event_line::parse_event;
+pub use log_text::push_entry;
+pub use words::{LONGEST_LINE, find_byte};

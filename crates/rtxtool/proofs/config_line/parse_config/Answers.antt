@@ -1,9 +1,0 @@
-use Rattle.std.proofs.Common.{rules}
-use Rattle.rtxtool.specs.Words.{words_left}
-use Rattle.rtxtool.specs.ConfigLine.{config_bounds}
-use Rattle.rtxtool.proofs.NumberLemmas.{numbers_between-within}
-use Rattle.rtxtool.proofs.config_line.parse_config.Goals as goal
-
-pub config_with-requires : goal.config_with-requires
-config_with-requires c =
-    numbers_between-within config_bounds (words_left c.cut.result.1) c.read_numbers.new.numbers (c.if-not-read_numbers.ensures.all (search rules))

@@ -1,0 +1,42 @@
+//! The files of the machine, and its standard input.
+use crate::program::Inputs;
+use std::fs::File;
+use std::io::{Read, Stdin};
+use std::{fs, io};
+
+/// Opens the files of the machine.
+#[derive(Drop)]
+pub struct Host<'a> {
+    pub rt: &'a HostRuntime,
+}
+
+/// What a command line reads.
+#[derive(Drop)]
+pub enum Source {
+    File(File),
+    Standard(Stdin),
+}
+
+impl Read for Source {
+    fn read(&mut self, buf: &mut [u8]) -> io::Result<usize> {
+        match self {
+            Source::File(file) => file.read(buf),
+            Source::Standard(stdin) => stdin.read(buf),
+        }
+    }
+}
+
+impl Inputs for Host<'_> {
+    type Input = Source;
+
+    /// `-` is the standard input.
+    fn open(&self, path: &str) -> Option<Source> {
+        if path == "-" {
+            return Some(Source::Standard(self.rt.stdin()));
+        }
+        match fs::open(self.rt, path) {
+            Ok(file) => Some(Source::File(file)),
+            Err(_) => None,
+        }
+    }
+}
