@@ -8,8 +8,8 @@ use Rattle.std.proofs.lemmas.Option.{cond_some, same_Some}
 use Rattle.lines.specs.Steps.{◌>>=◌}
 use Rattle.lines.specs.Words.{words_left}
 use Rattle.lines.specs.Decimal.{is_decimal, decimal_up_to, decimal_between}
-use Rattle.lines.specs.ConfigLine.{numbers_between}
-use Rattle.lines.specs.ConfigSteps.{AreWithin}
+use Rattle.lines.specs.Numbers.{numbers_between}
+use Rattle.lines.specs.NumberSteps.{AreWithin}
 use Rattle.lines.proofs.WordLemmas.{words_of-cons}
 
 -- words that are left over are refused

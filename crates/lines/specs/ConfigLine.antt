@@ -6,7 +6,7 @@ use Rattle.receiver.specs.Config.{config as receiving}
 use Rattle.world.specs.Config.{Config, config}
 use Rattle.lines.specs.Steps.{◌>>=◌}
 use Rattle.lines.specs.Words.{words_of, longest_line}
-use Rattle.lines.specs.Decimal.{decimal_between}
+use Rattle.lines.specs.Numbers.{numbers_between}
 
 -- the session of every script: the media's SSRC and payload type, the retransmissions', the receiver's SSRC
 abbrev pub script_session : Streams
@@ -24,15 +24,6 @@ config_bounds =
     ∷ (1, 255)  -- how often a place is asked for
     ∷ (1, 255)  -- how often a content is sent again
     ∷ []
-
--- the number of each word, between its bounds; there are as many words as bounds
-abbrev pub numbers_between : List (ℕ × ℕ) → List (List ℕ) → Option (List ℕ)
-numbers_between [] [] = Some []
-numbers_between (bounds ∷ others) (word ∷ words) = do
-  number ← decimal_between bounds.0 bounds.1 word
-  numbers ← numbers_between others words
-  Some (number ∷ numbers)
-numbers_between _ _ = None
 
 -- the numbers of a config line in their order
 abbrev pub config_with : List ℕ → Option Config

@@ -7,9 +7,10 @@ use Rattle.world.specs.declared.event.End.TheVariants.{Receiver}
 use Rattle.lines.specs.Steps.{◌>>=◌}
 use Rattle.lines.specs.Words.{words_of, longest_line}
 use Rattle.lines.specs.Decimal.{decimal_up_to}
+use Rattle.lines.specs.Numbers.{numbers_between}
 use Rattle.lines.specs.Octets.{vector_of, octets_up_to, sources_of_word, extension_of_word}
 
--- a moment in milliseconds, or an index from 0
+-- a moment in milliseconds
 abbrev pub number_of : List ℕ → Option ℕ
 number_of word = decimal_up_to (2 ^ 64 - 1) word
 
@@ -26,20 +27,25 @@ send_of (timestamp ∷ marker ∷ padding ∷ payload ∷ sources ∷ extension 
   Some (Send (record { payload = vector_of payload; timestamp = timestamp; marker = marker == 1; sources = vector_of sources; extension = extension }) padding)
 send_of _ = None
 
+-- the least and the most of an index, and of a moment
+abbrev pub any_number : ℕ × ℕ
+any_number = (0, 2 ^ 64 - 1)
+
+abbrev pub delivery_with : List ℕ → Option Event
+delivery_with (index ∷ moment ∷ []) = Some (Deliver index moment)
+delivery_with _ = None
+
 -- `D INDEX NOW`: the wire's datagram at an index is delivered
 abbrev pub delivery_of : List (List ℕ) → Option Event
-delivery_of (index ∷ now ∷ []) = do
-  index ← number_of index
-  moment ← number_of now
-  Some (Deliver index moment)
-delivery_of _ = None
+delivery_of words = numbers_between (any_number ∷ any_number ∷ []) words >>= delivery_with
+
+abbrev pub play_with : List ℕ → Option Event
+play_with (moment ∷ []) = Some (Play moment)
+play_with _ = None
 
 -- `P NOW`: the receiver plays
 abbrev pub play_of : List (List ℕ) → Option Event
-play_of (now ∷ []) = do
-  moment ← number_of now
-  Some (Play moment)
-play_of _ = None
+play_of words = numbers_between (any_number ∷ []) words >>= play_with
 
 -- a datagram that nobody sent reaches the receiver
 abbrev pub injection : List ℕ → List ℕ → Option Event

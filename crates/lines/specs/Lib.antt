@@ -2,8 +2,9 @@ pub mod Steps
 pub mod Words
 pub mod Decimal
 pub mod Octets
+pub mod Numbers
+pub mod NumberSteps
 pub mod ConfigLine
-pub mod ConfigSteps
 pub mod EventLine
 pub mod ContentText
 pub mod LogText

@@ -1,11 +1,9 @@
 //! The first line of a script: `config FIRST RFIRST HISTORY WINDOW PATIENCE RETRY ASKS REPEATS`.
-ghost use Rattle.std.specs.Prelude.{◌≡◌, IsTrue, Some, None, false, length};
-ghost use Rattle.lines.specs.ConfigLine.{config_bounds, config_of, config_with, numbers_between, script_session};
-ghost use Rattle.lines.specs.ConfigSteps.{AreWithin, TakesNumber};
-ghost use Rattle.lines.specs.Decimal.{decimal_between};
-ghost use Rattle.lines.specs.Words.{words_left};
+ghost use Rattle.std.specs.Prelude.{◌≡◌};
+ghost use Rattle.lines.specs.ConfigLine.{config_bounds, config_of, config_with, script_session};
+ghost use Rattle.lines.specs.NumberSteps.{AreWithin};
 
-use crate::decimal::parse_decimal;
+use crate::numbers::read_numbers;
 use crate::words::{LONGEST_LINE, cut};
 use rtpwire::{ConfigFault, Session};
 use world::Config;
@@ -74,40 +72,4 @@ fn script_session() -> Result<Session, ConfigFault>
     ensures { result ≡ Ok script_session }
 {
     Session::new(0x1111_1111, 96, 0x2222_2222, 97, 0x3333_3333)
-}
-
-/// Reads the words that are left as numbers, each between its bounds, and tells whether they were just that.
-fn read_numbers(rest: Option<&[u8]>, bounds: &[(u64, u64)], numbers: &mut [u64]) -> bool
-    requires { length numbers.old ≡ length bounds.now }
-    ensures all { IsTrue result → numbers_between bounds.now (words_left rest.entry) ≡ Some numbers.new }
-    ensures none { result ≡ false → numbers_between bounds.now (words_left rest.entry) ≡ None }
-{
-    let mut left = rest;
-    for (i, (least, most)) in bounds.iter().enumerate() {
-        match next_number(&mut left, *least, *most) {
-            Some(number) => numbers[i] = number,
-            None => return false,
-        }
-    }
-    left.is_none()
-}
-
-/// The next of the words that are left, as a number between these bounds.
-fn next_number(left: &mut Option<&[u8]>, least: u64, most: u64) -> Option<u64>
-    ensures { TakesNumber left.old left.new least most result }
-{
-    let (word, more) = cut((*left)?);
-    let number = parse_between(word, least, most)?;
-    *left = more;
-    Some(number)
-}
-
-/// The number that a word writes, if it lies between these bounds.
-fn parse_between(word: &[u8], least: u64, most: u64) -> Option<u64>
-    ensures { result ≡ decimal_between least most word.now }
-{
-    match parse_decimal(word, most) {
-        Some(number) if number >= least => Some(number),
-        _ => None,
-    }
 }

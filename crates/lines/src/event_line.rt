@@ -4,6 +4,7 @@ ghost use Rattle.lines.specs.EventLine.{delivery_of, event_of, injection_of, pla
 ghost use Rattle.lines.specs.Words.{words_left};
 
 use crate::decimal::parse_decimal;
+use crate::numbers::read_numbers;
 use crate::octets::{parse_extension, parse_octets, parse_sources};
 use crate::words::{LONGEST_LINE, cut};
 use rtpwire::Content;
@@ -62,31 +63,30 @@ fn send(rest: Option<&[u8]>) -> Option<Event>
     Some(Event::Send(content, padding as u8))
 }
 
+/// The least and the most of an index, and of a moment.
+const ANY: (u64, u64) = (0, u64::MAX);
+
 /// `INDEX NOW`.
-#[tactic(auto, using(crate::proofs::EventLemmas::more_than_a_delivery))]
 fn delivery(rest: Option<&[u8]>) -> Option<Event>
     ensures { result ≡ delivery_of (words_left rest.entry) }
 {
-    let (index, rest) = cut(rest?);
-    let (now, rest) = cut(rest?);
-    if rest.is_some() {
+    let mut numbers = [0; 2];
+    if !read_numbers(rest, &[ANY, ANY], &mut numbers) {
         return None;
     }
-    let index = parse_decimal(index, u64::MAX)?;
-    let moment = parse_decimal(now, u64::MAX)?;
+    let [index, moment] = numbers;
     Some(Event::Deliver(index, moment))
 }
 
 /// `NOW`.
-#[tactic(auto, using(crate::proofs::EventLemmas::more_than_a_play))]
 fn play(rest: Option<&[u8]>) -> Option<Event>
     ensures { result ≡ play_of (words_left rest.entry) }
 {
-    let (now, rest) = cut(rest?);
-    if rest.is_some() {
+    let mut numbers = [0];
+    if !read_numbers(rest, &[ANY], &mut numbers) {
         return None;
     }
-    let moment = parse_decimal(now, u64::MAX)?;
+    let [moment] = numbers;
     Some(Event::Play(moment))
 }
 

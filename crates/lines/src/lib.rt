@@ -7,6 +7,7 @@ mod content_text;
 mod decimal;
 mod event_line;
 mod log_text;
+mod numbers;
 mod octets;
 #[cfg(test)]
 mod tests;

@@ -1,5 +1,5 @@
 -- The command line of the program, and what `clap` says of it.
-use Rattle.std.proofs.Common.{◌≡◌, ◌≢◌, ◌∙◌, ap, ap₂, sym, subst, refl, inl, inr, Bool, true, false, List, Option, Some, None, option_map, codes}
+use Rattle.std.proofs.Common.{◌≡◌, ◌≢◌, ◌∙◌, ap₂, sym, subst, refl, inl, inr, Bool, true, false, List, Option, Some, None, option_map, codes}
 use Rattle.std.proofs.lemmas.Option.{same_Some}
 use Rattle.std.specs.Box.{box_value}
 use Rattle.std.specs.Str.{bytes_eq}

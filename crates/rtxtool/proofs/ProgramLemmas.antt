@@ -1,5 +1,5 @@
 -- What was printed, once it was brought out.
-use Rattle.std.proofs.Common.{◌≡◌, ℕ, List, Option, Some, None, Bool, false, Result, Ok, Err, OnOk}
+use Rattle.std.proofs.Common.{◌≡◌, ℕ, List, Option, Some, None, false, Result, Ok, Err, OnOk}
 use Rattle.std.specs.Option.{IfSome}
 use Rattle.std.specs.Result.{is_err}
 use Rattle.std.specs.Io.KnownBytes.{Keeps}

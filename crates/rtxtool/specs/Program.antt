@@ -3,10 +3,10 @@ use Rattle.std.specs.Prelude.{◌≡◌, ℕ, ◌⊎◌, false, List, Option, So
 use Rattle.std.specs.Option.{IfSome}
 use Rattle.clap.specs.Words.{IsAmong, Text, fault_of, takes}
 use Rattle.clap.specs.declared.error.ErrorKind.TheVariants.{DisplayHelp, DisplayVersion}
-use Rattle.rtxtool.specs.declared.command_line.ChooseFault.TheVariants.{Line, Value, OutOfMemory as NoMemory}
-use Rattle.rtxtool.specs.declared.fault.SimFault.TheVariants.{BadLine, Read, Write, OutOfMemory}
+use Rattle.rtxtool.specs.declared.command_line.ChooseFault.TheVariants.{Line, Value}
+use Rattle.rtxtool.specs.declared.fault.SimFault.TheVariants.{BadLine}
 use Rattle.rtxtool.specs.declared.tell.ToolFault.{ToolFault}
-use Rattle.rtxtool.specs.declared.tell.ToolFault.TheVariants.{Input, Output, Choose, Sim, Memory}
+use Rattle.rtxtool.specs.declared.tell.ToolFault.TheVariants.{Choose, Sim}
 use Rattle.rtxtool.specs.CommandLine.{file_said, tool}
 use Rattle.rtxtool.specs.Script.{bad_line}
 use Rattle.rtxtool.specs.Sim.{IsDone, WroteBefore}

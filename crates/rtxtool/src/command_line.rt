@@ -100,9 +100,11 @@ Example:
   S 100 1 0 aa - -
   D 0 0
   P 0
-docs/SCRIPT.md tells all lines of scripts and logs.";
+Exit status: 0 done, 1 a line is refused, 3 the script can't be read or the log can't be written,
+4 memory was refused. docs/SCRIPT.md tells all lines of scripts and logs.";
 
 const HELP: &str = "\
+docs/SCRIPT.md tells the lines of scripts and logs.
 Exit status: 0 done, 1 a line of the script is refused, 2 the command line is refused,
 3 the script can't be read or the log can't be written, 4 memory was refused.";
 

@@ -100,10 +100,7 @@ fn refused_command_lines(rt: HostRuntime) -> Result<(), Fail> {
         let (status, out, err) = ran(rt.alloc(), words, file, ample(rt.alloc()))?;
         assert_eq!(rt; status, 2);
         assert_eq!(rt; out.as_slice(), b"".as_slice());
-        assert!(rt;
-            err.as_slice().starts_with(b"error: ".as_slice())
-                || err.as_slice().starts_with(b"Simulates".as_slice())
-        );
+        assert!(rt; err.as_slice().starts_with(b"error: ".as_slice()));
     }
     Ok(())
 }
@@ -119,7 +116,7 @@ fn help_and_version(rt: HostRuntime) -> Result<(), Fail> {
         (
             &["rtxtool", "sim", "--help"],
             b"Reads a script",
-            b"docs/SCRIPT.md tells all lines of scripts and logs.\n",
+            b" docs/SCRIPT.md tells all lines of scripts and logs.\n",
         ),
         (&["rtxtool", "--version"], b"rtxtool ", b" 0.1.0\n"),
     ];

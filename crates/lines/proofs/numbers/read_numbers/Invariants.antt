@@ -1,8 +1,8 @@
 use Rattle.std.proofs.Common.{◌≡◌, take, drop, ◌++◌}
 use Rattle.std.specs.Option.{option_map}
 use Rattle.lines.specs.Words.{words_left}
-use Rattle.lines.specs.ConfigLine.{numbers_between}
-use Rattle.lines.proofs.config_line.read_numbers.Given as goal
+use Rattle.lines.specs.Numbers.{numbers_between}
+use Rattle.lines.proofs.numbers.read_numbers.Given as goal
 
 -- all numbers are those so far, and those of the words that are left
 abbrev pub invariant-loop-i : goal.invariant-loop-i

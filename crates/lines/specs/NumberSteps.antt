@@ -1,9 +1,9 @@
--- What the parts of the reader of a config line say of the words that are left, and of the numbers so far.
+-- What the parts of the reader of numbers say of the words that are left, and of the numbers so far.
 use Rattle.std.specs.Prelude.{◌≡◌, ℕ, ◌≤◌, List, [], ◌∷◌, Option, Some, None, ⊤}
 use Rattle.std.specs.Borrow.{Bor}
 use Rattle.lines.specs.Words.{words_left}
 use Rattle.lines.specs.Decimal.{decimal_between}
-use Rattle.lines.specs.ConfigLine.{numbers_between}
+use Rattle.lines.specs.Numbers.{numbers_between}
 
 -- The next word was this number, and the others are left; or none was.
 abbrev pub TakesNumber : Option (Bor (List ℕ)) → Option (Bor (List ℕ)) → (least most : ℕ) → Option ℕ → Type 0

@@ -2,7 +2,7 @@ use Rattle.std.proofs.Common.{◌≡◌, ◌≤◌, false, length, refl, ◌∙�
 use Rattle.std.specs.Option.{is_none}
 use Rattle.std.proofs.Math.ListN.{drop_of_length-le}
 use Rattle.lines.proofs.NumberLemmas.{numbers_between-left}
-use Rattle.lines.proofs.config_line.read_numbers.Goals as goal
+use Rattle.lines.proofs.numbers.read_numbers.Goals as goal
 
 pub returns-clause-none : goal.returns-clause-none
 returns-clause-none c = λ found.

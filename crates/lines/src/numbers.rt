@@ -1,0 +1,45 @@
+//! Words that are numbers, each between its bounds.
+ghost use Rattle.std.specs.Prelude.{◌≡◌, IsTrue, Some, None, false, length};
+ghost use Rattle.lines.specs.Numbers.{numbers_between};
+ghost use Rattle.lines.specs.NumberSteps.{TakesNumber};
+ghost use Rattle.lines.specs.Decimal.{decimal_between};
+ghost use Rattle.lines.specs.Words.{words_left};
+
+use crate::decimal::parse_decimal;
+use crate::words::cut;
+
+/// Reads the words that are left as numbers, each between its bounds, and tells whether they were just that.
+pub(crate) fn read_numbers(rest: Option<&[u8]>, bounds: &[(u64, u64)], numbers: &mut [u64]) -> bool
+    requires { length numbers.old ≡ length bounds.now }
+    ensures all { IsTrue result → numbers_between bounds.now (words_left rest.entry) ≡ Some numbers.new }
+    ensures none { result ≡ false → numbers_between bounds.now (words_left rest.entry) ≡ None }
+{
+    let mut left = rest;
+    for (i, (least, most)) in bounds.iter().enumerate() {
+        match next_number(&mut left, *least, *most) {
+            Some(number) => numbers[i] = number,
+            None => return false,
+        }
+    }
+    left.is_none()
+}
+
+/// The next of the words that are left, as a number between these bounds.
+fn next_number(left: &mut Option<&[u8]>, least: u64, most: u64) -> Option<u64>
+    ensures { TakesNumber left.old left.new least most result }
+{
+    let (word, more) = cut((*left)?);
+    let number = parse_between(word, least, most)?;
+    *left = more;
+    Some(number)
+}
+
+/// The number that a word writes, if it lies between these bounds.
+fn parse_between(word: &[u8], least: u64, most: u64) -> Option<u64>
+    ensures { result ≡ decimal_between least most word.now }
+{
+    match parse_decimal(word, most) {
+        Some(number) if number >= least => Some(number),
+        _ => None,
+    }
+}
