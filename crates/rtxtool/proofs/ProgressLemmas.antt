@@ -54,7 +54,7 @@ start config v w x y b k =
     }
 
 -- what was written stays, as while it is brought out
-kept : (world : Kept) (count : ℕ) (u v w : Option (List ℕ)) (x y : List ℕ) → Progress world count u v x y → Keeps v w → Progress world count u w x y
+kept : (world : Recorded) (count : ℕ) (u v w : Option (List ℕ)) (x y : List ℕ) → Progress world count u v x y → Keeps v w → Progress world count u w x y
 kept world count u v w x y p k =
     record {
       events = p.events;
@@ -232,7 +232,7 @@ pub known_first : (fault : SimFault) (old u v : Option (List ℕ)) → IfSome (p
 known_first fault None u v bad k = tt
 known_first fault (Some x) u v bad k = stopped_first fault u v x bad k
 
-pub known_kept : (world : Kept) (count : ℕ) (text left u v w : Option (List ℕ)) → IfBoth text left (Progress world count u v) → Keeps v w → IfBoth text left (Progress world count u w)
+pub known_kept : (world : Recorded) (count : ℕ) (text left u v w : Option (List ℕ)) → IfBoth text left (Progress world count u v) → Keeps v w → IfBoth text left (Progress world count u w)
 known_kept world count None left u v w p k = tt
 known_kept world count (Some x) None u v w p k = absurd p
 known_kept world count (Some x) (Some y) u v w p k = kept world count u v w x y p k
@@ -294,7 +294,7 @@ config_ends config (Some x) (Some y) held b = (b.line ++ 10 ∷ held, b.whole �
 -- ---- what was answered of what was read
 
 -- the reader failed behind whole lines
-pub known_answered : (world : Kept) (count : ℕ) (fault : SimFault) (text left more u v : Option (List ℕ)) → IfBoth text left (Progress world count u v) → Leaves fault left more → AnswersRead fault u v text more
+pub known_answered : (world : Recorded) (count : ℕ) (fault : SimFault) (text left more u v : Option (List ℕ)) → IfBoth text left (Progress world count u v) → Leaves fault left more → AnswersRead fault u v text more
 known_answered world count (BadLine k) text left more u v p end = tt
 known_answered world count Read None left more u v p end = tt
 known_answered world count Read (Some x) None more u v p end = absurd p
