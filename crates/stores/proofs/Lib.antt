@@ -2,3 +2,8 @@ pub mod Lookup
 pub mod SlotPlaces
 pub mod PutPlaces
 pub mod ReadPlaces
+pub mod Passing
+pub mod DueSlots
+pub mod Counting
+pub mod Listed
+pub mod AskPlaces

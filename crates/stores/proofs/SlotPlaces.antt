@@ -1,10 +1,10 @@
 -- What a window has at each place, and what is left of it when its front is taken out.
-use Rattle.std.proofs.Common.{◌≡◌, ◌↔◌, ℕ, ◌+◌, ◌^◌, ◌<◌, ◌≤◌, true, List, slice_get, Option, Some, None, IsSome, sym, subst, ◌∙◌, refl, arith}
+use Rattle.std.proofs.Common.{◌≡◌, ◌↔◌, ℕ, ◌+◌, ◌^◌, ◌<◌, ◌≤◌, true, List, length, get_or, slice_get, Option, Some, None, IsSome, sym, subst, ◌∙◌, refl, arith}
 use Rattle.std.specs.Prelude.{IsSomeAnd}
 use Rattle.std.proofs.lemmas.Bool.Decides.{nat_tests}
 use Rattle.std.proofs.lemmas.Grind.{common_steps}
 use Rattle.std.proofs.lemmas.List.{nil_from_length}
-use Rattle.std.proofs.lemmas.Option.{gets}
+use Rattle.std.proofs.lemmas.Option.{gets, slice_get_read}
 use Rattle.stores.specs.declared.slot.Slot.{Slot}
 use Rattle.stores.specs.Span.{Span, IsSpan, highest_of, front_of, without_front}
 use Rattle.stores.specs.ByPlace.{slot_from, slot_at, slot_at_cursor, is_above, IsInside, LosesFront}
@@ -30,8 +30,12 @@ ends_within s k h is started highest =
     grind (arith, common_steps)
 
 -- the slot at an index is that of the place as far above the cursor
-slot_from_index : (k : ℕ) (slots : List Slot) (i : ℕ) → slot_from k slots (k + i) ≡ slice_get slots i
+pub slot_from_index : (k : ℕ) (slots : List Slot) (i : ℕ) → slot_from k slots (k + i) ≡ slice_get slots i
 slot_from_index k slots i = grind (arith, nat_tests)
+
+-- the slot that a loop over the slots reads
+pub slot_of_index : (k : ℕ) (slots : List Slot) (i : ℕ) (slot : Slot) → i < length slots → slot ≡ get_or slots i slot → slot_from k slots (k + i) ≡ Some slot
+slot_of_index k slots i slot l e = slot_from_index k slots i ∙ slice_get_read slots (length slots) i slot refl l e
 
 same_slots : (cursor : Option ℕ) (xs ys : List Slot) → (cursor ≡ None → xs ≡ ys) → ((q : ℕ) → slot_at_cursor cursor ys q ≡ slot_at_cursor cursor xs q) → ys ≡ xs
 same_slots None xs ys none e = sym (none refl)

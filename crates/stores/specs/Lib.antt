@@ -2,3 +2,5 @@ pub mod Fault
 pub mod Span
 pub mod Put
 pub mod ByPlace
+pub mod PlaceLists
+pub mod Asking

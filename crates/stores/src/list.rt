@@ -1,11 +1,15 @@
-ghost use Rattle.std.specs.Prelude.{◌≡◌, ℕ, ◌+◌, ◌^◌, ◌<◌, ◌≤◌, ◌++◌, length, drop, replicate, vec_len};
+ghost use Rattle.std.specs.Prelude.{◌≡◌, ℕ, ◌+◌, ◌^◌, ◌<◌, ◌≤◌, ◌++◌, length, take, drop, replicate, vec_len, Some};
 ghost use Rattle.std.specs.Vec.{vec_capacity};
 ghost use Rattle.std.specs.Option.{ForSome, ForNone};
+ghost use Rattle.std.specs.List.{filter, range_with_len};
 ghost use Rattle.stores.specs.Put.{noticed_at};
+ghost use Rattle.stores.specs.ByPlace.{slot_from};
+ghost use Rattle.stores.specs.Asking.{is_due, is_missing};
 
 use crate::memory::OutOfMemory;
 use crate::slot::{PutFault, Slot};
 use crate::window::Window;
+use arrayvec::ArrayVec;
 use places::Place;
 use rtpwire::Content;
 use std::alloc::Global;
@@ -96,6 +100,57 @@ impl Window for ListWindow {
         }
         slot
     }
+
+    fn slot(&self, place: Place) -> Option<&Slot> {
+        let index = place.value().checked_sub(self.cursor?)?;
+        self.slots.get(index as usize)
+    }
+
+    fn due(&self, now: u64, retry: u64, asks: u8) -> ArrayVec<Place, 1088> {
+        match self.cursor {
+            None => ArrayVec::new(),
+            Some(cursor) => due_from(cursor, self.slots.as_slice(), now, retry, asks),
+        }
+    }
+
+    fn count_ask(&mut self, place: Place, now: u64) {
+        let Some(cursor) = self.cursor else {
+            return;
+        };
+        let index = (place.value() - cursor) as usize;
+        if let Slot::Missing { asks, last, .. } = &mut self.slots[index] {
+            *asks += 1;
+            *last = now;
+        }
+    }
+
+    fn missing(&self) -> usize {
+        count_missing(self.slots.as_slice())
+    }
+}
+
+/// The first due places of these slots, of which the first is that of the place `first`.
+fn due_from(first: u64, slots: &[Slot], now: u64, retry: u64, asks: u8) -> ArrayVec<Place, 1088>
+    requires { first + length slots.now ≤ 2 ^ 48 }
+    ensures { result.items ≡ take 1088 (filter (λ q. is_due now retry asks (slot_from first slots.now q)) (range_with_len first (length slots.now))) }
+{
+    let mut due = ArrayVec::new();
+    for (index, slot) in slots.iter().enumerate() {
+        if due.is_full() {
+            return due;
+        }
+        if slot.is_due(now, retry, asks) {
+            due.push(Place::new(first + index as u64).unwrap());
+        }
+    }
+    due
+}
+
+/// How many of these slots are missing.
+fn count_missing(slots: &[Slot]) -> usize
+    ensures { result ≡ length (filter (λ slot. is_missing (Some slot)) slots.now) }
+{
+    slots.iter().filter(|slot| slot.is_missing()).count()
 }
 
 /// Drops the first slots, as many as there are of so many.

@@ -18,6 +18,31 @@ pub enum Slot {
     },
 }
 
+impl Slot {
+    ghost use Rattle.std.specs.Prelude.{◌≡◌, Some};
+    ghost use Rattle.stores.specs.Asking.{is_due, is_missing};
+
+    /// Whether its place was not taken so far.
+    pub fn is_missing(&self) -> bool
+        ensures { result ≡ is_missing (Some self.now) }
+    {
+        matches!(self, Slot::Missing { .. })
+    }
+
+    /// Whether its place is to be asked for at the moment `now`: it is missing, was asked for fewer than
+    /// `limit` times, and either never or last at least `retry` milliseconds before `now`.
+    pub fn is_due(&self, now: u64, retry: u64, limit: u8) -> bool
+        ensures { result ≡ is_due now retry limit (Some self.now) }
+    {
+        match self {
+            Slot::Held(_) => false,
+            Slot::Missing { asks, last, .. } => {
+                *asks < limit && (*asks == 0 || (now >= *last && now - *last >= retry))
+            }
+        }
+    }
+}
+
 /// Why a window does not take a place.
 #[derive(Clone, Copy, Debug, PartialEq, Eq, Hash)]
 pub enum PutFault {

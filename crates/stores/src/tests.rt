@@ -77,6 +77,62 @@ fn a_missing_place_that_comes(rt: HostRuntime) -> Result<(), Fail> {
     Ok(())
 }
 
+/// The values of the due places.
+fn due<W: Window>(window: &W, now: u64, retry: u64, asks: u8) -> ArrayVec<u64, 8> {
+    let mut values = ArrayVec::new();
+    for place in &window.due(now, retry, asks) {
+        let _ = values.try_push(place.value());
+    }
+    values
+}
+
+#[test]
+fn asks_for_two_missing_places(rt: HostRuntime) -> Result<(), Fail> {
+    let mut window = ListWindow::new(rt.alloc(), 8).map_err(|_| "memory is ample")?;
+    assert_eq!(rt; window.missing(), 0);
+    assert!(rt; due(&window, 0, 1, 255).is_empty());
+    assert!(rt; window.slot(place(7)?).is_none());
+
+    assert_eq!(rt; window.put(place(7)?, content(7), 0), Ok(0));
+    assert_eq!(rt; window.put(place(10)?, content(10), 20), Ok(0));
+    assert_eq!(rt; window.missing(), 2);
+    assert_eq!(rt; due(&window, 20, 5, 2).as_slice(), [8, 9].as_slice());
+    assert!(rt; due(&window, 20, 5, 0).is_empty());
+
+    // An ask for the place 8. It is due again after five milliseconds, and not before it was asked for.
+    window.count_ask(place(8)?, 20);
+    let asked = Slot::Missing {
+        noticed: 20,
+        asks: 1,
+        last: 20,
+    };
+    assert_eq!(rt; window.slot(place(8)?), Some(&asked));
+    assert!(rt; window.slot(place(6)?).is_none());
+    assert!(rt; window.slot(place(11)?).is_none());
+    assert_eq!(rt; due(&window, 24, 5, 2).as_slice(), [9].as_slice());
+    assert_eq!(rt; due(&window, 25, 5, 2).as_slice(), [8, 9].as_slice());
+    assert_eq!(rt; due(&window, 19, 0, 2).as_slice(), [9].as_slice());
+    assert_eq!(rt; due(&window, 25, 5, 1).as_slice(), [9].as_slice());
+
+    assert_eq!(rt; window.put(place(9)?, content(9), 30), Ok(0));
+    assert_eq!(rt; window.missing(), 1);
+    assert_eq!(rt; due(&window, 30, 5, 2).as_slice(), [8].as_slice());
+    Ok(())
+}
+
+#[test]
+fn no_more_than_1088_places_are_due(rt: HostRuntime) -> Result<(), Fail> {
+    let mut window = ListWindow::new(rt.alloc(), 2000).map_err(|_| "memory is ample")?;
+    assert_eq!(rt; window.put(place(0)?, content(0), 0), Ok(0));
+    assert_eq!(rt; window.put(place(1200)?, content(1), 0), Ok(0));
+    let due = window.due(0, 1, 1);
+    assert_eq!(rt; due.len(), 1088);
+    assert_eq!(rt; due.first(), Some(&place(1)?));
+    assert_eq!(rt; due.last(), Some(&place(1088)?));
+    assert_eq!(rt; window.missing(), 1199);
+    Ok(())
+}
+
 #[test]
 fn an_overrun(rt: HostRuntime) -> Result<(), Fail> {
     let mut window = ListWindow::new(rt.alloc(), 2).map_err(|_| "memory is ample")?;

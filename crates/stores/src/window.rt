@@ -1,10 +1,13 @@
-ghost use Rattle.std.specs.Prelude.{◌≡◌, ◌<◌, ◌≤◌, IfOk, IsSome, OnOk, OnErr};
+ghost use Rattle.std.specs.Prelude.{◌≡◌, ◌<◌, ◌≤◌, length, take, IfOk, IsSome, IsSomeAnd, OnOk, OnErr};
 ghost use Rattle.std.specs.Option.{option_copied};
 ghost use Rattle.stores.specs.Span.{Span, IsSpan, empty_span, highest_of, front_of, without_front};
 ghost use Rattle.stores.specs.Put.{put_answer, after_put};
+ghost use Rattle.stores.specs.ByPlace.{slot_at};
+ghost use Rattle.stores.specs.Asking.{due_places, missing_places, CanBeAsked, asked};
 
 use crate::memory::OutOfMemory;
 use crate::slot::{PutFault, Slot};
+use arrayvec::ArrayVec;
 use places::Place;
 use rtpwire::Content;
 use std::alloc::Global;
@@ -13,7 +16,7 @@ use std::alloc::Global;
 /// of them held or missing.
 ///
 /// It takes memory in `new` alone, for all that it will ever keep, so no other call can meet a want of it.
-/// Every call leaves its capacity as it is. All may be called at any time, but `take_front`.
+/// Every call leaves its capacity as it is. All may be called at any time, but `take_front` and `count_ask`.
 ///
 /// The contracts speak of a cursor and a list of slots; [`window_by_place`](crate::window_by_place) says
 /// what they mean for the slot of each place.
@@ -62,6 +65,28 @@ pub trait Window: Drop {
         requires { IsSome (front_of (meaning self.old)) }
         ensures front { front_of (meaning self.old) ≡ Some result }
         ensures rest { meaning self.new ≡ without_front (meaning self.old) };
+
+    /// The slot of this place. None where the window has none: below the cursor and above the highest place.
+    fn slot(&self, place: Place) -> Option<&Slot>
+        ensures { option_copied result ≡ slot_at (meaning self.now) place };
+
+    /// The first 1088 places, or all, if they are fewer, that are due to be asked for at the moment `now`, in
+    /// rising order.
+    ///
+    /// A place is due that is missing, was asked for fewer than `asks` times, and either was never asked for
+    /// or last at least `retry` milliseconds before `now`.
+    fn due(&self, now: u64, retry: u64, asks: u8) -> ArrayVec<Place, 1088>
+        ensures { result.items ≡ take 1088 (due_places (meaning self.now) now retry asks) };
+
+    /// Counts one more ask for this place, made at the moment `now`. The place must be missing, and asked for
+    /// fewer than 255 times so far.
+    fn count_ask(&mut self, place: Place, now: u64)
+        requires { IsSomeAnd (slot_at (meaning self.old) place) CanBeAsked }
+        ensures { meaning self.new ≡ asked (meaning self.old) place now };
+
+    /// How many places are missing.
+    fn missing(&self) -> usize
+        ensures { result ≡ length (missing_places (meaning self.now)) };
 
     /// What is true of every window.
     ghost is_span: { (window : Self) → IsSpan (meaning window) };

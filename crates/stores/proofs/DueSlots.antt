@@ -1,0 +1,53 @@
+-- The due places of slots, of which the first is that of the place k, from an index on: how a loop meets them.
+use Rattle.std.proofs.Common.{◌≡◌, ℕ, ◌+◌, ◌-◌, ◌<◌, ◌≤◌, ◌++◌, List, [], ◌∷◌, length, take, get_or, Bool, true, false, Option, Some, ap, sym, ◌∙◌, refl, arith}
+use Rattle.std.specs.List.{filter, range_with_len}
+use Rattle.std.proofs.lemmas.List.{take_at, take_all, append-nil}
+use Rattle.stores.specs.declared.slot.Slot.{Slot}
+use Rattle.stores.specs.ByPlace.{slot_from}
+use Rattle.stores.specs.Asking.{is_due, due_places}
+use Rattle.stores.proofs.SlotPlaces.{slot_of_index}
+use Rattle.stores.proofs.Passing.{passing, passing_yes, passing_no, passing_none}
+
+module _ (now retry limit k : ℕ) (slots : List Slot) where
+  abbrev due_at : ℕ → Bool
+  due_at q = is_due now retry limit (slot_from k slots q)
+
+  unfoldable pub due_left : ℕ → List ℕ
+  due_left i = passing due_at (k + i) (length slots - i)
+
+  -- all are left at first
+  pub due_left_whole : due_left 0 ≡ filter (λ q. is_due now retry limit (slot_from k slots q)) (range_with_len k (length slots))
+  unfolding due_left
+  due_left_whole =
+      let first : k + 0 ≡ k = omega arith in
+      let all : length slots - 0 ≡ length slots = omega arith in
+      rw (first, all) refl
+
+  -- the slot at an index is due, or it isn't
+  pub due_left_yes : (i : ℕ) (slot : Slot) → i < length slots → slot ≡ get_or slots i slot → is_due now retry limit (Some slot) ≡ true → due_left i ≡ (k + i) ∷ due_left (i + 1)
+  unfolding due_left
+  due_left_yes i slot l e due = passing_yes due_at (k + i) (k + (i + 1)) (length slots - i) (length slots - (i + 1)) (omega arith) (omega arith) (ap (is_due now retry limit) (slot_of_index k slots i slot l e) ∙ due)
+
+  pub due_left_no : (i : ℕ) (slot : Slot) → i < length slots → slot ≡ get_or slots i slot → is_due now retry limit (Some slot) ≡ false → due_left i ≡ due_left (i + 1)
+  unfolding due_left
+  due_left_no i slot l e due = passing_no due_at (k + i) (k + (i + 1)) (length slots - i) (length slots - (i + 1)) (omega arith) (omega arith) (ap (is_due now retry limit) (slot_of_index k slots i slot l e) ∙ due)
+
+  -- none is left at the end
+  pub due_left_end : (i : ℕ) → length slots ≤ i → due_left i ≡ []
+  unfolding due_left
+  due_left_end i end = passing_none due_at (k + i) (length slots - i) (omega arith)
+
+-- as many were found as are wanted, or all
+pub found_full : (limit : ℕ) (xs rest all : List ℕ) → xs ++ rest ≡ all → length xs ≡ limit → xs ≡ take limit all
+found_full limit xs rest all e full = sym (ap (take limit) (sym e) ∙ take_at xs rest limit full)
+
+pub found_all : (limit : ℕ) (xs rest all : List ℕ) → xs ++ rest ≡ all → rest ≡ [] → length xs ≤ limit → xs ≡ take limit all
+found_all limit xs rest all e none fits =
+    let whole : xs ≡ all = sym (append-nil xs) ∙ ap (λ ys. xs ++ ys) (sym none) ∙ e in
+    sym (ap (take limit) (sym whole) ∙ take_all limit xs fits)
+
+-- the due places of a window and those of its slots
+pub due_of_slots : (cursor : Option ℕ) (slots : List Slot) (capacity now retry limit k : ℕ) (xs : List ℕ) → cursor ≡ Some k →
+    xs ≡ take 1088 (filter (λ q. is_due now retry limit (slot_from k slots q)) (range_with_len k (length slots))) →
+    xs ≡ take 1088 (due_places (record { cursor = cursor; slots = slots; capacity = capacity }) now retry limit)
+due_of_slots cursor slots capacity now retry limit k xs started e = rw started e
