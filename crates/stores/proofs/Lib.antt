@@ -7,3 +7,4 @@ pub mod DueSlots
 pub mod Counting
 pub mod Listed
 pub mod AskPlaces
+pub mod Runs

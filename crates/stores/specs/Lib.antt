@@ -4,3 +4,4 @@ pub mod Put
 pub mod ByPlace
 pub mod PlaceLists
 pub mod Asking
+pub mod Past

@@ -1,14 +1,21 @@
-//! Stores of a retransmission session: what a receiver holds and misses, behind the trait [`Window`].
+//! Stores of a retransmission session: what a receiver holds and misses, behind the trait [`Window`], and
+//! what a sender keeps to repeat, behind the trait [`History`].
 #![tactic(auto)]
 
 mod by_place;
-mod list;
+mod entry;
+mod history;
+mod list_history;
+mod list_window;
 mod memory;
 mod slot;
 mod window;
 
 pub use by_place::window_by_place;
-pub use list::ListWindow;
+pub use entry::HistoryEntry;
+pub use history::History;
+pub use list_history::ListHistory;
+pub use list_window::ListWindow;
 pub use memory::OutOfMemory;
 pub use slot::{PutFault, Slot};
 pub use window::Window;

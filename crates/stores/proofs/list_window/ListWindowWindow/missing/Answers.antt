@@ -1,6 +1,6 @@
 use Rattle.std.proofs.Common.{sym, ◌∙◌}
 use Rattle.stores.proofs.Counting.{count_of_slots}
-use Rattle.stores.proofs.list.ListWindowWindow.missing.Goals as goal
+use Rattle.stores.proofs.list_window.ListWindowWindow.missing.Goals as goal
 
 pub returns : goal.returns
 returns c =

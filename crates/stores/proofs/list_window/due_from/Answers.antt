@@ -1,8 +1,8 @@
 use Rattle.std.proofs.Common.{rules, arith, ◌∙◌}
 use Rattle.std.proofs.lemmas.Grind.{common_steps}
 use Rattle.stores.proofs.DueSlots.{due_left_whole, due_left_yes, due_left_no, due_left_end, found_full, found_all}
-use Rattle.stores.proofs.list.due_from.Goals as goal
-use Rattle.stores.proofs.list.due_from.Goals.{then-is_due, else-is_due}
+use Rattle.stores.proofs.list_window.due_from.Goals as goal
+use Rattle.stores.proofs.list_window.due_from.Goals.{then-is_due, else-is_due}
 
 pub returns-then-is_full : goal.returns-then-is_full
 returns-then-is_full c = found_full 1088 _ _ _ (c.loop-index.invariant.left ∙ due_left_whole _ _ _ _ _) (search rules)

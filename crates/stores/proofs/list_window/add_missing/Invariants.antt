@@ -1,7 +1,7 @@
 use Rattle.std.proofs.Common.{◌≡◌, ◌+◌, ◌++◌, replicate, vec_len}
 use Rattle.std.specs.Vec.{vec_capacity}
 use Rattle.stores.specs.Put.{noticed_at}
-use Rattle.stores.proofs.list.add_missing.Given as goal
+use Rattle.stores.proofs.list_window.add_missing.Given as goal
 
 abbrev pub invariant-added : goal.invariant-added
 invariant-added l = record {

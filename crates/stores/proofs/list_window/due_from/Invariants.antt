@@ -1,6 +1,6 @@
 use Rattle.std.proofs.Common.{◌≡◌, ◌≤◌, ◌++◌, length}
 use Rattle.stores.proofs.DueSlots.{due_left}
-use Rattle.stores.proofs.list.due_from.Given as goal
+use Rattle.stores.proofs.list_window.due_from.Given as goal
 
 abbrev pub invariant-loop-index : goal.invariant-loop-index
 invariant-loop-index l = record {

@@ -1,0 +1,113 @@
+-- What a history is to its callers: the latest entries, one for each place, the oldest first.
+use Rattle.std.specs.Prelude.{◌≡◌, ℕ, ◌+◌, ◌-◌, ◌^◌, ◌<◌, ◌≤◌, ◌==◌, Bool, true, false, List, [], ◌∷◌, ◌++◌, length, map, drop, slice_get, Option, Some, if◌then◌else◌}
+use Rattle.std.proofs.Common.{refl, ap, sym, subst, ◌∙◌, arith}
+use Rattle.std.proofs.lemmas.Option.{same_Some}
+use Rattle.std.specs.Option.{ForSome, option_map}
+use Rattle.std.specs.List.{find}
+use Rattle.places.specs.Place.{number}
+use Rattle.rtpwire.specs.declared.content.Content.{Content}
+use Rattle.stores.specs.declared.entry.HistoryEntry.{HistoryEntry}
+
+pub record Past : Type 0 where
+  pub entries : List HistoryEntry
+  pub capacity : ℕ  -- how many entries there may be
+
+-- the entries are those of the places from k on, one after another, none of them repeated more than 255 times
+abbrev pub IsRun : ℕ → List HistoryEntry → Type 0
+IsRun k entries = (i : ℕ) (entry : HistoryEntry) → slice_get entries i ≡ Some entry → (entry.place ≡ k + i) × (entry.repeats ≤ 255)
+
+-- the place of the oldest entry
+abbrev pub first_of : Past → Option ℕ
+first_of h = option_map (λ (entry : HistoryEntry). entry.place) (slice_get h.entries 0)
+
+-- the place that the next entry will have
+abbrev pub next_of : Past → Option ℕ
+next_of h = option_map (λ k. k + length h.entries) (first_of h)
+
+-- What is true of every history. Places lie below 2 ^ 48.
+pub record IsPast (h : Past) : Type 0 where
+  pub room : length h.entries ≤ h.capacity
+  pub nonzero : 0 < h.capacity
+  pub limit : h.capacity ≤ 8192
+  pub run : ForSome (first_of h) (λ k. IsRun k h.entries)
+  pub ends : ForSome (next_of h) (λ next. next ≤ 2 ^ 48)
+
+-- a history before its first entry
+abbrev pub empty_past : ℕ → Past
+empty_past capacity = record { entries = []; capacity = capacity }
+
+-- the entry of the place q, if there is one
+abbrev pub entry_of : List HistoryEntry → ℕ → Option HistoryEntry
+entry_of entries q = find (λ (entry : HistoryEntry). entry.place == q) entries
+
+abbrev pub entry_at : Past → ℕ → Option HistoryEntry
+entry_at h q = entry_of h.entries q
+
+-- the place of the first entry that passes a test
+abbrev pub first_place : (HistoryEntry → Bool) → List HistoryEntry → Option ℕ
+first_place test entries = option_map (λ (entry : HistoryEntry). entry.place) (find test entries)
+
+-- the place of the entry with this sequence number, if there is one
+abbrev pub numbered : Past → ℕ → Option ℕ
+numbered h n = first_place (λ (entry : HistoryEntry). number entry.place == n) h.entries
+
+-- the least place whose entry is marked
+abbrev pub least_marked : Past → Option ℕ
+least_marked h = first_place (λ (entry : HistoryEntry). entry.marked) h.entries
+
+-- an entry that was just sent
+abbrev pub fresh : ℕ → Content → HistoryEntry
+fresh place content = record { place = place; content = content; repeats = 0; marked = false }
+
+-- the history after a push: the last entries, the new one among them, as many as there may be
+abbrev pub pushed : Past → ℕ → Content → Past
+pushed h place content =
+    record { entries = drop (length h.entries + 1 - h.capacity) (h.entries ++ fresh place content ∷ []); capacity = h.capacity }
+
+-- the entries after a change of that of the place q
+abbrev pub with_change : (HistoryEntry → HistoryEntry) → ℕ → List HistoryEntry → List HistoryEntry
+with_change change q entries = map (λ (entry : HistoryEntry). if entry.place == q then change entry else entry) entries
+
+abbrev pub changed_at : (HistoryEntry → HistoryEntry) → Past → ℕ → Past
+changed_at change h q = record { entries = with_change change q h.entries; capacity = h.capacity }
+
+-- an entry that is marked
+abbrev pub marked : HistoryEntry → HistoryEntry
+marked entry = record { place = entry.place; content = entry.content; repeats = entry.repeats; marked = true }
+
+abbrev pub marked_at : Past → ℕ → Past
+marked_at h q = changed_at marked h q
+
+-- one more retransmission may be counted
+abbrev pub CanBeRepeated : HistoryEntry → Type 0
+CanBeRepeated entry = entry.repeats < 255
+
+-- an entry after one more retransmission, its mark taken away
+abbrev pub repeated : HistoryEntry → HistoryEntry
+repeated entry = record { place = entry.place; content = entry.content; repeats = entry.repeats + 1; marked = false }
+
+abbrev pub repeated_at : Past → ℕ → Past
+repeated_at h q = changed_at repeated h q
+
+first_is : (k j : ℕ) (entries : List HistoryEntry) → IsRun k entries → option_map (λ (entry : HistoryEntry). entry.place) (slice_get entries 0) ≡ Some j → j ≡ k
+first_is k j [] run e = absurd (cc)
+first_is k j (entry ∷ entries) run e = sym (same_Some entry.place j e) ∙ (let at = (run 0 entry refl).0 in omega arith)
+
+next_is : (k next : ℕ) (entries : List HistoryEntry) → IsRun k entries →
+    option_map (λ k. k + length entries) (option_map (λ (entry : HistoryEntry). entry.place) (slice_get entries 0)) ≡ Some next → next ≡ k + length entries
+next_is k next [] run e = absurd (cc)
+next_is k next (entry ∷ entries) run e =
+    let place : entry.place ≡ k = let at = (run 0 entry refl).0 in omega arith in
+    sym (same_Some _ next e) ∙ ap (λ j. j + length (entry ∷ entries)) place
+
+-- entries one after another are a history
+pub past_of_run : (k : ℕ) (entries : List HistoryEntry) (capacity : ℕ) → length entries ≤ capacity → 0 < capacity → capacity ≤ 8192 → IsRun k entries → k + length entries ≤ 2 ^ 48 →
+    IsPast (record { entries = entries; capacity = capacity })
+past_of_run k entries capacity room nonzero limit run ends =
+    record {
+      room = room;
+      nonzero = nonzero;
+      limit = limit;
+      run = λ j e. subst (λ i. IsRun i entries) (sym (first_is k j entries run e)) run;
+      ends = λ next e. let at = next_is k next entries run e in omega arith;
+    }
