@@ -8,3 +8,6 @@ pub mod Counting
 pub mod Listed
 pub mod AskPlaces
 pub mod Runs
+pub mod EntryPlaces
+pub mod EntryChanges
+pub mod EntrySearch

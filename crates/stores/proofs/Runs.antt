@@ -1,5 +1,5 @@
 -- Entries of places one after another: where each is found, and what changes leave of them.
-use Rattle.std.proofs.Common.{◌≡◌, ◌≢◌, ℕ, zero, suc, ◌+◌, ◌-◌, ◌<◌, ◌≤◌, ◌==◌, ◌++◌, Bool, true, false, List, [], ◌∷◌, length, get_or, map, drop, slice_get, slice_set, Option, Some, None, IsSome, IsSomeAnd, nat_lt, cond, ap, sym, subst, ◌∙◌, refl, arith, ltb-true, ltb-false, length-drop}
+use Rattle.std.proofs.Common.{◌≡◌, ◌≢◌, ℕ, zero, suc, ◌+◌, ◌-◌, ◌<◌, ◌≤◌, ◌==◌, ◌++◌, Bool, true, false, List, [], ◌∷◌, length, drop, slice_get, slice_set, Some, None, IsSome, nat_lt, cond, ap, sym, subst, ◌∙◌, refl, arith, ltb-true, ltb-false, length-drop}
 use Rattle.std.specs.Prelude.{if◌then◌else◌}
 use Rattle.std.specs.Option.{ForSome, option_map}
 use Rattle.std.proofs.lemmas.Bool.{eqb-true, eqb-false, cond_both}
@@ -9,7 +9,7 @@ use Rattle.stores.specs.declared.entry.HistoryEntry.{HistoryEntry}
 use Rattle.stores.specs.Past.{IsRun, entry_of, with_change}
 use Rattle.stores.proofs.Lookup.{slice_get-append_left, slice_get-append_right, slice_get-drop, slice_get-set_same, slice_get-set_other}
 
-run_tail : (k : ℕ) (entry : HistoryEntry) (entries : List HistoryEntry) → IsRun k (entry ∷ entries) → IsRun (k + 1) entries
+pub run_tail : (k : ℕ) (entry : HistoryEntry) (entries : List HistoryEntry) → IsRun k (entry ∷ entries) → IsRun (k + 1) entries
 run_tail k entry entries run i x e = let at = run (suc i) x e in (omega arith, at.1)
 
 entry_of_cons : (k q d : ℕ) (entry : HistoryEntry) (entries : List HistoryEntry) → q - k ≡ d → entry.place ≡ k →
@@ -94,7 +94,7 @@ next_place k place [] run next some = absurd (omega arith)
 next_place k place (entry ∷ entries) run next some = let at = next (entry.place + length (entry ∷ entries)) refl in let here = (run 0 entry refl).0 in omega arith
 
 -- a run of no entries is one from any place
-run_from : (k j : ℕ) (entries : List HistoryEntry) → IsRun k entries → (0 < length entries → j ≡ k) → IsRun j entries
+pub run_from : (k j : ℕ) (entries : List HistoryEntry) → IsRun k entries → (0 < length entries → j ≡ k) → IsRun j entries
 run_from k j entries run same i x e =
     let within = slice_get_within entries i x e in
     let at = run i x e in

@@ -5,3 +5,4 @@ pub mod ByPlace
 pub mod PlaceLists
 pub mod Asking
 pub mod Past
+pub mod PastByPlace

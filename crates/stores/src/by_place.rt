@@ -1,5 +1,7 @@
 ghost use Rattle.std.specs.Prelude.{◌≡◌, ◌↔◌, ℕ, ◌+◌, ◌-◌, ◌^◌, ◌<◌, ◌≤◌, true, Some, IsSome, IsSomeAnd, OnOk, OnErr, Option, Result};
 ghost use Rattle.std.specs.List.{range_with_len};
+ghost use Rattle.std.specs.Option.{ForSome};
+ghost use Rattle.places.specs.Place.{number};
 ghost use Rattle.rtpwire.specs.declared.content.Content.{Content};
 ghost use Rattle.stores.specs.declared.slot.Slot.{Slot};
 ghost use Rattle.stores.specs.declared.slot.PutFault.{PutFault};
@@ -8,6 +10,9 @@ ghost use Rattle.stores.specs.Put.{put_answer, after_put};
 ghost use Rattle.stores.specs.ByPlace.{slot_at, IsInside, PutStep, LosesFront};
 ghost use Rattle.stores.specs.PlaceLists.{Lists};
 ghost use Rattle.stores.specs.Asking.{is_due, is_missing, places_of, due_places, missing_places, CanBeAsked, asked, CountsAsk};
+ghost use Rattle.stores.specs.declared.entry.HistoryEntry.{HistoryEntry};
+ghost use Rattle.stores.specs.Past.{Past, IsPast, first_of, next_of, entry_at, pushed, marked, marked_at, repeated, repeated_at};
+ghost use Rattle.stores.specs.PastByPlace.{IsKept, Pushes, Changes, Finds, FindsLeast};
 
 /// What the calls of a window mean place by place. It computes nothing: its contract is a law on the
 /// definitions, for callers of [`Window`](crate::Window).
@@ -46,4 +51,33 @@ pub fn window_by_place()
         IsSomeAnd o CanBeAsked }
     ensures count_ask { (old new : Span) (place now : ℕ) → IsSomeAnd (slot_at old place) CanBeAsked →
         new ≡ asked old place now → CountsAsk old new place now }
+{}
+
+/// What the calls of a history mean place by place. It computes nothing: its contract is a law on the
+/// definitions, for callers of [`History`](crate::History).
+pub fn history_by_place()
+    // The places with an entry are those from the oldest entry's up to before the next one.
+    ensures inside { (h : Past) (q : ℕ) → IsPast h → IsSome (entry_at h q) ↔ IsKept h q }
+    ensures ends { (h : Past) (k next : ℕ) → IsPast h → first_of h ≡ Some k → next_of h ≡ Some next →
+        (k < next) × (next ≤ k + h.capacity) × (next ≤ 2 ^ 48) }
+
+    // An entry has its own place, and was repeated at most 255 times.
+    ensures entry { (h : Past) (q : ℕ) (entry : HistoryEntry) → IsPast h → entry_at h q ≡ Some entry →
+        (entry.place ≡ q) × (entry.repeats ≤ 255) }
+
+    // The capacity and the entry of each place are all that there is of a history.
+    ensures same { (s t : Past) → IsPast s → IsPast t → t.capacity ≡ s.capacity →
+        ((q : ℕ) → entry_at t q ≡ entry_at s q) → t ≡ s }
+
+    // What `push`, `mark` and `count_repeat` leave.
+    ensures push { (old new : Past) (place : ℕ) (content : Content) → IsPast old →
+        ForSome (next_of old) (λ next. place ≡ next) → new ≡ pushed old place content → Pushes old new place content }
+    ensures mark { (old new : Past) (place : ℕ) → new ≡ marked_at old place → Changes marked old new place }
+    ensures count_repeat { (old new : Past) (place : ℕ) → new ≡ repeated_at old place → Changes repeated old new place }
+
+    // What `find` and `least_marked` answer. At most one place with an entry has a sequence number.
+    ensures find { (h : Past) (n : ℕ) → IsPast h → Finds h n }
+    ensures one { (h : Past) (p q : ℕ) → IsPast h → IsSome (entry_at h p) → IsSome (entry_at h q) →
+        number p ≡ number q → p ≡ q }
+    ensures least_marked { (h : Past) → IsPast h → FindsLeast h }
 {}

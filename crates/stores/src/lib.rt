@@ -11,7 +11,7 @@ mod memory;
 mod slot;
 mod window;
 
-pub use by_place::window_by_place;
+pub use by_place::{history_by_place, window_by_place};
 pub use entry::HistoryEntry;
 pub use history::History;
 pub use list_history::ListHistory;

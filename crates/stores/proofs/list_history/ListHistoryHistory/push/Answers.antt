@@ -1,4 +1,4 @@
-use Rattle.std.proofs.Common.{◌≡◌, ◌+◌, ◌-◌, ◌<◌, ◌≤◌, length, drop, arith, refl, ap, length-drop}
+use Rattle.std.proofs.Common.{◌+◌, ◌-◌, length, arith, refl, ap, length-drop}
 use Rattle.stores.specs.Past.{fresh}
 use Rattle.stores.proofs.Runs.{next_place, run_after_push}
 use Rattle.stores.proofs.list_history.ListHistoryHistory.push.Goals as goal
