@@ -11,3 +11,5 @@ pub mod Runs
 pub mod EntryPlaces
 pub mod EntryChanges
 pub mod EntrySearch
+pub mod BitCounts
+pub mod BitWords

@@ -6,3 +6,4 @@ pub mod PlaceLists
 pub mod Asking
 pub mod Past
 pub mod PastByPlace
+pub mod Bits

@@ -2,6 +2,7 @@
 //! what a sender keeps to repeat, behind the trait [`History`].
 #![tactic(auto)]
 
+mod bits;
 mod by_place;
 mod entry;
 mod history;

@@ -1,0 +1,24 @@
+-- A set of positions below a bound, as bits in words of 64.
+use Rattle.std.specs.Prelude.{ℕ, ◌+◌, ◌-◌, ◌*◌, ◌/◌, ◌%◌, ◌==◌, Bool, List, length, get_or, if◌then◌else◌, nat_lt}
+use Rattle.std.specs.Int.{bit_at}
+use Rattle.std.specs.List.{filter, range_with_len}
+
+-- whether the bit number b is set, where the lowest bit of the first word has number 0
+abbrev pub is_set : List ℕ → ℕ → Bool
+is_set words b = bit_at (get_or words (b / 64) 0) (b % 64) == 1
+
+-- how many bits the words have
+abbrev pub bits_of : List ℕ → ℕ
+bits_of words = 64 * length words
+
+-- the number of the bit that is p above that of the front, where the last bit is followed by the first
+abbrev pub turned : (bound front p : ℕ) → ℕ
+turned bound front p = if nat_lt (front + p) bound then front + p else front + p - bound
+
+-- whether the set has the position p, where the bit of the position 0 has the number `front`
+abbrev pub is_member : List ℕ → ℕ → ℕ → Bool
+is_member words front p = is_set words (turned (bits_of words) front p)
+
+-- how many bits are set
+unfoldable pub size_of : List ℕ → ℕ
+size_of words = length (filter (is_set words) (range_with_len 0 (bits_of words)))

@@ -1,0 +1,176 @@
+//! A set of positions below a bound, in words of 64 bits.
+ghost use Rattle.std.specs.Prelude.{◌≡◌, ℕ, ◌+◌, ◌*◌, ◌/◌, ◌<◌, ◌≤◌, ◌==◌, true, false, length, MatchOption, IfOk, if◌then◌else◌};
+ghost use Rattle.stores.specs.Bits.{is_set, bits_of, turned, is_member, size_of};
+
+use crate::memory::OutOfMemory;
+use std::alloc::Global;
+
+/// A set of positions from 0 up to below a bound. [`turn`](Bits::turn) moves all of them down by one.
+///
+/// The bound is a multiple of 64. It takes memory in `new` alone.
+#[derive(Debug, Drop)]
+pub struct Bits {
+    words: Vec<u64>,
+    // The number of the bit that stands for position 0. The bit after the last one is the first one.
+    front: usize,
+    // How many positions the set has.
+    count: usize,
+    ghost limit: { length words.items ≤ 129 },
+    ghost within: { front < bits_of words.items },
+    ghost counted: { count ≡ size_of words.items },
+}
+
+impl Bits {
+    /// An empty set of positions up to `top`, or some more.
+    ///
+    /// `OutOfMemory`: the allocator refused the memory.
+    pub fn new(alloc: Global, top: usize) -> Result<Bits, OutOfMemory>
+        requires { top ≤ 8192 }
+        ensures empty { IfOk result (λ bits. (p : ℕ) → is_member bits.words.items bits.front p ≡ false) }
+        ensures count { IfOk result (λ bits. size_of bits.words.items ≡ 0) }
+        ensures words { IfOk result (λ bits. length bits.words.items ≡ top / 64 + 1) }
+    {
+        let words = vec![in alloc; 0; top / 64 + 1]?;
+        Ok(Bits {
+            words,
+            front: 0,
+            count: 0,
+        })
+    }
+
+    /// The number of the bit that stands for this position.
+    fn bit_of(&self, position: usize) -> usize
+        requires { position < bits_of self.now.words.items }
+        ensures bit { result ≡ turned (bits_of self.now.words.items) self.now.front position }
+        ensures within { result < bits_of self.now.words.items }
+    {
+        let bit = self.front + position;
+        let bound = 64 * self.words.len();
+        if bit < bound { bit } else { bit - bound }
+    }
+
+    /// Whether the set has this position.
+    pub fn contains(&self, position: usize) -> bool
+        requires { position < bits_of self.now.words.items }
+        ensures { result ≡ is_member self.now.words.items self.now.front position }
+    {
+        test_bit(self.words.as_slice(), self.bit_of(position))
+    }
+
+    /// Adds this position to the set.
+    pub fn set(&mut self, position: usize)
+        requires { position < bits_of self.old.words.items }
+        ensures members { (p : ℕ) → p < bits_of self.old.words.items →
+            is_member self.new.words.items self.new.front p ≡ (if p == position then true else is_member self.old.words.items self.old.front p) }
+        ensures size { size_of self.new.words.items ≡ size_of self.old.words.items + (if is_member self.old.words.items self.old.front position then 0 else 1) }
+        ensures words { length self.new.words.items ≡ length self.old.words.items }
+    {
+        let bit = self.bit_of(position);
+        if !test_bit(self.words.as_slice(), bit) {
+            set_bit(&mut self.words, bit);
+            self.count += 1;
+        }
+    }
+
+    /// Takes this position out of the set.
+    pub fn clear(&mut self, position: usize)
+        requires { position < bits_of self.old.words.items }
+        ensures members { (p : ℕ) → p < bits_of self.old.words.items →
+            is_member self.new.words.items self.new.front p ≡ (if p == position then false else is_member self.old.words.items self.old.front p) }
+        ensures size { size_of self.new.words.items + (if is_member self.old.words.items self.old.front position then 1 else 0) ≡ size_of self.old.words.items }
+        ensures words { length self.new.words.items ≡ length self.old.words.items }
+    {
+        let bit = self.bit_of(position);
+        if test_bit(self.words.as_slice(), bit) {
+            clear_bit(&mut self.words, bit);
+            self.count -= 1;
+        }
+    }
+
+    /// The least position of the set that is not below this one. It passes 64 positions at a time where the set
+    /// has none of them.
+    pub fn first(&self, from: usize) -> Option<usize>
+        requires { from ≤ bits_of self.now.words.items }
+        ensures { MatchOption result
+            ((p : ℕ) → from ≤ p → p < bits_of self.now.words.items → is_member self.now.words.items self.now.front p ≡ false)
+            (λ first. (from ≤ first) × (first < bits_of self.now.words.items) × (is_member self.now.words.items self.now.front first ≡ true)
+            × ((p : ℕ) → from ≤ p → p < first → is_member self.now.words.items self.now.front p ≡ false)) }
+    {
+        let words = self.words.as_slice();
+        let bound = 64 * words.len();
+        let above = bound - self.front;
+        if from < above {
+            if let Some(bit) = first_bit(words, self.front + from, bound) {
+                return Some(bit - self.front);
+            }
+        }
+        let bit = first_bit(words, from.saturating_sub(above), self.front)?;
+        Some(above + bit)
+    }
+
+    /// Moves every position down by one, and position 0 up to below the bound.
+    pub fn turn(&mut self)
+        ensures members { (p : ℕ) → p < bits_of self.old.words.items →
+            is_member self.new.words.items self.new.front p
+            ≡ (if p + 1 == bits_of self.old.words.items then is_member self.old.words.items self.old.front 0 else is_member self.old.words.items self.old.front (p + 1)) }
+        ensures words { self.new.words.items ≡ self.old.words.items }
+    {
+        self.front += 1;
+        if self.front == 64 * self.words.len() {
+            self.front = 0;
+        }
+    }
+
+    /// How many positions the set has.
+    pub fn count(&self) -> usize
+        ensures { result ≡ size_of self.now.words.items }
+    {
+        self.count
+    }
+}
+
+/// Whether the bit with this number is set.
+fn test_bit(words: &[u64], bit: usize) -> bool
+    requires { bit < bits_of words.now }
+    ensures { result ≡ is_set words.now bit }
+{
+    words[bit / 64] >> (bit % 64) & 1 == 1
+}
+
+/// Sets the bit with this number.
+fn set_bit(words: &mut Vec<u64>, bit: usize)
+    requires { bit < bits_of words.old.items }
+    ensures bits { (b : ℕ) → is_set words.new.items b ≡ (if b == bit then true else is_set words.old.items b) }
+    ensures words { length words.new.items ≡ length words.old.items }
+{
+    words[bit / 64] |= 1 << (bit % 64);
+}
+
+/// Clears the bit with this number.
+fn clear_bit(words: &mut Vec<u64>, bit: usize)
+    requires { bit < bits_of words.old.items }
+    ensures bits { (b : ℕ) → is_set words.new.items b ≡ (if b == bit then false else is_set words.old.items b) }
+    ensures words { length words.new.items ≡ length words.old.items }
+{
+    words[bit / 64] &= !(1 << (bit % 64));
+}
+
+/// The number of the first bit that is set, from one up to below an end.
+fn first_bit(words: &[u64], from: usize, end: usize) -> Option<usize>
+    requires end { end ≤ bits_of words.now }
+    requires limit { length words.now ≤ 129 }
+    ensures { MatchOption result
+        ((b : ℕ) → from ≤ b → b < end → is_set words.now b ≡ false)
+        (λ first. (from ≤ first) × (first < end) × (is_set words.now first ≡ true) × ((b : ℕ) → from ≤ b → b < first → is_set words.now b ≡ false)) }
+{
+    let mut bit = from;
+    while bit < end {
+        let rest = words[bit / 64] >> (bit % 64);
+        if rest != 0 {
+            let first = bit + rest.trailing_zeros() as usize;
+            return if first < end { Some(first) } else { None };
+        }
+        bit = (bit / 64 + 1) * 64;
+    }
+    None
+}
