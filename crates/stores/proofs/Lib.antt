@@ -13,3 +13,5 @@ pub mod EntryChanges
 pub mod EntrySearch
 pub mod BitCounts
 pub mod BitWords
+pub mod SetOfItems
+pub mod EntryIndex

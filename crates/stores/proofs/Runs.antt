@@ -1,5 +1,5 @@
 -- Entries of places one after another: where each is found, and what changes leave of them.
-use Rattle.std.proofs.Common.{◌≡◌, ◌≢◌, ℕ, zero, suc, ◌+◌, ◌-◌, ◌<◌, ◌≤◌, ◌==◌, ◌++◌, Bool, true, false, List, [], ◌∷◌, length, drop, slice_get, slice_set, Some, None, IsSome, nat_lt, cond, ap, sym, subst, ◌∙◌, refl, arith, ltb-true, ltb-false, length-drop}
+use Rattle.std.proofs.Common.{◌≡◌, ◌≢◌, ℕ, zero, suc, ◌+◌, ◌-◌, ◌<◌, ◌≤◌, ◌==◌, ◌++◌, Bool, true, false, List, [], ◌∷◌, length, drop, slice_get, slice_set, Some, None, IsSome, nat_lt, cond, ap, sym, subst, ◌∙◌, refl, arith, ltb-true, ltb-false, ◌^◌, length-drop, length-set}
 use Rattle.std.specs.Prelude.{if◌then◌else◌}
 use Rattle.std.specs.Option.{ForSome, option_map}
 use Rattle.std.proofs.lemmas.Bool.{eqb-true, eqb-false, cond_both}
@@ -115,3 +115,7 @@ pub run_after_push : (k n place first : ℕ) (entry : HistoryEntry) (before kept
     kept ≡ drop n before → after ≡ kept ++ entry ∷ [] → first ≡ place - length kept → IsRun first after
 run_after_push k n place first entry before kept after run few next here repeats e pushed base =
     rw (base, pushed, e) (run_pushed k n place entry before run few next here repeats)
+
+-- a run keeps its length when an entry is replaced
+pub ends_set : (k i : ℕ) (entry : HistoryEntry) (entries : List HistoryEntry) → k + length entries ≤ 2 ^ 48 → k + length (slice_set entries i entry) ≤ 2 ^ 48
+ends_set k i entry entries ends = let same = length-set entries i entry in omega arith

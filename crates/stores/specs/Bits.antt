@@ -1,5 +1,5 @@
 -- A set of positions below a bound, as bits in words of 64.
-use Rattle.std.specs.Prelude.{ℕ, ◌+◌, ◌-◌, ◌*◌, ◌/◌, ◌%◌, ◌==◌, Bool, List, length, get_or, if◌then◌else◌, nat_lt}
+use Rattle.std.specs.Prelude.{◌≡◌, ℕ, ◌+◌, ◌-◌, ◌*◌, ◌/◌, ◌%◌, ◌<◌, ◌==◌, Bool, List, length, get_or, slice_get, Option, if◌then◌else◌, nat_lt}
 use Rattle.std.specs.Int.{bit_at}
 use Rattle.std.specs.List.{filter, range_with_len}
 
@@ -18,6 +18,10 @@ turned bound front p = if nat_lt (front + p) bound then front + p else front + p
 -- whether the set has the position p, where the bit of the position 0 has the number `front`
 abbrev pub is_member : List ℕ → ℕ → ℕ → Bool
 is_member words front p = is_set words (turned (bits_of words) front p)
+
+-- the set has the positions of the items that pass the test, and no other
+abbrev pub IsSetOf : {X : Type 0} → (Option X → Bool) → List ℕ → ℕ → List X → Type 0
+IsSetOf test words front items = (p : ℕ) → p < bits_of words → is_member words front p ≡ test (slice_get items p)
 
 -- how many bits are set
 unfoldable pub size_of : List ℕ → ℕ

@@ -9,6 +9,8 @@ mod history;
 mod list_history;
 mod list_window;
 mod memory;
+mod ring;
+mod ring_history;
 mod slot;
 mod window;
 
@@ -18,6 +20,7 @@ pub use history::History;
 pub use list_history::ListHistory;
 pub use list_window::ListWindow;
 pub use memory::OutOfMemory;
+pub use ring_history::RingHistory;
 pub use slot::{PutFault, Slot};
 pub use window::Window;
 

@@ -1,0 +1,70 @@
+-- A set of the positions of items that pass a test, when items come, go and change.
+use Rattle.std.proofs.Common.{◌≡◌, ◌≢◌, ℕ, zero, suc, ◌+◌, ◌-◌, ◌<◌, ◌≤◌, ◌==◌, ◌++◌, Bool, true, false, List, [], ◌∷◌, length, drop, slice_get, slice_set, Option, Some, None, nat_lt, ap, sym, ◌∙◌, refl, arith, ltb-true, ltb-false}
+use Rattle.std.specs.Prelude.{if◌then◌else◌}
+use Rattle.std.proofs.lemmas.Bool.{cond_both, eqb-true, eqb-false}
+use Rattle.std.proofs.lemmas.Bool.Decides.{nat_tests}
+use Rattle.std.proofs.lemmas.Option.{slice_get_past}
+use Rattle.stores.specs.Bits.{bits_of, is_member, IsSetOf}
+use Rattle.stores.proofs.Lookup.{slice_get-append_left, slice_get-append_right, slice_get-drop, slice_get-set_same, slice_get-set_other}
+
+module _ {X : Type 0} (test : Option X → Bool) where
+  pick : (p i : ℕ) (b v o : Bool) → b ≡ (if p == i then v else o) → p ≡ i → b ≡ v
+  pick p i b v o e at = grind (arith, nat_tests)
+
+  skip : (p i : ℕ) (b v o : Bool) → b ≡ (if p == i then v else o) → p ≢ i → b ≡ o
+  skip p i b v o e apart = grind (arith, nat_tests)
+
+  -- one item was replaced, and its position set or cleared
+  pub set_after_change : (old new : List ℕ) (front after : ℕ) (items : List X) (i : ℕ) (x : X) (v : Bool) → i < length items → length new ≡ length old →
+      ((p : ℕ) → p < bits_of old → is_member new after p ≡ (if p == i then v else is_member old front p)) → test (Some x) ≡ v →
+      IsSetOf test old front items → IsSetOf test new after (slice_set items i x)
+  set_after_change old new front after items i x v within long members passes is p below =
+      cond_both (p == i) true false (λ _. is_member new after p ≡ test (slice_get (slice_set items i x) p))
+      (λ e. let at : p ≡ i = eqb-true p i e in
+      pick p i _ v _ (members p (omega arith)) at ∙ sym passes ∙ ap test (sym (ap (slice_get (slice_set items i x)) at ∙ slice_get-set_same items i x within)))
+      (λ e. let apart : p ≢ i = eqb-false p i e in
+      skip p i _ v _ (members p (omega arith)) apart ∙ is p (omega arith) ∙ ap test (sym (slice_get-set_other items i p x apart)))
+
+  -- one item was replaced by one that passes as it did
+  pub set_after_same : (words : List ℕ) (front : ℕ) (items : List X) (i : ℕ) (x : X) → i < length items → test (Some x) ≡ test (slice_get items i) →
+      IsSetOf test words front items → IsSetOf test words front (slice_set items i x)
+  set_after_same words front items i x within same is p below =
+      cond_both (p == i) true false (λ _. is_member words front p ≡ test (slice_get (slice_set items i x) p))
+      (λ e. let at : p ≡ i = eqb-true p i e in
+      is p below ∙ ap (λ q. test (slice_get items q)) at ∙ sym same ∙ ap test (sym (ap (slice_get (slice_set items i x)) at ∙ slice_get-set_same items i x within)))
+      (λ e. is p below ∙ ap test (sym (slice_get-set_other items i p x (eqb-false p i e))))
+
+  -- the first item went: its position was cleared, and the others moved down
+  pub set_after_drop : (old clear new : List ℕ) (front mid after : ℕ) (items : List X) → length clear ≡ length old → new ≡ clear → length items < bits_of old → test None ≡ false →
+      ((p : ℕ) → p < bits_of old → is_member clear mid p ≡ (if p == 0 then false else is_member old front p)) →
+      ((p : ℕ) → p < bits_of clear → is_member new after p ≡ (if p + 1 == bits_of clear then is_member clear mid 0 else is_member clear mid (p + 1))) →
+      IsSetOf test old front items → IsSetOf test new after (drop 1 items)
+  set_after_drop old clear new front mid after items long same few none cleared turned is p below =
+      let words : bits_of new ≡ bits_of clear = ap bits_of same in
+      let dropped = slice_get-drop 1 items p (p + 1) (omega arith) in
+      let past = slice_get_past (drop 1 items) p in
+      let next = is (p + 1) in
+      let gone = slice_get_past items (p + 1) in
+      cond_both (p + 1 == bits_of clear) true false (λ _. is_member new after p ≡ test (slice_get (drop 1 items) p))
+      (λ e. let last : p + 1 ≡ bits_of clear = eqb-true _ _ e in
+      pick (p + 1) (bits_of clear) _ _ _ (turned p (omega arith)) last
+      ∙ pick 0 0 (is_member clear mid 0) false (is_member old front 0) (cleared 0 (omega arith)) refl
+      ∙ sym (ap test (dropped ∙ gone (omega arith)) ∙ none))
+      (λ e. let more : p + 1 ≢ bits_of clear = eqb-false _ _ e in
+      skip (p + 1) (bits_of clear) _ _ _ (turned p (omega arith)) more
+      ∙ skip (p + 1) 0 (is_member clear mid (p + 1)) false (is_member old front (p + 1)) (cleared (p + 1) (omega arith)) (λ e. omega arith)
+      ∙ next (omega arith) ∙ ap test (sym dropped))
+
+  one_fails : (i : ℕ) (x : X) → test (Some x) ≡ false → test None ≡ false → test (slice_get (x ∷ []) i) ≡ false
+  one_fails zero x fails none = fails
+  one_fails (suc i) x fails none = none
+
+  -- an item came that does not pass
+  pub set_after_push : (words : List ℕ) (front : ℕ) (items : List X) (x : X) → test (Some x) ≡ false → test None ≡ false → IsSetOf test words front items → IsSetOf test words front (items ++ x ∷ [])
+  set_after_push words front items x fails none is p below =
+      cond_both (nat_lt p (length items)) true false (λ _. is_member words front p ≡ test (slice_get (items ++ x ∷ []) p))
+      (λ e. is p below ∙ ap test (sym (slice_get-append_left items (x ∷ []) p (ltb-true _ _ e))))
+      (λ e. let above : length items ≤ p = ltb-false _ _ e in
+      let old = slice_get_past items p above in
+      let new = slice_get-append_right items (x ∷ []) p (p - length items) (omega arith) in
+      is p below ∙ ap test old ∙ none ∙ sym (ap test new ∙ one_fails (p - length items) x fails none))
