@@ -2,7 +2,7 @@
 use Rattle.std.specs.Prelude.{ℕ}
 use Rattle.places.specs.Fault.{place_fault_number}
 use Rattle.rtpwire.specs.Fault.{rtp_number, content_number}
-use Rattle.stores.specs.Fault as stores
+use Rattle.stores.specs.Fault.{put_number}
 use Rattle.receiver.specs.declared.fault.ReceiveFault.{ReceiveFault}
 use Rattle.receiver.specs.declared.fault.ReceiveFault.TheVariants as refused
 
@@ -13,4 +13,4 @@ receive_number refused.UnknownType = 32
 receive_number refused.NotStarted = 33
 receive_number (refused.Content fault) = content_number fault
 receive_number (refused.Place fault) = place_fault_number fault
-receive_number (refused.Put fault) = stores.number_of fault
+receive_number (refused.Put fault) = put_number fault

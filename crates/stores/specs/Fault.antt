@@ -3,6 +3,6 @@ use Rattle.std.specs.Prelude.{ℕ}
 use Rattle.stores.specs.declared.slot.PutFault.{PutFault}
 use Rattle.stores.specs.declared.slot.PutFault.TheVariants.{Late, Duplicate}
 
-abbrev pub number_of : PutFault → ℕ
-number_of Late = 35
-number_of Duplicate = 36
+abbrev pub put_number : PutFault → ℕ
+put_number Late = 35
+put_number Duplicate = 36

@@ -53,11 +53,11 @@ pub enum PutFault {
 }
 
 impl PutFault {
-    ghost use Rattle.stores.specs.Fault.{number_of};
+    ghost use Rattle.stores.specs.Fault.{put_number};
 
     /// Its refusal number.
     pub fn number(&self) -> u8
-        ensures { result ≡ number_of self.now }
+        ensures { result ≡ put_number self.now }
     {
         match self {
             PutFault::Late => 35,
