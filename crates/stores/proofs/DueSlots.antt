@@ -1,12 +1,20 @@
 -- The due places of slots, of which the first is that of the place k, from an index on: how a loop meets them.
-use Rattle.std.proofs.Common.{◌≡◌, ℕ, ◌+◌, ◌-◌, ◌<◌, ◌≤◌, ◌++◌, List, [], ◌∷◌, length, take, get_or, Bool, true, false, Option, Some, ap, sym, ◌∙◌, refl, arith}
+use Rattle.std.proofs.Common.{◌≡◌, ℕ, zero, suc, ◌+◌, ◌-◌, ◌<◌, ◌≤◌, ◌++◌, List, [], ◌∷◌, length, take, get_or, slice_get, Bool, true, false, Option, Some, None, nat_le, leb-true, leb-false, ap, sym, ◌∙◌, refl, arith}
 use Rattle.std.specs.List.{filter, range_with_len}
 use Rattle.std.proofs.lemmas.List.{take_at, take_all, append-nil}
+use Rattle.std.proofs.lemmas.Bool.{cond_both}
 use Rattle.stores.specs.declared.slot.Slot.{Slot}
+use Rattle.stores.specs.declared.slot.Slot.TheVariants.{Held, Missing}
 use Rattle.stores.specs.ByPlace.{slot_from}
-use Rattle.stores.specs.Asking.{is_due, due_places}
-use Rattle.stores.proofs.SlotPlaces.{slot_of_index}
+use Rattle.stores.specs.Asking.{is_due, is_missing, due_places}
+use Rattle.stores.proofs.SlotPlaces.{slot_from_index, slot_of_index}
 use Rattle.stores.proofs.Passing.{passing, passing_yes, passing_no, passing_none}
+
+-- a slot that is not missing is not due
+not_due : (now retry limit : ℕ) (o : Option Slot) → is_missing o ≡ false → is_due now retry limit o ≡ false
+not_due now retry limit None e = refl
+not_due now retry limit (Some (Held content)) e = refl
+not_due now retry limit (Some (Missing noticed asks last)) e = absurd (cc)
 
 module _ (now retry limit k : ℕ) (slots : List Slot) where
   abbrev due_at : ℕ → Bool
@@ -36,6 +44,23 @@ module _ (now retry limit k : ℕ) (slots : List Slot) where
   pub due_left_end : (i : ℕ) → length slots ≤ i → due_left i ≡ []
   unfolding due_left
   due_left_end i end = passing_none due_at (k + i) (length slots - i) (omega arith)
+
+  due_left_pass : (i : ℕ) → i < length slots → is_due now retry limit (slice_get slots i) ≡ false → due_left i ≡ due_left (i + 1)
+  unfolding due_left
+  due_left_pass i l off = passing_no due_at (k + i) (k + (i + 1)) (length slots - i) (length slots - (i + 1)) (omega arith) (omega arith) (ap (is_due now retry limit) (slot_from_index k slots i) ∙ off)
+
+  -- slots that are not missing are passed
+  pub due_left_skip : (i n j : ℕ) → j ≡ i + n → j ≤ length slots → ((p : ℕ) → i ≤ p → p < j → is_missing (slice_get slots p) ≡ false) → due_left i ≡ due_left j
+  due_left_skip i zero j at within none = ap due_left (omega arith)
+  due_left_skip i (suc n) j at within none =
+      due_left_pass i (omega arith) (not_due now retry limit (slice_get slots i) (none i (omega arith) (omega arith))) ∙ due_left_skip (i + 1) n j (omega arith) within (λ p l u. none p (omega arith) u)
+
+  -- none is left where no slot is missing from there on
+  pub due_left_none : (i : ℕ) → ((p : ℕ) → i ≤ p → p < length slots → is_missing (slice_get slots p) ≡ false) → due_left i ≡ []
+  due_left_none i none =
+      cond_both (nat_le i (length slots)) true false (λ _. due_left i ≡ [])
+      (λ e. let within : i ≤ length slots = leb-true _ _ e in due_left_skip i (length slots - i) (length slots) (omega arith) (omega arith) none ∙ due_left_end (length slots) (omega arith))
+      (λ e. let past : length slots < i = leb-false _ _ e in due_left_end i (omega arith))
 
 -- as many were found as are wanted, or all
 pub found_full : (limit : ℕ) (xs rest all : List ℕ) → xs ++ rest ≡ all → length xs ≡ limit → xs ≡ take limit all

@@ -15,3 +15,4 @@ pub mod BitCounts
 pub mod BitWords
 pub mod SetOfItems
 pub mod EntryIndex
+pub mod MissingIndex

@@ -1,5 +1,5 @@
 -- A set of the positions of items that pass a test, when items come, go and change.
-use Rattle.std.proofs.Common.{◌≡◌, ◌≢◌, ℕ, zero, suc, ◌+◌, ◌-◌, ◌<◌, ◌≤◌, ◌==◌, ◌++◌, Bool, true, false, List, [], ◌∷◌, length, drop, slice_get, slice_set, Option, Some, None, nat_lt, ap, sym, ◌∙◌, refl, arith, ltb-true, ltb-false}
+use Rattle.std.proofs.Common.{◌≡◌, ◌≢◌, ℕ, zero, suc, ◌+◌, ◌-◌, ◌<◌, ◌≤◌, ◌==◌, ◌++◌, Bool, true, false, List, [], ◌∷◌, length, drop, slice_get, slice_set, Option, Some, None, nat_lt, ap, sym, ◌∙◌, arith, ltb-true, ltb-false}
 use Rattle.std.specs.Prelude.{if◌then◌else◌}
 use Rattle.std.proofs.lemmas.Bool.{cond_both, eqb-true, eqb-false}
 use Rattle.std.proofs.lemmas.Bool.Decides.{nat_tests}
@@ -34,26 +34,19 @@ module _ {X : Type 0} (test : Option X → Bool) where
       is p below ∙ ap (λ q. test (slice_get items q)) at ∙ sym same ∙ ap test (sym (ap (slice_get (slice_set items i x)) at ∙ slice_get-set_same items i x within)))
       (λ e. is p below ∙ ap test (sym (slice_get-set_other items i p x (eqb-false p i e))))
 
-  -- the first item went: its position was cleared, and the others moved down
-  pub set_after_drop : (old clear new : List ℕ) (front mid after : ℕ) (items : List X) → length clear ≡ length old → new ≡ clear → length items < bits_of old → test None ≡ false →
-      ((p : ℕ) → p < bits_of old → is_member clear mid p ≡ (if p == 0 then false else is_member old front p)) →
-      ((p : ℕ) → p < bits_of clear → is_member new after p ≡ (if p + 1 == bits_of clear then is_member clear mid 0 else is_member clear mid (p + 1))) →
+  -- the first item went, and the others moved down
+  pub set_after_drop : (old new : List ℕ) (front after : ℕ) (items : List X) → length new ≡ length old → length items < bits_of old → test None ≡ false →
+      ((p : ℕ) → p < bits_of old → is_member new after p ≡ (if p + 1 == bits_of old then false else is_member old front (p + 1))) →
       IsSetOf test old front items → IsSetOf test new after (drop 1 items)
-  set_after_drop old clear new front mid after items long same few none cleared turned is p below =
-      let words : bits_of new ≡ bits_of clear = ap bits_of same in
+  set_after_drop old new front after items long few none shifted is p below =
       let dropped = slice_get-drop 1 items p (p + 1) (omega arith) in
-      let past = slice_get_past (drop 1 items) p in
-      let next = is (p + 1) in
-      let gone = slice_get_past items (p + 1) in
-      cond_both (p + 1 == bits_of clear) true false (λ _. is_member new after p ≡ test (slice_get (drop 1 items) p))
-      (λ e. let last : p + 1 ≡ bits_of clear = eqb-true _ _ e in
-      pick (p + 1) (bits_of clear) _ _ _ (turned p (omega arith)) last
-      ∙ pick 0 0 (is_member clear mid 0) false (is_member old front 0) (cleared 0 (omega arith)) refl
-      ∙ sym (ap test (dropped ∙ gone (omega arith)) ∙ none))
-      (λ e. let more : p + 1 ≢ bits_of clear = eqb-false _ _ e in
-      skip (p + 1) (bits_of clear) _ _ _ (turned p (omega arith)) more
-      ∙ skip (p + 1) 0 (is_member clear mid (p + 1)) false (is_member old front (p + 1)) (cleared (p + 1) (omega arith)) (λ e. omega arith)
-      ∙ next (omega arith) ∙ ap test (sym dropped))
+      cond_both (p + 1 == bits_of old) true false (λ _. is_member new after p ≡ test (slice_get (drop 1 items) p))
+      (λ e. let last : p + 1 ≡ bits_of old = eqb-true _ _ e in
+      pick (p + 1) (bits_of old) (is_member new after p) false (is_member old front (p + 1)) (shifted p (omega arith)) last
+      ∙ sym (ap test (dropped ∙ slice_get_past items (p + 1) (omega arith)) ∙ none))
+      (λ e. let more : p + 1 ≢ bits_of old = eqb-false _ _ e in
+      skip (p + 1) (bits_of old) (is_member new after p) false (is_member old front (p + 1)) (shifted p (omega arith)) more
+      ∙ is (p + 1) (omega arith) ∙ ap test (sym dropped))
 
   one_fails : (i : ℕ) (x : X) → test (Some x) ≡ false → test None ≡ false → test (slice_get (x ∷ []) i) ≡ false
   one_fails zero x fails none = fails
@@ -68,3 +61,28 @@ module _ {X : Type 0} (test : Option X → Bool) where
       let old = slice_get_past items p above in
       let new = slice_get-append_right items (x ∷ []) p (p - length items) (omega arith) in
       is p below ∙ ap test old ∙ none ∙ sym (ap test new ∙ one_fails (p - length items) x fails none))
+
+  same_choice : (p n : ℕ) → n ≤ p → (b : Bool) → (if p == n then true else b) ≡ (if p - n == 0 then true else b)
+  same_choice p n above b = grind (arith, nat_tests)
+
+  later : (i : ℕ) (b : Bool) → b ≡ false → (if suc i == 0 then true else b) ≡ false
+  later i b off = grind (arith, nat_tests)
+
+  one_passes : (i : ℕ) (x : X) (b : Bool) → test (Some x) ≡ true → test None ≡ false → b ≡ false → (if i == 0 then true else b) ≡ test (slice_get (x ∷ []) i)
+  one_passes zero x b passes none off = sym passes
+  one_passes (suc i) x b passes none off = later i b off ∙ sym none
+
+  -- an item came that passes, and its position was set
+  pub set_after_add : (old new : List ℕ) (front after : ℕ) (items : List X) (x : X) → length new ≡ length old → test (Some x) ≡ true → test None ≡ false →
+      ((p : ℕ) → p < bits_of old → is_member new after p ≡ (if p == length items then true else is_member old front p)) →
+      IsSetOf test old front items → IsSetOf test new after (items ++ x ∷ [])
+  set_after_add old new front after items x long passes none members is p below =
+      cond_both (nat_lt p (length items)) true false (λ _. is_member new after p ≡ test (slice_get (items ++ x ∷ []) p))
+      (λ e. let inside : p < length items = ltb-true _ _ e in
+      skip p (length items) (is_member new after p) true (is_member old front p) (members p (omega arith)) (λ e. omega arith)
+      ∙ is p (omega arith) ∙ ap test (sym (slice_get-append_left items (x ∷ []) p inside)))
+      (λ e. let above : length items ≤ p = ltb-false _ _ e in
+      let past = slice_get_past items p above in
+      let off = is p (omega arith) ∙ ap test past ∙ none in
+      let got = slice_get-append_right items (x ∷ []) p (p - length items) (omega arith) in
+      members p (omega arith) ∙ same_choice p (length items) above (is_member old front p) ∙ one_passes (p - length items) x (is_member old front p) passes none off ∙ ap test (sym got))

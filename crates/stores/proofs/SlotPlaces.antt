@@ -1,10 +1,13 @@
 -- What a window has at each place, and what is left of it when its front is taken out.
-use Rattle.std.proofs.Common.{◌≡◌, ◌↔◌, ℕ, ◌+◌, ◌^◌, ◌<◌, ◌≤◌, true, List, length, get_or, slice_get, Option, Some, None, IsSome, sym, subst, ◌∙◌, refl, arith}
+use Rattle.std.proofs.Common.{◌≡◌, ◌↔◌, ℕ, ◌+◌, ◌^◌, ◌<◌, ◌≤◌, true, List, length, get_or, slice_get, slice_set, nat_lt, false, ap, ltb-true, ltb-false, length-set, Option, Some, None, IsSome, sym, subst, ◌∙◌, refl, arith}
 use Rattle.std.specs.Prelude.{IsSomeAnd}
 use Rattle.std.proofs.lemmas.Bool.Decides.{nat_tests}
 use Rattle.std.proofs.lemmas.Grind.{common_steps}
 use Rattle.std.proofs.lemmas.List.{nil_from_length}
-use Rattle.std.proofs.lemmas.Option.{gets, slice_get_read}
+use Rattle.std.proofs.lemmas.Bool.{cond_both}
+use Rattle.std.proofs.lemmas.Option.{gets, slice_get_read, slice_get_past}
+use Rattle.std.specs.Option.{ForSome}
+use Rattle.stores.specs.Asking.{is_missing}
 use Rattle.stores.specs.declared.slot.Slot.{Slot}
 use Rattle.stores.specs.Span.{Span, IsSpan, highest_of, front_of, without_front}
 use Rattle.stores.specs.ByPlace.{slot_from, slot_at, slot_at_cursor, is_above, IsInside, LosesFront}
@@ -57,3 +60,14 @@ front_is_at_cursor s k started = grind (arith, common_steps)
 -- taking the front out, place by place
 pub take_front_by_place : (old new : Span) (slot : Slot) → IsSpan old → front_of old ≡ Some slot → new ≡ without_front old → IsSomeAnd old.cursor (LosesFront old slot new)
 take_front_by_place old new slot is front rest = grind (arith, common_steps)
+
+-- a started window keeps its ends when a slot is replaced
+pub started_set : (cursor : Option ℕ) (slots : List Slot) (i : ℕ) (slot : Slot) → ForSome cursor (λ k. (0 < k + length slots) × (k + length slots ≤ 2 ^ 48)) →
+    ForSome cursor (λ k. (0 < k + length (slice_set slots i slot)) × (k + length (slice_set slots i slot) ≤ 2 ^ 48))
+started_set cursor slots i slot started k e = let at = started k e in let same = length-set slots i slot in (omega arith, omega arith)
+
+-- a missing slot is one of the slots
+pub missing_within : (slots : List Slot) (i : ℕ) → is_missing (slice_get slots i) ≡ true → i < length slots
+missing_within slots i e =
+    cond_both (nat_lt i (length slots)) true false (λ _. i < length slots) (λ t. ltb-true _ _ t)
+    (λ t. let none = ap is_missing (slice_get_past slots i (ltb-false _ _ t)) in absurd (cc))

@@ -7,3 +7,4 @@ pub mod Asking
 pub mod Past
 pub mod PastByPlace
 pub mod Bits
+pub mod Index

@@ -5,7 +5,7 @@ ghost use Rattle.stores.specs.Bits.{is_set, bits_of, turned, is_member, size_of}
 use crate::memory::OutOfMemory;
 use std::alloc::Global;
 
-/// A set of positions from 0 up to below a bound. [`turn`](Bits::turn) moves all of them down by one.
+/// A set of positions from 0 up to below a bound. [`shift`](Bits::shift) moves all of them down by one.
 ///
 /// The bound is a multiple of 64. It takes memory in `new` alone.
 #[derive(Debug, Drop)]
@@ -108,8 +108,20 @@ impl Bits {
         Some(above + bit)
     }
 
+    /// Takes position 0 out of the set, and moves every other position down by one.
+    pub fn shift(&mut self)
+        ensures members { (p : ℕ) → p < bits_of self.old.words.items →
+            is_member self.new.words.items self.new.front p
+            ≡ (if p + 1 == bits_of self.old.words.items then false else is_member self.old.words.items self.old.front (p + 1)) }
+        ensures size { size_of self.new.words.items + (if is_member self.old.words.items self.old.front 0 then 1 else 0) ≡ size_of self.old.words.items }
+        ensures words { length self.new.words.items ≡ length self.old.words.items }
+    {
+        self.clear(0);
+        self.turn();
+    }
+
     /// Moves every position down by one, and position 0 up to below the bound.
-    pub fn turn(&mut self)
+    fn turn(&mut self)
         ensures members { (p : ℕ) → p < bits_of self.old.words.items →
             is_member self.new.words.items self.new.front p
             ≡ (if p + 1 == bits_of self.old.words.items then is_member self.old.words.items self.old.front 0 else is_member self.old.words.items self.old.front (p + 1)) }

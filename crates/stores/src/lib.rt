@@ -11,6 +11,7 @@ mod list_window;
 mod memory;
 mod ring;
 mod ring_history;
+mod ring_window;
 mod slot;
 mod window;
 
@@ -21,6 +22,7 @@ pub use list_history::ListHistory;
 pub use list_window::ListWindow;
 pub use memory::OutOfMemory;
 pub use ring_history::RingHistory;
+pub use ring_window::RingWindow;
 pub use slot::{PutFault, Slot};
 pub use window::Window;
 

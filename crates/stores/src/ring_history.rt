@@ -120,8 +120,7 @@ fn make_room(entries: &mut HeapCircularBuffer<HistoryEntry>, marks: &mut Bits)
     ensures agree { IsSetOf is_marked marks.new.words.items marks.new.front entries.new.items }
 {
     if entries.is_full() {
-        marks.clear(0);
-        marks.turn();
+        marks.shift();
         drop_first(entries);
     }
 }

@@ -7,6 +7,6 @@ use Rattle.stores.proofs.ring_history.make_room.Goals as goal
 pub returns-then-is_full-clause-agree : goal.returns-then-is_full-clause-agree
 returns-then-is_full-clause-agree c =
     let marks = c.args.marks.now in
-    let is = set_after_drop is_marked marks.words.items c.clear.new.self.words.items c.turn.new.self.words.items marks.front c.clear.new.self.front c.turn.new.self.front c.args.entries.now.items
-    c.clear.ensures.words c.turn.ensures.words (omega arith) refl c.clear.ensures.members c.turn.ensures.members c.requires.agree in
-    subst (λ xs. IsSetOf is_marked c.turn.new.self.words.items c.turn.new.self.front xs) (sym c.drop_first.ensures.items) is
+    let after = c.shift.new.self in
+    let is = set_after_drop is_marked marks.words.items after.words.items marks.front after.front c.args.entries.now.items c.shift.ensures.words (omega arith) refl c.shift.ensures.members c.requires.agree in
+    subst (λ xs. IsSetOf is_marked after.words.items after.front xs) (sym c.drop_first.ensures.items) is

@@ -1,0 +1,115 @@
+-- The index of the missing slots, when slots come, go and change.
+use Rattle.std.proofs.Common.{◌≡◌, ℕ, zero, suc, ◌+◌, ◌<◌, ◌==◌, ◌++◌, Bool, true, false, List, [], ◌∷◌, length, drop, slice_get, slice_set, Some, ap, sym, ◌∙◌, refl, arith}
+use Rattle.std.specs.Prelude.{if◌then◌else◌}
+use Rattle.std.proofs.lemmas.Option.{same_Some, slice_get_past, slice_get_within}
+use Rattle.stores.specs.declared.slot.Slot.{Slot}
+use Rattle.stores.specs.declared.slot.Slot.TheVariants.{Held, Missing}
+use Rattle.stores.specs.Asking.{is_missing}
+use Rattle.stores.specs.Bits.{bits_of, is_member, size_of}
+use Rattle.stores.specs.Index.{count_missing, IsIndex}
+use Rattle.stores.proofs.SetOfItems.{set_after_change, set_after_same, set_after_drop, set_after_push, set_after_add}
+
+weight : Bool → ℕ
+weight true = 1
+weight false = 0
+
+counted_first : (x : Slot) (xs : List Slot) → count_missing (x ∷ xs) ≡ weight (is_missing (Some x)) + count_missing xs
+unfolding weight
+counted_first (Held content) xs = omega arith
+counted_first (Missing noticed asks last) xs = omega arith
+
+counted_push : (xs : List Slot) (x : Slot) → count_missing (xs ++ x ∷ []) ≡ count_missing xs + weight (is_missing (Some x))
+counted_push [] x = let one = counted_first x [] in omega arith
+counted_push (y ∷ xs) x =
+    let rest = counted_push xs x in
+    let before = counted_first y xs in
+    let after = counted_first y (xs ++ x ∷ []) in
+    omega arith
+
+counted_set : (xs : List Slot) (i : ℕ) (x y : Slot) → slice_get xs i ≡ Some y → count_missing (slice_set xs i x) + weight (is_missing (Some y)) ≡ count_missing xs + weight (is_missing (Some x))
+counted_set [] i x y e = absurd (cc)
+counted_set (z ∷ xs) zero x y e =
+    let same = ap (λ slot. weight (is_missing (Some slot))) (same_Some z y e) in
+    let before = counted_first z xs in
+    let after = counted_first x xs in
+    omega arith
+counted_set (z ∷ xs) (suc i) x y e =
+    let rest = counted_set xs i x y e in
+    let before = counted_first z xs in
+    let after = counted_first z (slice_set xs i x) in
+    omega arith
+
+-- what is counted of one position, by whether it was a member
+if_member : (a b : ℕ) (m c : Bool) → m ≡ c → a + (if m then 1 else 0) ≡ b → a + weight c ≡ b
+unfolding weight
+if_member a b m true e h = rw e at h
+if_member a b m false e h = rw e at h
+
+if_none : (a b : ℕ) (m : Bool) → m ≡ false → a ≡ b + (if m then 0 else 1) → a ≡ b + 1
+if_none a b m e h = rw e at h
+
+weight_true : (b : Bool) → b ≡ true → weight b ≡ 1
+unfolding weight
+weight_true b e = rw e refl
+
+weight_false : (b : Bool) → b ≡ false → weight b ≡ 0
+unfolding weight
+weight_false b e = rw e refl
+
+-- the first slot went
+pub index_shift : (old new : List ℕ) (front after : ℕ) (slots : List Slot) → length new ≡ length old → length slots < bits_of old →
+    ((p : ℕ) → p < bits_of old → is_member new after p ≡ (if p + 1 == bits_of old then false else is_member old front (p + 1))) →
+    size_of new + (if is_member old front 0 then 1 else 0) ≡ size_of old → IsIndex old front slots → IsIndex new after (drop 1 slots)
+index_shift old new front after [] long few members size is =
+    let same = if_member (size_of new) (size_of old) _ false (is.0 0 (omega arith)) size in
+    let none = weight_false false refl in
+    (set_after_drop is_missing old new front after [] long few refl members is.0, let count = is.1 in omega arith)
+index_shift old new front after (x ∷ slots) long few members size is =
+    let less = if_member (size_of new) (size_of old) _ (is_missing (Some x)) (is.0 0 (omega arith)) size in
+    let counted = counted_first x slots in
+    let count = is.1 in
+    (set_after_drop is_missing old new front after (x ∷ slots) long few refl members is.0, omega arith)
+
+-- a missing slot came
+pub index_add : (old new : List ℕ) (front after : ℕ) (slots : List Slot) (x : Slot) → length new ≡ length old → length slots < bits_of old → is_missing (Some x) ≡ true →
+    ((p : ℕ) → p < bits_of old → is_member new after p ≡ (if p == length slots then true else is_member old front p)) →
+    size_of new ≡ size_of old + (if is_member old front (length slots) then 0 else 1) → IsIndex old front slots → IsIndex new after (slots ++ x ∷ [])
+index_add old new front after slots x long few missing members size is =
+    let off = is.0 (length slots) few ∙ ap is_missing (slice_get_past slots (length slots) (omega arith)) in
+    let more = if_none (size_of new) (size_of old) _ off size in
+    let counted = counted_push slots x in
+    let one = weight_true (is_missing (Some x)) missing in
+    let count = is.1 in
+    (set_after_add is_missing old new front after slots x long missing refl members is.0, omega arith)
+
+-- a held slot came
+pub index_push : (words : List ℕ) (front : ℕ) (slots : List Slot) (x : Slot) → is_missing (Some x) ≡ false → IsIndex words front slots → IsIndex words front (slots ++ x ∷ [])
+index_push words front slots x held is =
+    let counted = counted_push slots x in
+    let none = weight_false (is_missing (Some x)) held in
+    let count = is.1 in
+    (set_after_push is_missing words front slots x held refl is.0, omega arith)
+
+-- a missing slot came to be held
+pub index_hold : (old new : List ℕ) (front after : ℕ) (slots : List Slot) (i : ℕ) (x y : Slot) → length new ≡ length old → slice_get slots i ≡ Some y → is_missing (Some y) ≡ true → is_missing (Some x) ≡ false →
+    i < bits_of old →
+    ((p : ℕ) → p < bits_of old → is_member new after p ≡ (if p == i then false else is_member old front p)) →
+    size_of new + (if is_member old front i then 1 else 0) ≡ size_of old → IsIndex old front slots → IsIndex new after (slice_set slots i x)
+index_hold old new front after slots i x y long at missing held below members size is =
+    let on = is.0 i below ∙ ap is_missing at ∙ missing in
+    let less = if_member (size_of new) (size_of old) _ true on size in
+    let counted = counted_set slots i x y at in
+    let one = weight_true (is_missing (Some y)) missing in
+    let always = weight_true true refl in
+    let none = weight_false (is_missing (Some x)) held in
+    let count = is.1 in
+    (set_after_change is_missing old new front after slots i x false (slice_get_within slots i y at) long members held is.0, omega arith)
+
+-- a slot changed that stays missing, or stays held
+pub index_same : (words : List ℕ) (front : ℕ) (slots : List Slot) (i : ℕ) (x y : Slot) → slice_get slots i ≡ Some y → is_missing (Some x) ≡ is_missing (Some y) →
+    IsIndex words front slots → IsIndex words front (slice_set slots i x)
+index_same words front slots i x y at same is =
+    let counted = counted_set slots i x y at in
+    let equal = ap weight same in
+    let count = is.1 in
+    (set_after_same is_missing words front slots i x (slice_get_within slots i y at) (same ∙ ap is_missing (sym at)) is.0, omega arith)

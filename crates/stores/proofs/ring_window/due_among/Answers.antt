@@ -1,0 +1,44 @@
+use Rattle.std.proofs.Common.{◌≡◌, ◌-◌, ◌+◌, slice_get, Some, rules, sym, ◌∙◌, refl, arith}
+use Rattle.std.proofs.lemmas.Grind.{common_steps}
+use Rattle.std.proofs.lemmas.Option.{get_or_from_slice_get}
+use Rattle.stores.proofs.SlotPlaces.{missing_within}
+use Rattle.stores.proofs.EntryIndex.{new_is}
+use Rattle.stores.proofs.DueSlots.{due_left_whole, due_left_yes, due_left_no, due_left_skip, due_left_none, found_full, found_all}
+use Rattle.stores.proofs.ring_window.due_among.Goals as goal
+use Rattle.stores.proofs.ring_window.due_among.Goals.{then-is_due, else-is_due}
+
+pub returns-then-is_full : goal.returns-then-is_full
+returns-then-is_full c = found_full 1088 _ _ _ (c.loop-next.invariant.left ∙ due_left_whole _ _ _ _ _) (search rules)
+
+pub unwrap-requires-then-is_due : goal.unwrap-requires-then-is_due
+unwrap-requires-then-is_due c =
+    let found = c.in-Some.ensures in
+    let within = missing_within c.args.slots.now.items c.in-Some.next (sym (c.requires.index c.in-Some.next found.1) ∙ found.2) in
+    let places = c.requires.places in
+    let made = new_is c.new.result _ (c.args.first + c.in-Some.next) c.new.ensures (omega arith) in
+    rw made refl
+
+pub loop-next-preserved : goal.loop-next-preserved
+loop-next-preserved c =
+    let found = c.in-Some.ensures in
+    let next = c.in-Some.next in
+    let slots = c.args.slots.now.items in
+    let room = c.requires.room in
+    let above = found.0 in
+    let within = missing_within slots next (sym (c.requires.index next found.1) ∙ found.2) in
+    let got : slice_get slots next ≡ Some c.unwrap.result.now = search rules in
+    let slot = sym (get_or_from_slice_get slots next c.unwrap.result.now c.unwrap.result.now got) in
+    let skip = due_left_skip c.args.now c.args.retry c.args.asks c.args.first slots c.loop-next.index (next - c.loop-next.index) next (omega arith) (omega arith)
+    (λ p l u. sym (c.requires.index p (omega arith)) ∙ found.3 p l u) in
+    let yes = due_left_yes c.args.now c.args.retry c.args.asks c.args.first slots next c.unwrap.result.now within slot in
+    let no = due_left_no c.args.now c.args.retry c.args.asks c.args.first slots next c.unwrap.result.now within slot in
+    elim c.if-is_due.branch [
+      | then-is_due w ↦ grind (arith, common_steps, skip, yes)
+      | else-is_due w ↦ grind (arith, common_steps, skip, no)
+    ]
+
+pub returns : goal.returns
+returns c =
+    let none = c.in_default.ensures in
+    found_all 1088 _ _ _ (c.loop-next.invariant.left ∙ due_left_whole _ _ _ _ _)
+    (due_left_none _ _ _ _ c.args.slots.now.items c.loop-next.index (λ p l u. sym (c.requires.index p (omega arith)) ∙ none p l (omega arith))) c.loop-next.invariant.fits

@@ -1,0 +1,206 @@
+ghost use Rattle.std.specs.Prelude.{◌≡◌, ℕ, ◌+◌, ◌^◌, ◌<◌, ◌≤◌, ◌++◌, length, take, drop, replicate};
+ghost use Rattle.std.specs.List.{filter, range_with_len};
+ghost use Rattle.std.specs.Option.{ForSome, ForNone};
+ghost use Rattle.stores.specs.Put.{noticed_at};
+ghost use Rattle.stores.specs.ByPlace.{slot_from};
+ghost use Rattle.stores.specs.Asking.{is_due, is_missing};
+ghost use Rattle.stores.specs.Bits.{bits_of, IsSetOf};
+ghost use Rattle.stores.specs.Index.{IsIndex};
+
+use crate::bits::Bits;
+use crate::memory::OutOfMemory;
+use crate::ring::{append, drop_first};
+use crate::slot::{PutFault, Slot};
+use crate::window::Window;
+use arrayvec::ArrayVec;
+use circular_buffer::HeapCircularBuffer;
+use places::Place;
+use rtpwire::Content;
+use std::alloc::Global;
+
+/// A window in a ring, whose memory is reserved once.
+///
+/// Nothing moves when the front is taken out. A set of bits tells which places are missing, so `due` and
+/// `missing` look at no other.
+#[derive(Debug, Drop)]
+pub struct RingWindow {
+    cursor: Option<u64>,
+    slots: HeapCircularBuffer<Slot>,
+    // The missing places, by how far they are from the cursor.
+    missing: Bits,
+    ghost room: { length slots.items ≤ slots.capacity },
+    ghost nonzero: { 0 < slots.capacity },
+    ghost limit: { slots.capacity ≤ 8192 },
+    ghost unstarted: { ForNone cursor (length slots.items ≡ 0) },
+    ghost started: { ForSome cursor (λ k. (0 < k + length slots.items) × (k + length slots.items ≤ 2 ^ 48)) },
+    ghost wide: { slots.capacity < bits_of missing.words.items },
+    ghost index: { IsIndex missing.words.items missing.front slots.items },
+}
+
+impl Window for RingWindow {
+    ghost use Rattle.std.specs.Prelude.{◌≡◌};
+    ghost use Rattle.stores.specs.Span.{Span};
+
+    ghost meaning = { λ w. record { cursor = w.cursor; slots = w.slots.items; capacity = w.slots.capacity } };
+
+    ghost is_span = { λ w. record { room = w.room; nonzero = w.nonzero; limit = w.limit; unstarted = w.unstarted; started = w.started } };
+
+    fn new(alloc: Global, capacity: usize) -> Result<Self, OutOfMemory> {
+        let slots = HeapCircularBuffer::with_capacity(alloc, capacity)?;
+        let missing = Bits::new(alloc, capacity)?;
+        Ok(RingWindow {
+            cursor: None,
+            slots,
+            missing,
+        })
+    }
+
+    fn cursor(&self) -> Option<u64> {
+        self.cursor
+    }
+
+    fn highest(&self) -> Option<Place> {
+        let end = self.cursor? + self.slots.len() as u64;
+        Place::new(end - 1)
+    }
+
+    #[tactic(auto, using(std::proofs::lemmas::Option::slice_get_past))]
+    fn put(&mut self, place: Place, content: Content, now: u64) -> Result<u64, PutFault> {
+        let place = place.value();
+        let Some(cursor) = self.cursor else {
+            self.cursor = Some(place);
+            append(&mut self.slots, Slot::Held(content));
+            return Ok(0);
+        };
+        if place < cursor {
+            return Err(PutFault::Late);
+        }
+        let end = cursor + self.slots.len() as u64;
+        if place < end {
+            let index = (place - cursor) as usize;
+            if !self.missing.contains(index) {
+                return Err(PutFault::Duplicate);
+            }
+            *self.slots.get_mut(index).unwrap() = Slot::Held(content);
+            self.missing.clear(index);
+            return Ok(0);
+        }
+        let overrun = (place + 1)
+            .saturating_sub(self.slots.capacity() as u64)
+            .saturating_sub(cursor);
+        drop_front(&mut self.slots, &mut self.missing, overrun);
+        let cursor = cursor + overrun;
+        let unseen = place - (cursor + self.slots.len() as u64);
+        add_missing(&mut self.slots, &mut self.missing, unseen, now);
+        append(&mut self.slots, Slot::Held(content));
+        self.cursor = Some(cursor);
+        Ok(overrun)
+    }
+
+    fn front(&self) -> Option<&Slot> {
+        self.slots.front()
+    }
+
+    fn take_front(&mut self) -> Slot {
+        let slot = self.slots.pop_front().unwrap();
+        self.missing.shift();
+        if let Some(cursor) = self.cursor {
+            self.cursor = Some(cursor + 1);
+        }
+        slot
+    }
+
+    fn slot(&self, place: Place) -> Option<&Slot> {
+        let index = place.value().checked_sub(self.cursor?)?;
+        self.slots.get(index as usize)
+    }
+
+    fn due(&self, now: u64, retry: u64, asks: u8) -> ArrayVec<Place, 1088> {
+        match self.cursor {
+            None => ArrayVec::new(),
+            Some(cursor) => due_among(cursor, &self.slots, &self.missing, now, retry, asks),
+        }
+    }
+
+    fn count_ask(&mut self, place: Place, now: u64) {
+        let Some(cursor) = self.cursor else {
+            return;
+        };
+        let index = (place.value() - cursor) as usize;
+        if let Slot::Missing { asks, last, .. } = self.slots.get_mut(index).unwrap() {
+            *asks += 1;
+            *last = now;
+        }
+    }
+
+    fn missing(&self) -> usize {
+        self.missing.count()
+    }
+}
+
+/// Drops the first slots, as many as there are of so many.
+fn drop_front(slots: &mut HeapCircularBuffer<Slot>, missing: &mut Bits, count: u64)
+    requires room { length slots.old.items < bits_of missing.old.words.items }
+    requires index { IsIndex missing.old.words.items missing.old.front slots.old.items }
+    ensures items { slots.new.items ≡ drop count slots.old.items }
+    ensures capacity { slots.new.capacity ≡ slots.old.capacity }
+    ensures words { length missing.new.words.items ≡ length missing.old.words.items }
+    ensures index { IsIndex missing.new.words.items missing.new.front slots.new.items }
+{
+    'dropped: for _ in 0..count {
+        if slots.is_empty() {
+            return;
+        }
+        drop_first(slots);
+        missing.shift();
+    }
+}
+
+/// Appends so many slots of places that were noticed to be missing now.
+fn add_missing(slots: &mut HeapCircularBuffer<Slot>, missing: &mut Bits, count: u64, now: u64)
+    requires room { length slots.old.items + count ≤ slots.old.capacity }
+    requires wide { slots.old.capacity < bits_of missing.old.words.items }
+    requires index { IsIndex missing.old.words.items missing.old.front slots.old.items }
+    ensures items { slots.new.items ≡ slots.old.items ++ replicate count (noticed_at now) }
+    ensures capacity { slots.new.capacity ≡ slots.old.capacity }
+    ensures words { length missing.new.words.items ≡ length missing.old.words.items }
+    ensures index { IsIndex missing.new.words.items missing.new.front slots.new.items }
+{
+    'added: for _ in 0..count {
+        missing.set(slots.len());
+        let slot = Slot::Missing {
+            noticed: now,
+            asks: 0,
+            last: 0,
+        };
+        append(slots, slot);
+    }
+}
+
+/// The first due places of these slots, of which the first is that of the place `first`.
+fn due_among(
+    first: u64,
+    slots: &HeapCircularBuffer<Slot>,
+    missing: &Bits,
+    now: u64,
+    retry: u64,
+    asks: u8,
+) -> ArrayVec<Place, 1088>
+    requires places { first + length slots.now.items ≤ 2 ^ 48 }
+    requires room { length slots.now.items < bits_of missing.now.words.items }
+    requires index { IsSetOf is_missing missing.now.words.items missing.now.front slots.now.items }
+    ensures { result.items ≡ take 1088 (filter (λ q. is_due now retry asks (slot_from first slots.now.items q)) (range_with_len first (length slots.now.items))) }
+{
+    let mut due = ArrayVec::new();
+    let mut index = 0;
+    while let Some(next) = missing.first(index) {
+        if due.is_full() {
+            return due;
+        }
+        if slots.get(next).unwrap().is_due(now, retry, asks) {
+            due.push(Place::new(first + next as u64).unwrap());
+        }
+        index = next + 1;
+    }
+    due
+}
