@@ -1,5 +1,6 @@
 -- The command line of the program, and what `clap` says of it.
-use Rattle.std.proofs.Common.{◌≡◌, ◌≢◌, ◌∙◌, ap₂, sym, subst, refl, inl, inr, Bool, true, false, List, Option, Some, None, option_map, codes}
+use Rattle.std.proofs.Common.{ℕ, [], ◌∷◌, nat_eq, ◌≡◌, ◌≢◌, ◌∙◌, ap₂, sym, subst, refl, inl, inr, Bool, true, false, List, Option, Some, None, option_map, codes}
+use Rattle.std.proofs.lemmas.Bool.{ne_eqb}
 use Rattle.std.proofs.lemmas.Option.{same_Some}
 use Rattle.std.specs.Box.{box_value}
 use Rattle.std.specs.Str.{bytes_eq}
@@ -10,7 +11,9 @@ use Rattle.clap.specs.declared.error.Error.{Error}
 use Rattle.clap.specs.declared.error.ErrorKind.TheVariants.{OutOfMemory}
 use Rattle.clap.specs.declared.parser.matches.ArgMatches.{ArgMatches}
 use Rattle.clap.specs.declared.parser.matches.ArgMatches.TheViews.{out-ArgMatches, out-SubCommand}
-use Rattle.rtxtool.specs.CommandLine.{file_in, tool}
+use Rattle.clap.specs.Takes.{walk_passes}
+use Rattle.clap.specs.Walk.{walked}
+use Rattle.rtxtool.specs.CommandLine.{file_in, file_said, tool}
 
 tool_is_simple : is_simple_and_free tool ≡ true
 unfolding clap_on_literals
@@ -44,3 +47,27 @@ pub file_found : (m inner : ArgMatches) (name : Text) (file : Option Text) → b
 file_found m inner name file sim named found value =
     let met = rows_are m name (rows_of (found_of inner)) named found in
     rw (met, sim) (value ∙ first_value-rows (found_of inner) (codes "FILE"))
+
+-- ---- `sim` and a FILE that is no flag
+
+said : (name : Text) (c : ℕ) (rest : Text) → nat_eq c 45 ≡ false → file_said (name ∷ codes "sim" ∷ (c ∷ rest) ∷ []) ≡ Some (c ∷ rest)
+unfolding clap_on_literals walked
+said name c rest h = rw (h, h) refl
+
+taken : (name : Text) (c : ℕ) (rest : Text) → nat_eq c 45 ≡ false → takes tool (name ∷ codes "sim" ∷ (c ∷ rest) ∷ []) ≡ true
+unfolding clap_on_literals walked walk_passes
+taken name c rest h = rw (h, h) refl
+
+pub sim_said : (name : Text) (c : ℕ) (rest : Text) → c ≢ 45 → file_said (name ∷ codes "sim" ∷ (c ∷ rest) ∷ []) ≡ Some (c ∷ rest)
+sim_said name c rest h = said name c rest (ne_eqb c 45 h)
+
+pub sim_taken : (name : Text) (c : ℕ) (rest : Text) → c ≢ 45 → takes tool (name ∷ codes "sim" ∷ (c ∷ rest) ∷ []) ≡ true
+sim_taken name c rest h = taken name c rest (ne_eqb c 45 h)
+
+pub hyphen_said : (name : Text) → file_said (name ∷ codes "sim" ∷ codes "-" ∷ []) ≡ Some (codes "-")
+unfolding clap_on_literals
+hyphen_said name = refl
+
+pub hyphen_taken : (name : Text) → takes tool (name ∷ codes "sim" ∷ codes "-" ∷ []) ≡ true
+unfolding clap_on_literals
+hyphen_taken name = refl

@@ -1,7 +1,9 @@
-//! Laws on scripts. These functions compute nothing: their contracts are the laws.
-ghost use Rattle.std.specs.Prelude.{◌≡◌, ℕ, List, Some, None};
+//! Laws on scripts and command lines. These functions compute nothing: their contracts are the laws.
+ghost use Rattle.std.specs.Prelude.{◌≡◌, ◌≢◌, ℕ, List, [], ◌∷◌, Some, None, codes, true};
+ghost use Rattle.clap.specs.Words.{takes};
 ghost use Rattle.world.specs.declared.event.Event.{Event};
 ghost use Rattle.world.specs.Config.{Config};
+ghost use Rattle.rtxtool.specs.CommandLine.{file_said, tool};
 ghost use Rattle.rtxtool.specs.IsScript.{IsScript};
 ghost use Rattle.rtxtool.specs.Script.{script_config, script_events, bad_line};
 
@@ -12,4 +14,12 @@ pub fn scripts_are_read()
     ensures config { (text : List ℕ) (c : Config) (events : List Event) → IsScript text c events → script_config text ≡ Some c }
     ensures events { (text : List ℕ) (c : Config) (events : List Event) → IsScript text c events → script_events text ≡ events }
     ensures script { (text : List ℕ) (c : Config) → bad_line text ≡ None → script_config text ≡ Some c → IsScript text c (script_events text) }
+{}
+
+/// The words `rtxtool sim FILE` are taken and name that FILE, where it does not begin with a hyphen (45) or is one.
+pub fn command_lines_are_read()
+    ensures file { (name : List ℕ) (c : ℕ) (rest : List ℕ) → c ≢ 45 → file_said (name ∷ codes "sim" ∷ (c ∷ rest) ∷ []) ≡ Some (c ∷ rest) }
+    ensures taken { (name : List ℕ) (c : ℕ) (rest : List ℕ) → c ≢ 45 → takes tool (name ∷ codes "sim" ∷ (c ∷ rest) ∷ []) ≡ true }
+    ensures hyphen { (name : List ℕ) → file_said (name ∷ codes "sim" ∷ codes "-" ∷ []) ≡ Some (codes "-") }
+    ensures hyphen_taken { (name : List ℕ) → takes tool (name ∷ codes "sim" ∷ codes "-" ∷ []) ≡ true }
 {}

@@ -1,9 +1,11 @@
 //! Command lines that are taken, refused, or that ask for help.
 use crate::command_line::{Choice, ChooseFault, choose};
+use crate::laws::command_lines_are_read;
 use std::test::Fail;
 
 #[test]
 fn the_file_of_a_simulation(rt: HostRuntime) -> Result<(), Fail> {
+    command_lines_are_read();
     let lines: [(&[&str], &str); 3] = [
         (&["rtxtool", "sim", "a script"], "a script"),
         (&["rtxtool", "sim", "-"], "-"),
