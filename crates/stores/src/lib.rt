@@ -28,3 +28,5 @@ pub use window::Window;
 
 #[cfg(test)]
 mod tests;
+#[cfg(test)]
+mod window_tests;

@@ -5,12 +5,12 @@ use rtpwire::Content;
 use std::alloc::{AllocError, AllocFailed};
 use std::test::Fail;
 
-fn place(value: u64) -> Result<Place, Fail> {
+pub fn place(value: u64) -> Result<Place, Fail> {
     Ok(Place::new(value).ok_or("a place is below 2^48")?)
 }
 
 /// A content with a payload of this octet alone.
-fn content(octet: u8) -> Content {
+pub fn content(octet: u8) -> Content {
     let mut payload = ArrayVec::new();
     payload.push(octet);
     Content {
@@ -35,7 +35,7 @@ fn missing(noticed: u64) -> Option<Slot> {
 }
 
 /// The front of the window, taken out.
-fn taken<W: Window>(window: &mut W) -> Option<Slot> {
+pub fn taken<W: Window>(window: &mut W) -> Option<Slot> {
     if window.front().is_some() {
         Some(window.take_front())
     } else {
@@ -87,7 +87,7 @@ fn due<W: Window>(window: &W, now: u64, retry: u64, asks: u8) -> ArrayVec<u64, 8
 }
 
 /// Counts an ask for the place, if the window takes one.
-fn asked<W: Window>(window: &mut W, place: Place, now: u64) -> bool {
+pub fn asked<W: Window>(window: &mut W, place: Place, now: u64) -> bool {
     let takes = match window.slot(place) {
         Some(Slot::Missing { asks, .. }) => *asks < 255,
         _ => false,
