@@ -207,7 +207,7 @@ fn the_last_place(rt: HostRuntime) -> Result<(), Fail> {
 /// With memory, `new` answers a window. Without, it answers `OutOfMemory`, and a window once there is
 /// memory again: `rt try --test --fail-alloc 1` runs that side.
 #[test]
-fn a_refused_allocation(rt: HostRuntime) -> Result<(), Fail> {
+fn a_refused_growth(rt: HostRuntime) -> Result<(), Fail> {
     let window = match ListWindow::new(rt.alloc(), 8192) {
         Ok(window) => window,
         Err(refused) => {

@@ -99,7 +99,7 @@ fn list_and_ring_answer_the_same(rt: HostRuntime) -> Result<(), Fail> {
 /// With memory, `new` answers a window. Without the first or the second piece of it, it answers `OutOfMemory`, and
 /// a window once there is memory again: `rt try --test --fail-alloc N` runs these sides.
 #[test]
-fn a_refused_ring(rt: HostRuntime) -> Result<(), Fail> {
+fn a_refused_growth_of_a_ring(rt: HostRuntime) -> Result<(), Fail> {
     let window = match RingWindow::new(rt.alloc(), 8192) {
         Ok(window) => window,
         Err(refused) => {
