@@ -27,6 +27,8 @@ pub use slot::{PutFault, Slot};
 pub use window::Window;
 
 #[cfg(test)]
+mod history_tests;
+#[cfg(test)]
 mod tests;
 #[cfg(test)]
 mod window_tests;

@@ -1,0 +1,187 @@
+//! The history as a list and as a ring, side by side: the same calls give the same answers.
+ghost use Rattle.std.specs.Prelude.{◌≡◌, ◌<◌, ◌≤◌, true, IsSome};
+ghost use Rattle.std.specs.Option.{ForSome};
+ghost use Rattle.stores.specs.Past.{next_of, entry_at};
+
+use super::*;
+use crate::tests::{content, place};
+use places::Place;
+use std::alloc::Global;
+use std::test::Fail;
+
+/// A history and the place that comes next, as a sender keeps them.
+#[derive(Drop)]
+struct Sending<H: History> {
+    history: H,
+    next: u64,
+    ghost follows: { ForSome (next_of (H.meaning history)) (λ place. next ≡ place) },
+}
+
+/// A history of this capacity, whose first place will be `first`.
+fn start<H: History>(alloc: Global, capacity: usize, first: u64) -> Result<Sending<H>, OutOfMemory>
+    requires nonzero { 0 < capacity }
+    requires limit { capacity ≤ 8192 }
+{
+    let history = H::new(alloc, capacity)?;
+    Ok(Sending {
+        history,
+        next: first,
+    })
+}
+
+/// Pushes a content with this octet at the next place.
+fn push<H: History>(sending: &mut Sending<H>, octet: u8) -> Result<(), Fail> {
+    let place = Place::new(sending.next).ok_or("a place is below 2^48")?;
+    sending.history.push(place, content(octet));
+    sending.next = place.value() + 1;
+    Ok(())
+}
+
+/// Whether this place has an entry: whether `find` answers the place for its number.
+fn has<H: History>(history: &H, place: Place) -> bool
+    ensures { result ≡ true → IsSome (entry_at (H.meaning history.now) place) }
+{
+    match history.find(place.number()) {
+        Some(found) => found == place,
+        None => false,
+    }
+}
+
+/// The octet, the repeats and the mark of the entry of this place, if there is one.
+fn entry<H: History>(history: &H, at: u64) -> Result<Option<(u8, u8, bool)>, Fail> {
+    let place = place(at)?;
+    if !has(history, place) {
+        return Ok(None);
+    }
+    let entry = history.get(place);
+    let octet = entry.content.payload.first().map_or(0, |octet| *octet);
+    Ok(Some((octet, entry.repeats, entry.marked)))
+}
+
+/// Marks the entry of this place, if there is one.
+fn mark<H: History>(sending: &mut Sending<H>, at: u64) -> Result<(), Fail> {
+    let place = place(at)?;
+    if has(&sending.history, place) {
+        sending.history.mark(place);
+    }
+    Ok(())
+}
+
+/// Counts a retransmission of the entry of this place, if there is one and it takes one more.
+fn repeat<H: History>(sending: &mut Sending<H>, at: u64) -> Result<(), Fail> {
+    let place = place(at)?;
+    if has(&sending.history, place) && sending.history.get(place).repeats < 255 {
+        sending.history.count_repeat(place);
+    }
+    Ok(())
+}
+
+/// Whether both have the same marks, and the same entry at each of these places.
+fn look_the_same<A: History, B: History>(
+    a: &A,
+    b: &B,
+    from: u64,
+    count: u64,
+) -> Result<bool, Fail> {
+    let mut same = a.least_marked() == b.least_marked();
+    for ahead in 0..count {
+        let at = from.saturating_add(ahead);
+        let number = place(at)?.number();
+        same = same && entry(a, at)? == entry(b, at)? && a.find(number) == b.find(number);
+    }
+    Ok(same)
+}
+
+/// Pushes, marks and repeats at both, past the capacity and round the ring.
+fn both_histories<A: History, B: History>(
+    a: &mut Sending<A>,
+    b: &mut Sending<B>,
+    capacity: u64,
+) -> Result<bool, Fail> {
+    let from = a.next.saturating_sub(2);
+    let mut same = look_the_same(&a.history, &b.history, from, 4)?;
+    for round in 0..4u8 {
+        for _ in 0..capacity.min(100) {
+            push(a, round)?;
+            push(b, round)?;
+        }
+        let last = a.next.saturating_sub(1);
+        let first = last.saturating_sub(capacity.min(99));
+        for at in [
+            last,
+            first,
+            first.saturating_add(1),
+            last.saturating_sub(capacity / 2),
+        ] {
+            mark(a, at)?;
+            mark(b, at)?;
+            same = same && look_the_same(&a.history, &b.history, first.saturating_sub(2), 6)?;
+        }
+        repeat(a, first)?;
+        repeat(b, first)?;
+        same = same
+            && look_the_same(
+                &a.history,
+                &b.history,
+                first.saturating_sub(2),
+                capacity.min(120),
+            )?;
+    }
+    Ok(same)
+}
+
+#[test]
+fn list_and_ring_answer_the_same(rt: HostRuntime) -> Result<(), Fail> {
+    for capacity in [1, 2, 63, 64, 65, 128, 8192] {
+        let mut list: Sending<ListHistory> = start(rt.alloc(), capacity, 131000).map_err(
+            |_| "memory is ample",
+        )?;
+        let mut ring: Sending<RingHistory> = start(rt.alloc(), capacity, 131000).map_err(
+            |_| "memory is ample",
+        )?;
+        assert!(rt; both_histories(&mut list, &mut ring, capacity as u64)?);
+    }
+    history_by_place();
+    Ok(())
+}
+
+#[test]
+fn a_history_from_start_to_end(rt: HostRuntime) -> Result<(), Fail> {
+    let mut sent: Sending<RingHistory> = start(rt.alloc(), 2, 65535).map_err(
+        |_| "memory is ample",
+    )?;
+    assert_eq!(rt; sent.history.find(65535), None);
+    push(&mut sent, 1)?;
+    push(&mut sent, 2)?;
+    assert_eq!(rt; sent.history.find(0), Place::new(65536));
+    mark(&mut sent, 65536)?;
+    mark(&mut sent, 65535)?;
+    assert_eq!(rt; sent.history.least_marked(), Place::new(65535));
+
+    // The third push drops the first entry, with its mark.
+    push(&mut sent, 3)?;
+    assert_eq!(rt; sent.history.find(65535), None);
+    assert_eq!(rt; sent.history.least_marked(), Place::new(65536));
+    repeat(&mut sent, 65536)?;
+    assert_eq!(rt; sent.history.least_marked(), None);
+    assert_eq!(rt; entry(&sent.history, 65536)?, Some((2, 1, false)));
+    assert_eq!(rt; entry(&sent.history, 65537)?, Some((3, 0, false)));
+    assert_eq!(rt; entry(&sent.history, 65535)?, None);
+    Ok(())
+}
+
+/// With memory, `new` answers a history. Without any piece of it, it answers `OutOfMemory`, and a history once there
+/// is memory again: `rt try --test --fail-alloc N` runs these sides.
+#[test]
+fn a_refused_growth_of_a_history(rt: HostRuntime) -> Result<(), Fail> {
+    let list = match ListHistory::new(rt.alloc(), 8192) {
+        Ok(list) => list,
+        Err(_) => ListHistory::new(rt.alloc(), 8192).map_err(|_| "memory is back")?,
+    };
+    let ring = match RingHistory::new(rt.alloc(), 8192) {
+        Ok(ring) => ring,
+        Err(_) => RingHistory::new(rt.alloc(), 8192).map_err(|_| "memory is back")?,
+    };
+    assert_eq!(rt; list.find(0), ring.find(0));
+    Ok(())
+}
