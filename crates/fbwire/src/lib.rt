@@ -15,6 +15,3 @@ pub use fault::FeedbackFault;
 pub use nack::{NackView, Pair, nack_is_determined, write_nack};
 pub use numbers::{Numbers, Pairs};
 pub use packing::{can_pack, pack, packing_is_determined};
-
-#[cfg(test)]
-mod tests;

@@ -9,8 +9,6 @@ mod event_line;
 mod log_text;
 mod numbers;
 mod octets;
-#[cfg(test)]
-mod tests;
 mod words;
 
 pub use config_line::parse_config;

@@ -7,6 +7,3 @@ mod place;
 
 pub use nearness::{PlaceFault, near, near_is_determined};
 pub use place::Place;
-
-#[cfg(test)]
-mod tests;

@@ -27,10 +27,3 @@ pub use retransmission::{RtxView, write_repair};
 pub use rtp::RtpView;
 pub use session::Session;
 pub use write::write_media;
-
-#[cfg(test)]
-mod framing_tests;
-#[cfg(test)]
-mod retransmission_tests;
-#[cfg(test)]
-mod tests;

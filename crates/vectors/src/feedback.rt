@@ -1,5 +1,5 @@
-use super::*;
 use arrayvec::ArrayVec;
+use fbwire::*;
 use places::Place;
 use rtpwire::Datagram;
 use std::test::Fail;

@@ -1,4 +1,4 @@
-use super::*;
+use rtpwire::*;
 use std::test::Fail;
 
 /// A media packet, a feedback packet and an empty datagram, each behind its length.

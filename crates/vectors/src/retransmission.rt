@@ -1,5 +1,5 @@
-use super::*;
 use arrayvec::ArrayVec;
+use rtpwire::*;
 use std::test::Fail;
 
 const MEDIA_SSRC: u32 = 0x11111111;

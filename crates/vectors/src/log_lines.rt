@@ -1,5 +1,5 @@
-use crate::log_text::push_entry;
 use arrayvec::ArrayVec;
+use lines::push_entry;
 use places::{Place, PlaceFault};
 use receiver::{Played, ReceiveFault, Taken};
 use rtpwire::{Content, ContentFault, Datagram, Extension, RtpFault};

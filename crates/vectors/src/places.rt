@@ -1,4 +1,4 @@
-use super::*;
+use places::*;
 use std::test::Fail;
 
 fn place(value: u64) -> Result<Place, Fail> {

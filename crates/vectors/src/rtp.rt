@@ -1,7 +1,7 @@
 ghost use Rattle.std.specs.Prelude.{◌+◌, ◌≤◌, length};
 
-use super::*;
 use arrayvec::ArrayVec;
+use rtpwire::*;
 use std::test::Fail;
 
 const SSRC: u32 = 0x11111111;

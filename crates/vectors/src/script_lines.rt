@@ -1,6 +1,5 @@
-use crate::config_line::parse_config;
-use crate::event_line::parse_event;
 use arrayvec::ArrayVec;
+use lines::{parse_config, parse_event};
 use rtpwire::{Content, Datagram, Extension, Session};
 use std::alloc::{AllocError, Global};
 use std::test::Fail;

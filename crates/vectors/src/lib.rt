@@ -1,0 +1,18 @@
+//! Test vectors: inputs and answers from outside, the standards' and the project's own, through the public calls of
+//! each crate. There is no code in it. It is a crate of its own since a crate that has tests is proved twice.
+#![tactic(auto)]
+
+#[cfg(test)]
+mod feedback;
+#[cfg(test)]
+mod framing;
+#[cfg(test)]
+mod log_lines;
+#[cfg(test)]
+mod places;
+#[cfg(test)]
+mod retransmission;
+#[cfg(test)]
+mod rtp;
+#[cfg(test)]
+mod script_lines;
