@@ -23,7 +23,7 @@ pub use laws::{
 };
 pub use limits::{MAX_DATAGRAM, MAX_FRAME, MAX_HEADER, MAX_PAYLOAD, MAX_SOURCES, MAX_WORDS};
 pub use octets::{push_octets, push_u16, push_u32, u16_at, u32_at};
-pub use retransmission::{RtxView, write_repair};
+pub use retransmission::{RtxView, write_repair, write_repair_to};
 pub use rtp::RtpView;
 pub use session::Session;
-pub use write::write_media;
+pub use write::{write_media, write_media_to};

@@ -103,8 +103,25 @@ pub fn write_repair(
     ensures fits { length result.items ≤ MAX_HEADER + 2 + MAX_PAYLOAD }
 {
     let mut out = Datagram::new();
-    push_header(&mut out, content, 0, sequence, payload_type, ssrc);
-    push_u16(&mut out, original);
-    push_octets(&mut out, &content.payload);
+    write_repair_to(&mut out, content, original, sequence, payload_type, ssrc);
     out
+}
+
+/// The same retransmission in a datagram that the caller lends, whatever it held.
+pub fn write_repair_to(
+    out: &mut Datagram,
+    content: &Content,
+    original: u16,
+    sequence: u16,
+    payload_type: u8,
+    ssrc: u32,
+)
+    requires { payload_type < 128 }
+    ensures spells { RepairSpells content.now original sequence payload_type ssrc out.new.items }
+    ensures fits { length out.new.items ≤ MAX_HEADER + 2 + MAX_PAYLOAD }
+{
+    out.clear();
+    push_header(out, content, 0, sequence, payload_type, ssrc);
+    push_u16(out, original);
+    push_octets(out, &content.payload);
 }

@@ -29,10 +29,30 @@ pub fn write_media(
     ensures fits { length result.items ≤ MAX_HEADER + MAX_PAYLOAD + 255 }
 {
     let mut out = Datagram::new();
-    push_header(&mut out, content, padding, sequence, payload_type, ssrc);
-    push_octets(&mut out, &content.payload);
-    push_padding(&mut out, padding);
+    write_media_to(&mut out, content, padding, sequence, payload_type, ssrc);
     out
+}
+
+/// The same packet in a datagram that the caller lends, whatever it held. One that is lent again and again is blanked
+/// once, when it is made, and not for each packet.
+pub fn write_media_to(
+    out: &mut Datagram,
+    content: &Content,
+    padding: u8,
+    sequence: u16,
+    payload_type: u8,
+    ssrc: u32,
+)
+    requires payload_type { payload_type < 128 }
+    requires padding { 0 < padding → 0 < length content.now.payload.items }
+    ensures spells { RtpSpells (packet_of content.now padding sequence payload_type ssrc) out.new.items }
+    ensures written { out.new.items ≡ written (packet_of content.now padding sequence payload_type ssrc) }
+    ensures fits { length out.new.items ≤ MAX_HEADER + MAX_PAYLOAD + 255 }
+{
+    out.clear();
+    push_header(out, content, padding, sequence, payload_type, ssrc);
+    push_octets(out, &content.payload);
+    push_padding(out, padding);
 }
 
 /// Writes all that stands before a payload. Of the padding it only matters whether there is any.

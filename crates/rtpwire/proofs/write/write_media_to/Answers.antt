@@ -2,7 +2,7 @@ use Rattle.std.proofs.Common.{◌≡◌, List, ℕ, subst, sym, rules}
 use Rattle.rtpwire.specs.Rtp.{RtpSpells, written}
 use Rattle.rtpwire.specs.Content.{packet_of}
 use Rattle.rtpwire.proofs.Written.{written-spelled}
-use Rattle.rtpwire.proofs.write.write_media.Goals as goal
+use Rattle.rtpwire.proofs.write.write_media_to.Goals as goal
 
 pub returns-clause-spells : goal.returns-clause-spells
 returns-clause-spells c =
