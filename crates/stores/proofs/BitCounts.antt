@@ -5,7 +5,7 @@ use Rattle.std.proofs.lemmas.Bool.{cond_both, eqb-true, eqb-false}
 use Rattle.std.proofs.lemmas.Bool.Decides.{nat_tests}
 use Rattle.std.proofs.lemmas.Nat.Bits.{bit_at-zero}
 use Rattle.std.specs.Int.{bit_at}
-use Rattle.stores.specs.Bits.{is_set, bits_of, size_of}
+use Rattle.stores.specs.Bits.{is_set, bits_of, turned, is_member, size_of}
 use Rattle.stores.proofs.Passing.{passing}
 
 weight : Bool → ℕ
@@ -21,6 +21,11 @@ weight_within : (b : Bool) → weight b ≤ 1
 unfolding weight
 weight_within true = omega arith
 weight_within false = omega arith
+
+weightless : (b : Bool) → weight b ≡ 0 → b ≡ false
+unfolding weight
+weightless true e = absurd (omega arith)
+weightless false e = refl
 
 one_more : (test : ℕ → Bool) (a n : ℕ) → length (passing test a (suc n)) ≡ weight (test a) + length (passing test (a + 1) n)
 one_more test a n = weighed (test a) a (passing test (a + 1) n)
@@ -104,3 +109,24 @@ few_pass test a (suc n) =
 pub size_of_within : (words : List ℕ) → size_of words ≤ bits_of words
 unfolding size_of
 size_of_within words = few_pass (is_set words) 0 (bits_of words)
+
+none_counted : (test : ℕ → Bool) (a n q : ℕ) → length (passing test a n) ≡ 0 → a ≤ q → q < a + n → test q ≡ false
+unfolding weight
+none_counted test a zero q none above below = absurd (omega arith)
+none_counted test a (suc n) q none above below =
+    let one = one_more test a n in
+    cond_both (a == q) true false (λ _. test q ≡ false)
+    (λ e. let at : a ≡ q = eqb-true a q e in
+    ap test (sym at) ∙ weightless (test a) (omega arith))
+    (λ e. let apart : a ≢ q = eqb-false a q e in
+    none_counted test (a + 1) n q (omega arith) (omega arith) (omega arith))
+
+turned_within : (bound front p : ℕ) → front < bound → p < bound → turned bound front p < bound
+turned_within bound front p f b = grind (arith, nat_tests)
+
+-- an empty set has no position
+pub no_member : (words : List ℕ) (front p : ℕ) → size_of words ≡ 0 → front < bits_of words → p < bits_of words → is_member words front p ≡ false
+unfolding size_of
+no_member words front p none within below =
+    let inside = turned_within (bits_of words) front p within below in
+    none_counted (is_set words) 0 (bits_of words) (turned (bits_of words) front p) none (omega arith) (omega arith)

@@ -16,3 +16,4 @@ pub mod BitWords
 pub mod SetOfItems
 pub mod EntryIndex
 pub mod MissingIndex
+pub mod Determined

@@ -88,7 +88,7 @@ impl Bits {
     }
 
     /// The least position of the set that is not below this one. It passes 64 positions at a time where the set
-    /// has none of them.
+    /// has none of them, and all at once where it is empty.
     pub fn first(&self, from: usize) -> Option<usize>
         requires { from ≤ bits_of self.now.words.items }
         ensures { MatchOption result
@@ -96,6 +96,9 @@ impl Bits {
             (λ first. (from ≤ first) × (first < bits_of self.now.words.items) × (is_member self.now.words.items self.now.front first ≡ true)
             × ((p : ℕ) → from ≤ p → p < first → is_member self.now.words.items self.now.front p ≡ false)) }
     {
+        if self.count == 0 {
+            return None;
+        }
         let words = self.words.as_slice();
         let bound = 64 * words.len();
         let above = bound - self.front;

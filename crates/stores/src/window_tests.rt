@@ -93,6 +93,7 @@ fn list_and_ring_answer_the_same(rt: HostRuntime) -> Result<(), Fail> {
         let mut ring = RingWindow::new(rt.alloc(), capacity).map_err(|_| "memory is ample")?;
         assert!(rt; both_windows(&mut list, &mut ring, capacity as u64)?);
     }
+    answers_are_determined();
     Ok(())
 }
 
