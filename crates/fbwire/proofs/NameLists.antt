@@ -117,3 +117,25 @@ list_names nacks n = (
     to_list [] nack among named = absurd among
     to_list (m ∷ nacks) nack (inl e) named = inl (subst (λ (x : Nack). Names x.pairs n) e named)
     to_list (m ∷ nacks) nack (inr among) named = inr (to_list nacks nack among named)
+
+-- a list of NACKs names a number, or it does not
+
+is_or_not : (xs : List ℕ) (x : ℕ) → IsAmong xs x ⊎ (IsAmong xs x → ⊥)
+is_or_not [] x = inr (λ among. among)
+is_or_not (y ∷ ys) x = elim (cases_eq x y) [
+  | inl e ↦ inl (inl e)
+  | inr other ↦ elim (is_or_not ys x) [
+    | inl rest ↦ inl (inr rest)
+    | inr none ↦ inr (λ among. elim among [ inl e ↦ other e | inr rest ↦ none rest ])
+  ]
+]
+
+pub names_or_not : (nacks : List Nack) (n : ℕ) → NacksName nacks n ⊎ (NacksName nacks n → ⊥)
+names_or_not [] n = inr (λ named. named)
+names_or_not (nack ∷ nacks) n = elim (is_or_not (numbers_of nack.pairs) n) [
+  | inl here ↦ inl (inl (among_names nack.pairs n here))
+  | inr not_here ↦ elim (names_or_not nacks n) [
+    | inl there ↦ inl (inr there)
+    | inr not_there ↦ inr (λ named. elim named [ inl names ↦ not_here (names_among nack.pairs n names) | inr rest ↦ not_there rest ])
+  ]
+]

@@ -1,5 +1,5 @@
 //! Reading a compound datagram.
-ghost use Rattle.std.specs.Prelude.{◌≡◌, ◌↔◌, ◌<◌, ℕ, Contains, List, [], ◌∷◌, None, length, IfOk, IfErr, MatchResult, MatchOption};
+ghost use Rattle.std.specs.Prelude.{◌≡◌, ◌↔◌, ◌⊎◌, ◌<◌, ℕ, Contains, List, [], ◌∷◌, None, length, IfOk, IfErr, MatchResult, MatchOption};
 ghost use Rattle.std.specs.Iterator.{YieldsFirst, item_count};
 ghost use Rattle.fbwire.specs.Nack.{Nack, NackSpells, Names};
 ghost use Rattle.fbwire.specs.Compound.{CompoundSpells, NacksName};
@@ -159,4 +159,7 @@ pub fn compound_is_determined()
     // A list of NACKs names the numbers that one of them names.
     ensures names { (nacks : List Nack) (number : ℕ) → NacksName nacks number
         ↔ ((nack : Nack) × Contains nacks nack × Names nack.pairs number) }
+
+    // It names a number, or it does not: which of the two can be told.
+    ensures decided { (nacks : List Nack) (number : ℕ) → NacksName nacks number ⊎ (NacksName nacks number → ⊥) }
 {}

@@ -1,4 +1,4 @@
-use Rattle.fbwire.proofs.NameLists.{list_names}
+use Rattle.fbwire.proofs.NameLists.{list_names, names_or_not}
 use Rattle.fbwire.proofs.Walks.{one_list, one_fault, not_both, alone}
 use Rattle.fbwire.proofs.compound.compound_is_determined.Goals as goal
 
@@ -16,3 +16,6 @@ returns-clause-alone c = alone
 
 pub returns-clause-names : goal.returns-clause-names
 returns-clause-names c = list_names
+
+pub returns-clause-decided : goal.returns-clause-decided
+returns-clause-decided c = names_or_not
