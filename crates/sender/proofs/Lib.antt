@@ -1,0 +1,5 @@
+pub mod Keeping
+pub mod Stepping
+pub mod Listed
+pub mod MarkedNumbers
+pub mod Named

@@ -1,0 +1,52 @@
+-- What a sender answers to feedback, by the NACKs that its octets spell. The checks come in this order: the
+-- octets (11 to 17), and then NACK by NACK, in the datagram's order, the media SSRC (18) and the reporter's
+-- (19). A refusal changes nothing.
+use Rattle.std.specs.Prelude.{◌≡◌, ℕ, ◌==◌, List, [], ◌∷◌, Option, Some, None, Result, Ok, Err, if◌then◌else◌}
+use Rattle.rtpwire.specs.Session.{Streams}
+use Rattle.fbwire.specs.declared.fault.FeedbackFault.{FeedbackFault}
+use Rattle.fbwire.specs.declared.fault.FeedbackFault.TheVariants.{WrongMedia, WrongReporter}
+use Rattle.fbwire.specs.Nack.{Nack}
+use Rattle.fbwire.specs.Compound.{CompoundSpells, NacksName}
+use Rattle.fbwire.specs.CompoundChecks.{IsRefused}
+use Rattle.sender.specs.declared.answer.Marked.{Marked}
+use Rattle.sender.specs.Config.{Config}
+use Rattle.sender.specs.History.{History, Marks}
+
+-- What is wrong with the first NACK that is not from this session's receiver on its media: the SSRC of the media
+-- source, or else that of the packet's sender (RFC 4585, section 6.1).
+abbrev pub first_wrong : Streams → List Nack → Option FeedbackFault
+first_wrong s [] = None
+first_wrong s (nack ∷ nacks) =
+    if nack.media == s.media_ssrc
+    then (if nack.reporter == s.receiver_ssrc then first_wrong s nacks else Some WrongReporter)
+    else Some WrongMedia
+
+-- what octets say: the NACKs of a compound datagram, or the fault that decides
+abbrev pub Says : List ℕ → Result (List Nack) FeedbackFault → Type 0
+Says octets (Ok nacks) = CompoundSpells nacks octets
+Says octets (Err fault) = IsRefused octets fault
+
+-- the numbers that all the NACKs name are marked
+abbrev pub MarksNamed : Config → History → List Nack → Result Marked FeedbackFault → History → Type 0
+MarksNamed c old nacks (Ok marked) new = Marks c.repeats (NacksName nacks) old marked.places new
+MarksNamed c old nacks (Err fault) new = ⊥
+
+abbrev pub HearsNacks : Config → History → List Nack → Option FeedbackFault → Result Marked FeedbackFault → History → Type 0
+HearsNacks c old nacks None answer new = MarksNamed c old nacks answer new
+HearsNacks c old nacks (Some fault) answer new = (answer ≡ Err fault) × (new ≡ old)
+
+abbrev pub HearsSaid : Config → History → Result (List Nack) FeedbackFault → Result Marked FeedbackFault → History → Type 0
+HearsSaid c old (Ok nacks) answer new = HearsNacks c old nacks (first_wrong c.session nacks) answer new
+HearsSaid c old (Err fault) answer new = (answer ≡ Err fault) × (new ≡ old)
+
+-- One datagram at a sender.
+pub record HearsFeedback (c : Config) (old : History) (octets : List ℕ) (answer : Result Marked FeedbackFault) (new : History) : Type 0 where
+  pub said : Result (List Nack) FeedbackFault
+  pub says : Says octets said
+  pub heard : HearsSaid c old said answer new
+
+-- What follows for a caller that has no interest in octets: feedback marks for the numbers of some NACKs, or it is
+-- refused and changes nothing.
+abbrev pub MarksOrRefuses : Config → History → Result Marked FeedbackFault → History → Type 0
+MarksOrRefuses c old (Ok marked) new = (nacks : List Nack) × Marks c.repeats (NacksName nacks) old marked.places new
+MarksOrRefuses c old (Err fault) new = new ≡ old

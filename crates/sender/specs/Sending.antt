@@ -1,0 +1,36 @@
+-- What a send answers, and the octets that it writes.
+use Rattle.std.specs.Prelude.{◌≡◌, ℕ, ◌^◌, ◌<◌, ◌≤◌, List, length, Result, Ok, Err}
+use Rattle.arrayvec.specs.ArrayVec.{ArrayVec}
+use Rattle.places.specs.Place.{number}
+use Rattle.rtpwire.specs.declared.content.Content.{Content}
+use Rattle.rtpwire.specs.Rtp.{RtpPacket, RtpSpells, written}
+use Rattle.rtpwire.specs.Content.{packet_of, IsTooLong}
+use Rattle.rtpwire.specs.Session.{Streams}
+use Rattle.sender.specs.declared.fault.SendFault.{SendFault}
+use Rattle.sender.specs.declared.fault.SendFault.TheVariants.{PaddedEmpty, Exhausted}
+use Rattle.sender.specs.History.{History, Sends}
+
+-- padding stands only behind a payload (RFC 3550, section 5.1, leaves it open)
+abbrev pub CanBePadded : Content → ℕ → Type 0
+CanBePadded content padding = 0 < padding → 0 < length content.payload.items
+
+-- the media packet of a place
+abbrev pub media_packet : Streams → Content → (padding place : ℕ) → RtpPacket
+media_packet s content padding place = packet_of content padding (number place) s.media_type s.media_ssrc
+
+-- A content is sent at the next place: the octets spell its packet, with zeros for padding.
+pub record SendsAt (s : Streams) (room : ℕ) (old : History) (content : Content) (padding place : ℕ) (octets : List ℕ) (new : History) : Type 0 where
+  pub place_is : place ≡ old.next
+  pub fits : place < 2 ^ 48
+  pub padded : CanBePadded content padding
+  pub holds : IsTooLong (media_packet s content padding place) → ⊥  -- a receiver's content can hold it
+  pub spells : RtpSpells (media_packet s content padding place) octets
+  pub written_so : octets ≡ written (media_packet s content padding place)
+  pub sends : Sends room old content new
+
+-- What a send answers: padding without a payload (44), no place left (45), or a packet. A refusal changes
+-- nothing.
+abbrev pub SendsAny : Streams → (room : ℕ) → History → Content → (padding : ℕ) → Result (ℕ × ArrayVec ℕ) SendFault → History → Type 0
+SendsAny s room old content padding (Ok sent) new = SendsAt s room old content padding sent.0 sent.1.items new
+SendsAny s room old content padding (Err PaddedEmpty) new = (CanBePadded content padding → ⊥) × (new ≡ old)
+SendsAny s room old content padding (Err Exhausted) new = CanBePadded content padding × (2 ^ 48 ≤ old.next) × (new ≡ old)

@@ -1,0 +1,83 @@
+ghost use Rattle.std.specs.Prelude.{◌≡◌, ◌↔◌, IsOk, IfOk, OnErr};
+ghost use Rattle.sender.specs.Config.{IsConfig, config};
+
+use rtpwire::{ConfigFault, Session};
+use std::marker::Model;
+
+/// How a sender works: its session, the numbers that its two streams begin with, and how often it retransmits
+/// one packet.
+#[derive(Clone, Copy, Debug, PartialEq, Eq)]
+pub struct SenderConfig {
+    session: Session,
+    first: u16,
+    repair_first: u16,
+    repeats: u8,
+}
+
+impl Model for SenderConfig {
+    ghost use Rattle.sender.specs.Config.{Config, IsConfig, config};
+
+    ghost Value = { Config };
+
+    ghost view = { λ c. config c.session c.first c.repair_first c.repeats };
+
+    ghost invariant = { λ c. IsConfig (config c.session c.first c.repair_first c.repeats) };
+
+    ghost inverse = { λ c. record { session = c.session; first = c.first; repair_first = c.repair_first; repeats = c.repeats } };
+}
+
+impl SenderConfig {
+    /// A sender of this session. Its first packet has the sequence number `first`, its first retransmission
+    /// `repair_first`, and each packet is retransmitted at most `repeats` times.
+    ///
+    /// `BadLimit` (53), and no other: `repeats` is 0.
+    pub fn new(
+        session: Session,
+        first: u16,
+        repair_first: u16,
+        repeats: u8,
+    ) -> Result<SenderConfig, ConfigFault>
+        ensures ok { IfOk result (λ made. made ≡ config session first repair_first repeats) }
+        ensures succeeds { IsOk result ↔ IsConfig (config session first repair_first repeats) }
+        ensures err { OnErr result (result ≡ Err ConfigFault.BadLimit) }
+    {
+        if repeats == 0 {
+            return Err(ConfigFault::BadLimit);
+        }
+        Ok(SenderConfig {
+            session,
+            first,
+            repair_first,
+            repeats,
+        })
+    }
+
+    /// The session whose streams it sends.
+    pub fn session(&self) -> Session
+        ensures { result ≡ self.now.session }
+    {
+        self.session
+    }
+
+    /// The sequence number of the first packet.
+    pub fn first(&self) -> u16
+        ensures { result ≡ self.now.first }
+    {
+        self.first
+    }
+
+    /// The sequence number of the first retransmission.
+    pub fn repair_first(&self) -> u16
+        ensures { result ≡ self.now.repair_first }
+    {
+        self.repair_first
+    }
+
+    /// How often one packet is retransmitted at most: 1 to 255 times.
+    pub fn repeats(&self) -> u8
+        ensures value { result ≡ self.now.repeats }
+        ensures is_config { IsConfig self.now }
+    {
+        self.repeats
+    }
+}

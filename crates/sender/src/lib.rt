@@ -1,0 +1,16 @@
+//! The sending end of a session: it numbers what is sent, keeps the latest of it, and retransmits what feedback asks for.
+#![tactic(auto)]
+
+mod answer;
+mod config;
+mod fault;
+mod marking;
+mod sender;
+
+pub use answer::Marked;
+pub use config::SenderConfig;
+pub use fault::SendFault;
+pub use sender::Sender;
+
+#[cfg(test)]
+mod tests;
