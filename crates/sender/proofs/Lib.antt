@@ -3,3 +3,5 @@ pub mod Stepping
 pub mod Listed
 pub mod MarkedNumbers
 pub mod Named
+pub mod SameSteps
+pub mod SameMarks

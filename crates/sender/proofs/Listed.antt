@@ -1,5 +1,5 @@
 -- The places of a run that pass a test are listed by a filter, and counted so.
-use Rattle.std.proofs.Common.{◌≡◌, ℕ, zero, suc, ◌+◌, ◌<◌, ◌≤◌, ◌==◌, ◌&&◌, Bool, true, false, cond, nat_lt, nat_le, List, [], ◌∷◌, length, ap, sym, ◌∙◌, refl, arith, ◌≢◌, inl, inr, eq-eqb}
+use Rattle.std.proofs.Common.{◌≡◌, ℕ, zero, suc, ◌+◌, ◌<◌, ◌≤◌, ◌==◌, ◌&&◌, Bool, true, false, cond, nat_lt, nat_le, List, ◌∷◌, length, ap, ◌∙◌, refl, arith, ◌≢◌, inl, inr, eq-eqb}
 use Rattle.std.specs.List.{filter, range_with_len, list_any}
 use Rattle.std.specs.List.Sorted.{IsStrictlyIncreasing}
 use Rattle.std.proofs.lemmas.Bool.{eqb-true, cases_Bool, cases_eq}

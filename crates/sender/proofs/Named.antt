@@ -1,14 +1,14 @@
 -- The numbers that NACKs name, as a set and as a list.
-use Rattle.std.proofs.Common.{◌≡◌, ◌↔◌, ℕ, zero, suc, ◌<◌, ◌⊎◌, ◌==◌, ◌||◌, Bool, true, false, List, [], ◌∷◌, ◌++◌, refl, sym, ap, ◌∙◌, arith, eq-eqb, inl, inr}
+use Rattle.std.proofs.Common.{◌≡◌, ◌↔◌, ℕ, zero, suc, ◌⊎◌, ◌==◌, ◌||◌, Bool, true, false, List, [], ◌∷◌, refl, sym, ◌∙◌, arith, eq-eqb, inl, inr}
 use Rattle.std.specs.List.{Contains}
-use Rattle.std.proofs.lemmas.Bool.{eqb-true, cases_Bool}
+use Rattle.std.proofs.lemmas.Bool.{eqb-true}
 use Rattle.std.proofs.lemmas.List.Folds.{list_any-append}
 use Rattle.fbwire.specs.declared.nack.Pair.{Pair}
 use Rattle.fbwire.specs.Nack.{Nack, Names, numbers_of}
 use Rattle.fbwire.specs.Compound.{NacksName}
 use Rattle.sender.specs.Marking.{is_among, all_numbers}
 
-or_left : (a b : Bool) → a ≡ true → (a || b) ≡ true
+pub or_left : (a b : Bool) → a ≡ true → (a || b) ≡ true
 or_left true b e = refl
 or_left false b e = absurd (cc)
 
@@ -16,7 +16,7 @@ or_right : (a b : Bool) → b ≡ true → (a || b) ≡ true
 or_right true b e = refl
 or_right false b e = e
 
-or_cases : (a b : Bool) → (a || b) ≡ true → (a ≡ true) ⊎ (b ≡ true)
+pub or_cases : (a b : Bool) → (a || b) ≡ true → (a ≡ true) ⊎ (b ≡ true)
 or_cases true b e = inl refl
 or_cases false b e = inr e
 
@@ -25,7 +25,7 @@ among_contained [] n (k, within, is) = absurd (omega arith)
 among_contained (x ∷ xs) n (zero, within, is) = or_left _ _ (eq-eqb x n is)
 among_contained (x ∷ xs) n (suc k, within, is) = or_right _ _ (among_contained xs n (k, omega arith, is))
 
-contained_among : (xs : List ℕ) (n : ℕ) → is_among xs n ≡ true → Contains xs n
+pub contained_among : (xs : List ℕ) (n : ℕ) → is_among xs n ≡ true → Contains xs n
 contained_among [] n among = absurd (cc)
 contained_among (x ∷ xs) n among = elim (or_cases (x == n) (is_among xs n) among) [
   | inl here ↦ (zero, omega arith, eqb-true _ _ here)

@@ -5,7 +5,7 @@ use Rattle.std.specs.Prelude.{◌≡◌, ℕ, ◌==◌, List, [], ◌∷◌, Opt
 use Rattle.rtpwire.specs.Session.{Streams}
 use Rattle.fbwire.specs.declared.fault.FeedbackFault.{FeedbackFault}
 use Rattle.fbwire.specs.declared.fault.FeedbackFault.TheVariants.{WrongMedia, WrongReporter}
-use Rattle.fbwire.specs.Nack.{Nack}
+use Rattle.fbwire.specs.Nack.{Nack, Names}
 use Rattle.fbwire.specs.Compound.{CompoundSpells, NacksName}
 use Rattle.fbwire.specs.CompoundChecks.{IsRefused}
 use Rattle.sender.specs.declared.answer.Marked.{Marked}
@@ -44,6 +44,11 @@ pub record HearsFeedback (c : Config) (old : History) (octets : List ℕ) (answe
   pub said : Result (List Nack) FeedbackFault
   pub says : Says octets said
   pub heard : HearsSaid c old said answer new
+
+-- one NACK's numbers are marked
+abbrev pub MarksAlone : Config → History → Nack → Result Marked FeedbackFault → History → Type 0
+MarksAlone c old nack (Ok marked) new = Marks c.repeats (Names nack.pairs) old marked.places new
+MarksAlone c old nack (Err fault) new = ⊥
 
 -- What follows for a caller that has no interest in octets: feedback marks for the numbers of some NACKs, or it is
 -- refused and changes nothing.

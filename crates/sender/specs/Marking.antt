@@ -1,6 +1,6 @@
 -- What feedback leaves of a history, said by the list of the numbers that were marked for so far. The private
 -- calls promise it to one another; callers see `Marks`.
-use Rattle.std.specs.Prelude.{◌≡◌, ℕ, ◌==◌, Bool, true, false, nat_lt, List, length, Option, Some, None, if◌then◌else◌}
+use Rattle.std.specs.Prelude.{◌≡◌, ℕ, ◌==◌, Bool, nat_lt, List, length, Option, Some, None, if◌then◌else◌}
 use Rattle.std.specs.List.{filter, flat_map, list_any, range_with_len}
 use Rattle.std.specs.Option.{option_map}
 use Rattle.places.specs.Place.{number}

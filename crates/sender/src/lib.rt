@@ -4,12 +4,14 @@
 mod answer;
 mod config;
 mod fault;
+mod laws;
 mod marking;
 mod sender;
 
 pub use answer::Marked;
 pub use config::SenderConfig;
 pub use fault::SendFault;
+pub use laws::{feedback_is_determined, repairing_is_determined, sending_is_determined};
 pub use sender::Sender;
 
 #[cfg(test)]

@@ -136,11 +136,12 @@ impl<H: History> Sender<H> {
     {
         history_by_place();
         let place = self.history.least_marked()?;
+        let original = place.number();
         let session = self.config.session();
         let entry = self.history.get(place);
         let datagram = write_repair(
             &entry.content,
-            place.number(),
+            original,
             self.repair,
             session.repair_type(),
             session.repair_ssrc(),

@@ -134,6 +134,9 @@ fn configurations(rt: HostRuntime) -> Result<(), Fail> {
     assert_eq!(rt; config.first(), 65535);
     assert_eq!(rt; config.repair_first(), 5);
     assert_eq!(rt; config.repeats(), 1);
+    sending_is_determined();
+    feedback_is_determined();
+    repairing_is_determined();
     Ok(())
 }
 

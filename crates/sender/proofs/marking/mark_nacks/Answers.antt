@@ -1,4 +1,4 @@
-use Rattle.std.proofs.Common.{◌≡◌, ℕ, ◌+◌, ◌<◌, ◌≤◌, List, [], ◌∷◌, ◌++◌, sym, ap, subst, ◌∙◌, arith, append-nil, append_assoc, refl}
+use Rattle.std.proofs.Common.{◌≡◌, ℕ, ◌+◌, List, [], ◌∷◌, ◌++◌, sym, ap, subst, ◌∙◌, arith, append-nil, append_assoc}
 use Rattle.fbwire.specs.Nack.{Nack, numbers_of}
 use Rattle.sender.specs.Marking.{MarksNumbers, all_numbers}
 use Rattle.sender.proofs.MarkedNumbers.{marks_none, marks_more, few}

@@ -1,5 +1,4 @@
-use Rattle.std.proofs.Common.{rules, ◌≡◌, ◌≤◌, ◌⊎◌, true, sym, inl, inr}
-use Rattle.stores.specs.Past.{entry_at}
+use Rattle.std.proofs.Common.{rules, sym, inl, inr}
 use Rattle.sender.proofs.MarkedNumbers.{Laws, marks_no_such, marks_no_more, marks_one}
 use Rattle.sender.proofs.marking.mark_number.Goals.{then-entry-via-then-entry, then-entry-via-else-entry+then-entry-repeats}
 use Rattle.sender.proofs.marking.mark_number.Goals as goal

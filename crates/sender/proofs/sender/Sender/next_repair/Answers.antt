@@ -1,6 +1,4 @@
-use Rattle.std.proofs.Common.{rules, ◌≡◌, ◌∙◌, sym, true, arith}
-use Rattle.stores.specs.Past.{entry_at}
-use Rattle.stores.specs.PastByPlace.{is_marked}
+use Rattle.std.proofs.Common.{◌∙◌, sym}
 use Rattle.sender.proofs.Keeping.{repeat_keeps}
 use Rattle.sender.proofs.sender.Sender.next_repair.Goals as goal
 
