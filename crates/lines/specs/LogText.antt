@@ -13,7 +13,7 @@ use Rattle.world.specs.declared.event.Answer.TheVariants.{Taken, Refused}
 use Rattle.world.specs.declared.event.Entry.{Entry}
 use Rattle.world.specs.declared.event.Entry.TheVariants.{Sent, SendRefused, Nothing, Delivered, Injected, Played}
 use Rattle.world.specs.Answers.{Item}
-use Rattle.world.specs.Fault.{send_number}
+use Rattle.sender.specs.Fault.{send_number}
 use Rattle.lines.specs.ContentText.{octets_text, sources_text, extension_text, marker_text}
 
 -- words, with one space between them and a line feed behind the last

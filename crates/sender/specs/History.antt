@@ -15,6 +15,10 @@ pub record History : Type 0 where
   pub repair : ℕ  -- the sequence number that the next retransmission gets
   pub entries : ℕ → Option HistoryEntry
 
+-- a sender that sent nothing: its first place is one cycle of 65536 above its first sequence number
+abbrev pub new_history : (first repair_first : ℕ) → History
+new_history first repair_first = record { next = 65536 + first; repair = repair_first; entries = λ q. None }
+
 -- A content is sent: the next place has its entry, neither repeated nor marked. There is room for so many
 -- entries, so those of places further below go, with their marks.
 pub record Sends (room : ℕ) (old : History) (content : Content) (new : History) : Type 0 where

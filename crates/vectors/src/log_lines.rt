@@ -3,10 +3,11 @@ use lines::push_entry;
 use places::{Place, PlaceFault};
 use receiver::{Played, ReceiveFault, Taken};
 use rtpwire::{Content, ContentFault, Datagram, Extension, RtpFault};
+use sender::SendFault;
 use std::process::Abort;
 use std::test::Fail;
 use stores::PutFault;
-use world::{Answer, End, Entry, Label, SendFault};
+use world::{Answer, End, Entry, Label};
 
 /// The greatest place.
 const LAST: u64 = 281474976710655;

@@ -5,6 +5,8 @@ use Rattle.std.proofs.lemmas.Option.{none-some, same_Some}
 use Rattle.rtpwire.specs.declared.content.Content.{Content}
 use Rattle.rtpwire.specs.Rtp.{RtpSpells}
 use Rattle.rtpwire.specs.Content.{IsTooLong}
+use Rattle.sender.specs.History.{History}
+use Rattle.sender.specs.Sending.{media_packet}
 use Rattle.world.specs.declared.event.Event.{Event}
 use Rattle.world.specs.declared.event.Event.TheVariants.{Send, Deliver, Play, Inject}
 use Rattle.world.specs.declared.event.End.{End}
@@ -16,7 +18,6 @@ use Rattle.world.specs.declared.event.Entry.{Entry}
 use Rattle.world.specs.declared.event.Entry.TheVariants.{Sent, SendRefused, Nothing, Delivered, Injected, Played}
 use Rattle.world.specs.Config.{Config}
 use Rattle.world.specs.Labels.{end_of}
-use Rattle.world.specs.Sending.{Sender, media_packet}
 use Rattle.world.specs.Answers.{Item, Stand, new_stand, SendsTo, HearsAt, Answers}
 use Rattle.world.specs.Reading.{contents, WasSent}
 use Rattle.world.specs.Wire.{IsFaithful, SpellsLabel}
@@ -57,20 +58,19 @@ pub record Wired (c : Config) (past : List Entry) (s : Stand) : Type 0 where
 -- a stand with the same sender and wire
 wired_as : (c : Config) (past : List Entry) (old new : Stand) → new.sender ≡ old.sender → new.wire ≡ old.wire → Wired c past old → Wired c past new
 wired_as c past old new sender wire was =
-    record { next = ap (λ (x : Sender). x.next) sender ∙ was.next; sent = was.sent; faithful = subst (λ (w : List Item). IsFaithful c past w) (sym wire) was.faithful }
+    record { next = ap (λ (x : History). x.next) sender ∙ was.next; sent = was.sent; faithful = subst (λ (w : List Item). IsFaithful c past w) (sym wire) was.faithful }
 
 sent_now : (c : Config) (past : List Entry) (place index padding : ℕ) (content sent : Content) (old new : Stand) → sent ≡ content →
     SendsTo c old content padding place index new → Wired c past old → Wired c (Sent place index sent ∷ past) new
 sent_now c past place index padding content sent old new same step was =
     let sends = step.sends in
-    let gives = sends.gives in
     record {
-      next = omega (arith, gives.next_is, was.next, length-append (contents past) (sent ∷ []));
+      next = omega (arith, sends.sends.next, sends.place_is, was.next, length-append (contents past) (sent ∷ []));
       sent = λ q d (count, at, there).
           ⊎_elim
           (λ before. was.sent q d (count, at, before))
           (λ (now : (count ≡ length (contents past)) × (sent ≡ d)).
-          (omega (arith, at, now.0, was.next, gives.place_is, gives.fits), subst (λ (y : Content). IsTooLong (media_packet c.receiver.session y 0 q) → ⊥) (sym same ∙ now.1) sends.holds))
+          (omega (arith, at, now.0, was.next, sends.place_is, sends.fits), subst (λ (y : Content). IsTooLong (media_packet c.receiver.session y 0 q) → ⊥) (sym same ∙ now.1) sends.holds))
           (content_push (contents past) sent d count there);
       faithful = (
         old.wire,
@@ -78,7 +78,7 @@ sent_now c past place index padding content sent old new same step was =
         step.wire,
         step.index_is,
         record {
-          next = gives.place_is ∙ was.next;
+          next = sends.place_is ∙ was.next;
           padding = padding;
           spelled = subst (λ (y : Content). RtpSpells (media_packet c.receiver.session y padding place) step.datagram.items) (sym same) sends.spells;
         },

@@ -181,7 +181,7 @@ receiver_is v w e = ap (λ (x : PlaceWorld). x.receiver) e
 pub goes : (c : Config) (past : List Entry) (end : PlaceWorld) → PlaceRun c past end → Goes c past end.receiver
 goes c [] end is =
     (keeps_as c [] None end.receiver (receiver_is end (new_places c) is) (record { shift_is = refl; cursor = refl; highest = refl; reached = λ k h. h; noticed = λ k. refl }), (tt, tt, tt))
-goes c (Sent place index content ∷ past) end (old, run, (index_at, gives, labels, is)) =
+goes c (Sent place index content ∷ past) end (old, run, (at, fits, index_at, sends, labels, is)) =
     let before = goes c past old run in (keeps_as c (Sent place index content ∷ past) old.receiver end.receiver is (sent_more c past place index content old.receiver before.0), before.1)
 goes c (SendRefused fault ∷ past) end (old, run, (why, is)) =
     let before = goes c past old run in (keeps_as c past old.receiver end.receiver (receiver_is end old is) before.0, before.1)

@@ -1,9 +1,12 @@
 -- A step is a function: an event has one entry, and leaves one stand.
-use Rattle.std.proofs.Common.{◌≡◌, ℕ, ◌≤◌, List, [], ◌∷◌, ◌++◌, length, Option, Result, Err, refl, sym, ap, subst, ◌∙◌, arith}
+use Rattle.std.proofs.Common.{◌≡◌, ℕ, ◌≤◌, List, [], ◌∷◌, ◌++◌, length, Option, Result, Ok, Err, refl, sym, ap, subst, ◌∙◌, arith}
 use Rattle.std.proofs.lemmas.Option.{none-some, same_Some, slice_get_past}
 use Rattle.arrayvec.specs.ArrayVec.{ArrayVec}
 use Rattle.rtpwire.specs.declared.content.Content.{Content}
-use Rattle.rtpwire.specs.Rtp.{written}
+use Rattle.rtpwire.specs.Session.{Streams}
+use Rattle.sender.specs.declared.fault.SendFault.{SendFault}
+use Rattle.sender.specs.History.{History}
+use Rattle.sender.specs.Sending.{SendsAny}
 use Rattle.receiver.specs.declared.answer.Taken.{Taken as Took}
 use Rattle.receiver.specs.declared.answer.Played.{Played as Play_answer}
 use Rattle.receiver.specs.declared.fault.ReceiveFault.{ReceiveFault}
@@ -19,54 +22,50 @@ use Rattle.world.specs.declared.event.Label.TheVariants.{Media}
 use Rattle.world.specs.declared.event.Answer.{Answer}
 use Rattle.world.specs.declared.event.Entry.{Entry}
 use Rattle.world.specs.declared.event.Entry.TheVariants.{Sent, SendRefused, Nothing, Delivered, Injected, Played}
-use Rattle.world.specs.declared.send.SendFault.{SendFault}
-use Rattle.world.specs.declared.send.SendFault.TheVariants.{PaddedEmpty, Exhausted}
 use Rattle.world.specs.Config.{Config}
 use Rattle.world.specs.Labels.{end_of}
-use Rattle.world.specs.Sending.{Sender, SendsAny, media_packet}
 use Rattle.world.specs.Answers.{Item, Stand, told, HearsAt, SendsTo, DeliversAt, Step}
 
 -- the same answer, and the same end or world after it
 abbrev pub Same : {A B : Type 0} (a b : A) (x y : B) → Type 0
 Same a b x y = (a ≡ b) × (x ≡ y)
 
--- the laws of the receiver that this stands on
+-- the laws of the ends that this stands on
 pub record Laws : Type 0 where
+  pub one_sending : (s : Streams) (room : ℕ) (old : History) (content : Content) (padding : ℕ) (r t : Result (ℕ × ArrayVec ℕ) SendFault) (v w : History) → SendsAny s room old content padding r v → SendsAny s room old content padding t w → Same r t v w
   pub one_hearing : (room : ℕ) (c : Receiving) (old : Option Window) (octets : List ℕ) (now : ℕ) (r s : Result Took ReceiveFault) (v w : Option Window) → Hears room c old octets now r v → Hears room c old octets now s w → Same r s v w
   pub one_play : (patience now : ℕ) (old : Option Window) (r s : Play_answer) (v w : Option Window) → PlaysAny patience old now r v → PlaysAny patience old now s w → Same r s v w
-
-same_sender : (v w : Sender) → v.next ≡ w.next → v ≡ w
-same_sender v w next = λ i. record { next = next i }
 
 same_stand : (v w : Stand) → v.sender ≡ w.sender → v.wire ≡ w.wire → v.receiver ≡ w.receiver → v ≡ w
 same_stand v w sender wire receiver = λ i. record { sender = sender i; wire = wire i; receiver = receiver i }
 
-same_vector : (x y : ArrayVec ℕ) → x.items ≡ y.items → x ≡ y
-same_vector x y items = λ i. record { items = items i }
+-- what the answer of a send holds
+abbrev sent_or : ℕ × ArrayVec ℕ → Result (ℕ × ArrayVec ℕ) SendFault → ℕ × ArrayVec ℕ
+sent_or x (Ok sent) = sent
+sent_or x (Err fault) = x
+
+abbrev fault_or : SendFault → Result (ℕ × ArrayVec ℕ) SendFault → SendFault
+fault_or x (Ok sent) = x
+fault_or x (Err fault) = fault
 
 -- the sender
-module _ (c : Config) (old : Stand) (content : Content) (padding : ℕ) (v w : Stand) where
+module _ (laws : Laws) (c : Config) (old : Stand) (content : Content) (padding : ℕ) (v w : Stand) where
   one_send : (p q i j : ℕ) (x y : Content) → x ≡ content → y ≡ content → SendsTo c old content padding p i v → SendsTo c old content padding q j w → Same (Sent p i x) (Sent q j y) v w
   one_send p q i j x y is is' a b =
-      let place : p ≡ q = a.sends.gives.place_is ∙ sym b.sends.gives.place_is in
-      let octets : a.datagram.items ≡ b.datagram.items = a.sends.written_so ∙ ap (λ n. written (media_packet c.receiver.session content padding n)) place ∙ sym b.sends.written_so in
-      let datagram : a.datagram ≡ b.datagram = same_vector a.datagram b.datagram octets in
+      let same = laws.one_sending c.receiver.session c.history old.sender content padding (Ok (p, a.datagram)) (Ok (q, b.datagram)) v.sender w.sender a.sends b.sends in
+      let both : (p, a.datagram) ≡ (q, b.datagram) = ap (sent_or (p, a.datagram)) same.0 in
+      let place : p ≡ q = ap (λ (s : ℕ × ArrayVec ℕ). s.0) both in
       let index : i ≡ j = a.index_is ∙ sym b.index_is in
       let sent : x ≡ y = is ∙ sym is' in
-      let item : old.wire ++ (Media p, a.datagram) ∷ [] ≡ old.wire ++ (Media q, b.datagram) ∷ [] = λ k. old.wire ++ (Media (place k), datagram k) ∷ [] in (
-        λ k. Sent (place k) (index k) (sent k),
-        same_stand v w (same_sender v.sender w.sender (a.sends.gives.next_is ∙ sym b.sends.gives.next_is)) (a.wire ∙ item ∙ sym b.wire) (a.receiver ∙ sym b.receiver),
-      )
+      let item : old.wire ++ (Media p, a.datagram) ∷ [] ≡ old.wire ++ (Media q, b.datagram) ∷ [] = λ k. old.wire ++ (Media (place k), (both k).1) ∷ [] in
+      (λ k. Sent (place k) (index k) (sent k), same_stand v w same.1 (a.wire ∙ item ∙ sym b.wire) (a.receiver ∙ sym b.receiver))
 
-  not_both : (p i : ℕ) (fault : SendFault) (new : Sender) → SendsTo c old content padding p i v → SendsAny c.receiver.session old.sender content padding (Err fault) new → ⊥
-  not_both p i PaddedEmpty new a (empty, same) = empty a.sends.padded
-  not_both p i Exhausted new a (padded, most, same) = let at = a.sends.gives.place_is in let fits = a.sends.gives.fits in omega (arith, at, fits, most)
+  not_both : (p i : ℕ) (fault : SendFault) (new : History) → SendsTo c old content padding p i v → SendsAny c.receiver.session c.history old.sender content padding (Err fault) new → ⊥
+  not_both p i fault new a b =
+      let same = (laws.one_sending c.receiver.session c.history old.sender content padding (Ok (p, a.datagram)) (Err fault) v.sender new a.sends b).0 in cc
 
-  one_fault : (e f : SendFault) (m n : Sender) → SendsAny c.receiver.session old.sender content padding (Err e) m → SendsAny c.receiver.session old.sender content padding (Err f) n → e ≡ f
-  one_fault PaddedEmpty PaddedEmpty m n a b = refl
-  one_fault PaddedEmpty Exhausted m n (empty, same) (padded, most, same') = absurd (empty padded)
-  one_fault Exhausted PaddedEmpty m n (padded, most, same) (empty, same') = absurd (empty padded)
-  one_fault Exhausted Exhausted m n a b = refl
+  one_fault : (e f : SendFault) (m n : History) → SendsAny c.receiver.session c.history old.sender content padding (Err e) m → SendsAny c.receiver.session c.history old.sender content padding (Err f) n → e ≡ f
+  one_fault e f m n a b = ap (fault_or e) (laws.one_sending c.receiver.session c.history old.sender content padding (Err e) (Err f) m n a b).0
 
 module _ (laws : Laws) where
   one_heard : (c : Config) (end : End) (old : Stand) (octets : List ℕ) (now : ℕ) (a b : Answer) (v w : Stand) → HearsAt c end old octets now a v → HearsAt c end old octets now b w → v.wire ≡ w.wire → Same a b v w
@@ -93,11 +92,11 @@ module _ (laws : Laws) where
     nothing_there k x a past = none-some (k, a.datagram) (sym (slice_get_past old.wire index past) ∙ a.there)
 
   pub one_step : (c : Config) (old : Stand) (event : Event) (d e : Entry) (v w : Stand) → Step c old event d v → Step c old event e w → Same d e v w
-  one_step c old (Send content padding) (Sent p i x) (Sent q j y) v w (is, a) (is', b) = one_send c old content padding v w p q i j x y is is' a b
-  one_step c old (Send content padding) (Sent p i x) (SendRefused f) v w (is, a) (why, same) = absurd (not_both c old content padding v w p i f w.sender a why)
-  one_step c old (Send content padding) (SendRefused f) (Sent q j y) v w (why, same) (is, b) = absurd (not_both c old content padding w v q j f v.sender b why)
+  one_step c old (Send content padding) (Sent p i x) (Sent q j y) v w (is, a) (is', b) = one_send laws c old content padding v w p q i j x y is is' a b
+  one_step c old (Send content padding) (Sent p i x) (SendRefused f) v w (is, a) (why, same) = absurd (not_both laws c old content padding v w p i f w.sender a why)
+  one_step c old (Send content padding) (SendRefused f) (Sent q j y) v w (why, same) (is, b) = absurd (not_both laws c old content padding w v q j f v.sender b why)
   one_step c old (Send content padding) (SendRefused f) (SendRefused g) v w (why, same) (why', same') =
-      (ap (λ (x : SendFault). SendRefused x) (one_fault c old content padding v w f g v.sender w.sender why why'), same ∙ sym same')
+      (ap (λ (x : SendFault). SendRefused x) (one_fault laws c old content padding v w f g v.sender w.sender why why'), same ∙ sym same')
   one_step c old (Deliver index now) Nothing Nothing v w (past, same) (past', same') = (refl, same ∙ sym same')
   one_step c old (Deliver index now) Nothing (Delivered j l n y) v w (past, same) (at, is, b) = absurd (nothing_there c old index now w v l y b past)
   one_step c old (Deliver index now) (Delivered i k m x) Nothing v w (at, is, a) (past, same) = absurd (nothing_there c old index now v w k x a past)

@@ -7,13 +7,15 @@ use Rattle.places.specs.Place.{number, IsWithin}
 use Rattle.rtpwire.specs.declared.content.Content.{Content}
 use Rattle.rtpwire.specs.Rtp.{RtpSpells}
 use Rattle.rtpwire.specs.Content.{IsTooLong, packet_of}
+use Rattle.sender.specs.declared.fault.SendFault.{SendFault}
+use Rattle.sender.specs.declared.fault.SendFault.TheVariants.{PaddedEmpty, Exhausted}
+use Rattle.sender.specs.History.{History, Sends}
+use Rattle.sender.specs.Sending.{SendsAny}
 use Rattle.receiver.specs.declared.answer.Taken.{Taken as Took}
 use Rattle.receiver.specs.declared.fault.ReceiveFault.{ReceiveFault}
 use Rattle.receiver.specs.Config.{Config as Receiving}
 use Rattle.receiver.specs.Window.{Window, PlaysAny}
 use Rattle.receiver.specs.Heard.{AnswersNumber, TakesNumber, Hears}
-use Rattle.world.specs.declared.send.SendFault.{SendFault}
-use Rattle.world.specs.declared.send.SendFault.TheVariants.{PaddedEmpty, Exhausted}
 use Rattle.world.specs.declared.event.Event.{Event}
 use Rattle.world.specs.declared.event.Event.TheVariants.{Send, Deliver, Play, Inject}
 use Rattle.world.specs.declared.event.End.TheVariants.{Receiver}
@@ -24,7 +26,6 @@ use Rattle.world.specs.declared.event.Entry.{Entry}
 use Rattle.world.specs.declared.event.Entry.TheVariants.{Sent, SendRefused, Nothing, Delivered, Injected, Played}
 use Rattle.world.specs.Config.{Config}
 use Rattle.world.specs.Labels.{place_of}
-use Rattle.world.specs.Sending.{Sender, SendsAny}
 use Rattle.world.specs.Answers.{Item, Stand, DeliversAt, Answers}
 use Rattle.world.specs.Reach.{highest_taken, shift_of}
 use Rattle.world.specs.Close.{close_distance, IsCloseTo, IsClose, IsHonest}
@@ -57,7 +58,7 @@ labels_more wire new x is = ap (map label_of) is ∙ map-append label_of wire (x
 label_at : (wire : List Item) (i : ℕ) (item : Item) → slice_get wire i ≡ Some item → slice_get (map label_of wire) i ≡ Some item.0
 label_at wire i item there = slice_get-map label_of wire i ∙ ap (option_map label_of) there
 
-refuses : (c : Config) (old : Sender) (content : Content) (padding : ℕ) (fault : SendFault) (new : Sender) → SendsAny c.receiver.session old content padding (Err fault) new → RefusesSend old.next fault
+refuses : (c : Config) (old : History) (content : Content) (padding : ℕ) (fault : SendFault) (new : History) → SendsAny c.receiver.session c.history old content padding (Err fault) new → RefusesSend old.next fault
 refuses c old content padding PaddedEmpty new why = tt
 refuses c old content padding Exhausted new why = why.1
 
@@ -94,8 +95,10 @@ module _ (media : MediaHearing) where
     places_of old,
     simulates c events past old before close honest,
     (
+      step.sends.place_is,
+      step.sends.fits,
       step.index_is ∙ sym (length-map old.wire label_of),
-      record { place_is = step.sends.gives.place_is; fits = step.sends.gives.fits; next_is = step.sends.gives.next_is },
+      subst (λ (x : Content). Sends c.history old.sender x end.sender) (sym same) step.sends.sends,
       labels_more old.wire end.wire (Media place, step.datagram) step.wire,
       step.receiver,
     ),

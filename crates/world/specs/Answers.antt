@@ -3,6 +3,8 @@
 use Rattle.std.specs.Prelude.{◌≡◌, ℕ, ◌≤◌, List, [], ◌∷◌, ◌++◌, length, Option, Some, None, Result, Ok, Err, slice_get}
 use Rattle.arrayvec.specs.ArrayVec.{ArrayVec}
 use Rattle.rtpwire.specs.declared.content.Content.{Content}
+use Rattle.sender.specs.History.{History, new_history}
+use Rattle.sender.specs.Sending.{SendsAt, SendsAny}
 use Rattle.receiver.specs.declared.answer.Taken.{Taken as Took}
 use Rattle.receiver.specs.declared.fault.ReceiveFault.{ReceiveFault}
 use Rattle.receiver.specs.Window.{Window, PlaysAny}
@@ -19,7 +21,6 @@ use Rattle.world.specs.declared.event.Entry.{Entry}
 use Rattle.world.specs.declared.event.Entry.TheVariants.{Sent, SendRefused, Nothing, Delivered, Injected, Played}
 use Rattle.world.specs.Config.{Config}
 use Rattle.world.specs.Labels.{end_of}
-use Rattle.world.specs.Sending.{Sender, new_sender, Sends, SendsAny}
 
 -- a datagram on the wire, under its label
 abbrev pub Item : Type 0
@@ -27,12 +28,12 @@ Item = Label × ArrayVec ℕ
 
 -- Both ends, and the wire between them, which only grows.
 pub record Stand : Type 0 where
-  pub sender : Sender
+  pub sender : History
   pub wire : List Item
   pub receiver : Option Window
 
 abbrev pub new_stand : Config → Stand
-new_stand c = record { sender = new_sender c.first; wire = []; receiver = None }
+new_stand c = record { sender = new_history c.first c.repair_first; wire = []; receiver = None }
 
 -- what the receiver answers, as the log tells it
 abbrev pub told : Result Took ReceiveFault → Answer
@@ -53,7 +54,7 @@ HearsAt c Receiver old octets now answer new = ReceiverHears c old octets now an
 -- a content is sent, and lies on the wire
 pub record SendsTo (c : Config) (old : Stand) (content : Content) (padding place index : ℕ) (new : Stand) : Type 0 where
   pub datagram : ArrayVec ℕ
-  pub sends : Sends c.receiver.session old.sender content padding place datagram.items new.sender
+  pub sends : SendsAt c.receiver.session c.history old.sender content padding place datagram.items new.sender
   pub index_is : index ≡ length old.wire
   pub wire : new.wire ≡ old.wire ++ (Media place, datagram) ∷ []
   pub receiver : new.receiver ≡ old.receiver
@@ -68,7 +69,7 @@ pub record DeliversAt (c : Config) (old : Stand) (index : ℕ) (label : Label) (
 -- One event, its entry, and the world before and after it.
 abbrev pub Step : Config → Stand → Event → Entry → Stand → Type 0
 Step c old (Send content padding) (Sent place index sent) new = (sent ≡ content) × SendsTo c old content padding place index new
-Step c old (Send content padding) (SendRefused fault) new = SendsAny c.receiver.session old.sender content padding (Err fault) new.sender × (new ≡ old)
+Step c old (Send content padding) (SendRefused fault) new = SendsAny c.receiver.session c.history old.sender content padding (Err fault) new.sender × (new ≡ old)
 Step c old (Deliver index now) Nothing new = (length old.wire ≤ index) × (new ≡ old)
 Step c old (Deliver index now) (Delivered at label moment answer) new = (at ≡ index) × (moment ≡ now) × DeliversAt c old index label now answer new
 Step c old (Play now) (Played moment played) new =

@@ -1,5 +1,6 @@
 -- How a world is configured.
 use Rattle.std.specs.Prelude.{ℕ, ◌^◌, ◌<◌, ◌≤◌}
+use Rattle.sender.specs.Config.{Config as Sending, config as sender_config}
 use Rattle.receiver.specs.Config.{Config as Receiving, IsConfig as IsReceiving}
 
 pub record Config : Type 0 where
@@ -20,6 +21,10 @@ config receiver first repair_first history window repeats =
       window = window;
       repeats = repeats;
     }
+
+-- how its sender works
+abbrev pub sending : Config → Sending
+sending c = sender_config c.receiver.session c.first c.repair_first c.repeats
 
 -- the limits of a world
 pub record IsConfig (c : Config) : Type 0 where

@@ -1,6 +1,5 @@
 pub mod Config
 pub mod Labels
-pub mod Sending
 pub mod Answers
 pub mod Reading
 pub mod Wire
@@ -12,4 +11,3 @@ pub mod Lawful
 pub mod PlaceRun
 pub mod Good
 pub mod World
-pub mod Fault

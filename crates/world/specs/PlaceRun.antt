@@ -1,16 +1,17 @@
 -- The place world: both ends over places without bound, with no octets, sequence numbers or stores. Labels
 -- take the place of datagrams, and what a label stands for is the content that was sent at its place. A log
 -- is newest first here.
-use Rattle.std.specs.Prelude.{◌≡◌, ◌⊎◌, ℕ, ◌+◌, ◌^◌, ◌≤◌, List, [], ◌∷◌, ◌++◌, length, map, Option, Some, None, Result, Err, slice_get}
+use Rattle.std.specs.Prelude.{◌≡◌, ◌⊎◌, ℕ, ◌+◌, ◌^◌, ◌<◌, ◌≤◌, List, [], ◌∷◌, ◌++◌, length, map, Option, Some, None, Result, Err, slice_get}
 use Rattle.places.specs.Place.{number, reach, IsWithin}
 use Rattle.places.specs.declared.nearness.PlaceFault.TheVariants.{Far}
 use Rattle.rtpwire.specs.declared.content.Content.{Content}
+use Rattle.sender.specs.declared.fault.SendFault.{SendFault}
+use Rattle.sender.specs.declared.fault.SendFault.TheVariants.{PaddedEmpty, Exhausted}
+use Rattle.sender.specs.History.{History, new_history, Sends}
 use Rattle.receiver.specs.declared.answer.Taken.{Taken as Took}
 use Rattle.receiver.specs.declared.fault.ReceiveFault.{ReceiveFault}
 use Rattle.receiver.specs.declared.fault.ReceiveFault.TheVariants as refused
 use Rattle.receiver.specs.Window.{Window, StartsAt, AnswersPlace, PlaysAny}
-use Rattle.world.specs.declared.send.SendFault.{SendFault}
-use Rattle.world.specs.declared.send.SendFault.TheVariants.{PaddedEmpty, Exhausted}
 use Rattle.world.specs.declared.event.Label.{Label}
 use Rattle.world.specs.declared.event.Label.TheVariants.{Media}
 use Rattle.world.specs.declared.event.Answer.{Answer}
@@ -19,18 +20,17 @@ use Rattle.world.specs.declared.event.Entry.{Entry}
 use Rattle.world.specs.declared.event.Entry.TheVariants.{Sent, SendRefused, Nothing, Delivered, Injected, Played}
 use Rattle.world.specs.Config.{Config}
 use Rattle.world.specs.Labels.{place_of}
-use Rattle.world.specs.Sending.{Sender, new_sender, GivesPlace}
 use Rattle.world.specs.Answers.{Item, Stand, told}
 use Rattle.world.specs.Reading.{WasSent}
 use Rattle.world.specs.Reach.{shift_of}
 
 pub record PlaceWorld : Type 0 where
-  pub sender : Sender
+  pub sender : History
   pub labels : List Label  -- of all that was put on the wire, the first one first
   pub receiver : Option Window
 
 abbrev pub new_places : Config → PlaceWorld
-new_places c = record { sender = new_sender c.first; labels = []; receiver = None }
+new_places c = record { sender = new_history c.first c.repair_first; labels = []; receiver = None }
 
 -- both ends and the wire, without octets
 abbrev pub label_of : Item → Label
@@ -81,8 +81,10 @@ RefusesSend next Exhausted = 2 ^ 48 ≤ next
 -- may be anything, so no run over places has it.
 abbrev pub PlaceStep : Config → List Entry → PlaceWorld → Entry → PlaceWorld → Type 0
 PlaceStep c past old (Sent place index content) new =
-    (index ≡ length old.labels)
-    × GivesPlace old.sender content place new.sender
+    (place ≡ old.sender.next)
+    × (place < 2 ^ 48)
+    × (index ≡ length old.labels)
+    × Sends c.history old.sender content new.sender
     × (new.labels ≡ old.labels ++ Media place ∷ [])
     × (new.receiver ≡ old.receiver)
 PlaceStep c past old (SendRefused fault) new = RefusesSend old.sender.next fault × (new ≡ old)

@@ -3,12 +3,12 @@ use Rattle.std.specs.Prelude.{◌≡◌, ℕ, ◌+◌, List, [], ◌∷◌, ◌+
 use Rattle.arrayvec.specs.ArrayVec.{ArrayVec}
 use Rattle.rtpwire.specs.declared.content.Content.{Content}
 use Rattle.rtpwire.specs.Rtp.{RtpSpells}
+use Rattle.sender.specs.Sending.{media_packet}
 use Rattle.world.specs.declared.event.Label.{Label}
 use Rattle.world.specs.declared.event.Label.TheVariants.{Media}
 use Rattle.world.specs.declared.event.Entry.{Entry}
 use Rattle.world.specs.declared.event.Entry.TheVariants.{Sent}
 use Rattle.world.specs.Config.{Config}
-use Rattle.world.specs.Sending.{media_packet}
 use Rattle.world.specs.Answers.{Item}
 use Rattle.world.specs.Reading.{contents, WasSent}
 

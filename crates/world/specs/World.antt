@@ -1,16 +1,17 @@
 -- A world as its callers see it.
 use Rattle.std.specs.Prelude.{List, [], reverse}
+use Rattle.stores.specs.Past.{empty_past}
 use Rattle.stores.specs.Span.{empty_span}
+use Rattle.sender.specs.Sender.{Sending, new_sending, state_of as sender_of}
 use Rattle.receiver.specs.Receiver.{Receiving, state_of}
 use Rattle.world.specs.declared.event.Event.{Event}
 use Rattle.world.specs.declared.event.Entry.{Entry}
-use Rattle.world.specs.Config.{Config}
-use Rattle.world.specs.Sending.{Sender, new_sender}
+use Rattle.world.specs.Config.{Config, sending}
 use Rattle.world.specs.Answers.{Item, Stand, Answers}
 
 pub record Recorded : Type 0 where
   pub config : Config
-  pub sender : Sender
+  pub sender : Sending
   pub wire : List Item
   pub receiver : Receiving
   pub log : List Entry  -- the oldest first
@@ -20,15 +21,15 @@ abbrev pub empty : Config → Recorded
 empty c =
     record {
       config = c;
-      sender = new_sender c.first;
+      sender = new_sending (sending c) (empty_past c.history);
       wire = [];
       receiver = record { config = c.receiver; span = empty_span c.window };
       log = [];
     }
 
 -- both ends and the wire
-abbrev pub stand_at : Sender → List Item → Receiving → Stand
-stand_at sender wire receiver = record { sender = sender; wire = wire; receiver = state_of receiver }
+abbrev pub stand_at : Sending → List Item → Receiving → Stand
+stand_at sender wire receiver = record { sender = sender_of sender; wire = wire; receiver = state_of receiver }
 
 abbrev pub stand_of : Recorded → Stand
 stand_of w = stand_at w.sender w.wire w.receiver

@@ -1,32 +1,32 @@
 ghost use Rattle.std.specs.Prelude.{◌≡◌, ◌↔◌, ◌≤◌, IsTrue, IsOk, IfOk, OnErr};
 ghost use Rattle.receiver.specs.Config.{config as receiving};
-ghost use Rattle.world.specs.Config.{IsConfig, config};
+ghost use Rattle.world.specs.Config.{IsConfig, config, sending};
 
 use receiver::ReceiverConfig;
 use rtpwire::{ConfigFault, Session};
+use sender::SenderConfig;
 use std::marker::Model;
 
 /// How both ends of a world work.
 #[derive(Clone, Copy, Debug, PartialEq, Eq)]
 pub struct Config {
+    sender: SenderConfig,
     receiver: ReceiverConfig,
-    first: u16,
-    repair_first: u16,
     history: usize,
     window: usize,
-    repeats: u8,
 }
 
 impl Model for Config {
-    ghost use Rattle.world.specs.Config.{Config as Value_of, IsConfig, config};
+    ghost use Rattle.std.specs.Prelude.{◌≡◌};
+    ghost use Rattle.world.specs.Config.{Config as Value_of, IsConfig, config, sending};
 
     ghost Value = { Value_of };
 
-    ghost view = { λ c. config c.receiver c.first c.repair_first c.history c.window c.repeats };
+    ghost view = { λ c. config c.receiver c.sender.first c.sender.repair_first c.history c.window c.sender.repeats };
 
-    ghost invariant = { λ c. IsConfig (config c.receiver c.first c.repair_first c.history c.window c.repeats) };
+    ghost invariant = { λ c. (c.sender.session ≡ c.receiver.session) × IsConfig (config c.receiver c.sender.first c.sender.repair_first c.history c.window c.sender.repeats) };
 
-    ghost inverse = { λ c. record { receiver = c.receiver; first = c.first; repair_first = c.repair_first; history = c.history; window = c.window; repeats = c.repeats } };
+    ghost inverse = { λ c. record { sender = sending c; receiver = c.receiver; history = c.history; window = c.window } };
 }
 
 impl Config {
@@ -55,18 +55,24 @@ impl Config {
             ↔ IsConfig (config (receiving session patience retry asks) first repair_first history window repeats) }
         ensures err { OnErr result (result ≡ Err ConfigFault.BadLimit) }
     {
+        let sender = SenderConfig::new(session, first, repair_first, repeats)?;
         let receiver = ReceiverConfig::new(session, patience, retry, asks)?;
-        if !is_capacity(history) || !is_capacity(window) || repeats == 0 {
+        if !is_capacity(history) || !is_capacity(window) {
             return Err(ConfigFault::BadLimit);
         }
         Ok(Config {
+            sender,
             receiver,
-            first,
-            repair_first,
             history,
             window,
-            repeats,
         })
+    }
+
+    /// How its sender works.
+    pub(crate) fn sender(&self) -> SenderConfig
+        ensures { result ≡ sending self.now }
+    {
+        self.sender
     }
 
     /// How its receiver works.
@@ -76,11 +82,12 @@ impl Config {
         self.receiver
     }
 
-    /// The sequence number of the first send.
-    pub(crate) fn first(&self) -> u16
-        ensures { result ≡ self.now.first }
+    /// How many of the latest contents the sender keeps.
+    pub(crate) fn history(&self) -> usize
+        ensures value { result ≡ self.now.history }
+        ensures limits { IsConfig self.now }
     {
-        self.first
+        self.history
     }
 
     /// How many places the receiver keeps.

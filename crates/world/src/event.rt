@@ -2,10 +2,10 @@
 ghost use Rattle.std.specs.Prelude.{◌≡◌};
 ghost use Rattle.world.specs.Labels.{end_of, place_of};
 
-use crate::send::SendFault;
 use places::Place;
 use receiver::{Played, ReceiveFault, Taken};
 use rtpwire::{Content, Datagram};
+use sender::SendFault;
 
 /// Which end.
 #[derive(Clone, Copy, Debug, PartialEq, Eq)]

@@ -6,10 +6,10 @@ use receiver::{Played, ReceiveFault, Taken};
 use rtpwire::{Content, Extension};
 use std::alloc::Global;
 use std::test::Fail;
-use stores::{ListWindow, PutFault};
+use stores::{ListHistory, ListWindow, PutFault};
 
 /// A world in which the empty content was sent 49154 times: the places 65537 to 114690.
-fn with_sends(alloc: Global) -> Result<World<ListWindow>, Fail> {
+fn with_sends(alloc: Global) -> Result<World<ListHistory, ListWindow>, Fail> {
     let mut world = world(alloc, 1, 8)?;
     let event = send(b"")?;
     for _ in 0..49154 {
@@ -99,7 +99,11 @@ fn at(place: u64) -> Result<Place, Fail> {
 }
 
 /// Does an event, after which the log's last entry is to be this, and the log close and honest.
-fn logs(world: &mut World<ListWindow>, event: &Event, want: &Entry) -> Result<(), Fail> {
+fn logs(
+    world: &mut World<ListHistory, ListWindow>,
+    event: &Event,
+    want: &Entry,
+) -> Result<(), Fail> {
     let _entry = world.step(event).map_err(|_| "memory is ample")?;
     let last = world.log().last().ok_or("an entry")?;
     if *last == *want && world.close() {
@@ -196,7 +200,7 @@ fn a_worked_run(rt: HostRuntime) -> Result<(), Fail> {
 }
 
 /// What is played at the receiver's place of the send with this index, where it begins one cycle below.
-fn plays_next(world: &mut World<ListWindow>, index: u64) -> Result<bool, Fail> {
+fn plays_next(world: &mut World<ListHistory, ListWindow>, index: u64) -> Result<bool, Fail> {
     let entry = world
         .step(&Event::Play(index))
         .map_err(|_| "memory is ample")?;

@@ -10,6 +10,7 @@ ghost use Rattle.world.specs.Close.{IsClose, IsHonest};
 ghost use Rattle.world.specs.Good.{IsGood, PlaysRightly};
 
 use receiver::{hearing_is_determined, playing_is_determined};
+use sender::sending_is_determined;
 
 /// Whatever events a log answers, and whatever octets a peer injected: what is played or given up rises place
 /// by place, no place is played twice, and a place that was given up or overrun is never played later.
@@ -48,6 +49,7 @@ pub fn answers_are_determined()
     ensures wire { (c : Config) (events : List Event) (one other : List Entry) (end stop : Stand) → Answers c events one end → Answers c events other stop → end.wire ≡ stop.wire }
     ensures end { (c : Config) (events : List Event) (one other : List Entry) (end stop : Stand) → Answers c events one end → Answers c events other stop → end ≡ stop }
 {
+    sending_is_determined();
     hearing_is_determined();
     playing_is_determined();
 }

@@ -5,13 +5,11 @@ mod closeness;
 mod config;
 mod event;
 mod laws;
-mod send;
 mod world;
 
 pub use config::Config;
 pub use event::{Answer, End, Entry, Event, Label};
 pub use laws::{answers_are_determined, logs_are_good, logs_are_in_order, wires_are_faithful};
-pub use send::SendFault;
 pub use world::{World, run};
 
 #[cfg(test)]

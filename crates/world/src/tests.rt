@@ -3,9 +3,10 @@ use arrayvec::ArrayVec;
 use places::Place;
 use receiver::{Played, Taken};
 use rtpwire::{Content, Datagram, Session};
+use sender::SendFault;
 use std::alloc::Global;
 use std::test::Fail;
-use stores::ListWindow;
+use stores::{ListHistory, ListWindow};
 
 /// Both ends under the session of the rows.
 pub(crate) fn config(first: u16, window: usize) -> Result<Config, Fail> {
@@ -13,7 +14,11 @@ pub(crate) fn config(first: u16, window: usize) -> Result<Config, Fail> {
     Ok(Config::new(session, first, 5, 8, window, 100, 20, 3, 2)?)
 }
 
-pub(crate) fn world(alloc: Global, first: u16, window: usize) -> Result<World<ListWindow>, Fail> {
+pub(crate) fn world(
+    alloc: Global,
+    first: u16,
+    window: usize,
+) -> Result<World<ListHistory, ListWindow>, Fail> {
     let world = World::new(alloc, &config(first, window)?);
     Ok(world.map_err(|_| "memory is ample")?)
 }
@@ -60,7 +65,10 @@ fn event_of(row: Row) -> Result<Event, Fail> {
 type Told = (&'static str, u64, u64);
 
 /// Does the events of a table, each of which is to give the entry beside it.
-pub(crate) fn shows(world: &mut World<ListWindow>, rows: &[(Row, Told)]) -> Result<(), Fail> {
+pub(crate) fn shows(
+    world: &mut World<ListHistory, ListWindow>,
+    rows: &[(Row, Told)],
+) -> Result<(), Fail> {
     for &(row, want) in rows {
         if does(world, &event_of(row)?)? != want {
             return Err(Fail::from(want.0));
@@ -87,7 +95,10 @@ fn told(entry: &Entry) -> Told {
 }
 
 /// Does an event, and tells its entry.
-pub(crate) fn does(world: &mut World<ListWindow>, event: &Event) -> Result<Told, Fail> {
+pub(crate) fn does(
+    world: &mut World<ListHistory, ListWindow>,
+    event: &Event,
+) -> Result<Told, Fail> {
     let entry = world.step(event).map_err(|_| "memory is ample")?;
     Ok(told(&entry))
 }
@@ -99,7 +110,7 @@ fn the_first_path(rt: HostRuntime) -> Result<(), Fail> {
         Event::Deliver(0, 0),
         Event::Play(0),
     ];
-    let run = run::<ListWindow>(rt.alloc(), &config(1, 8)?, &events);
+    let run = run::<ListHistory, ListWindow>(rt.alloc(), &config(1, 8)?, &events);
     let world = run.map_err(|_| "memory is ample")?;
     let place = Place::new(65537).ok_or("a place")?;
     let log = [
@@ -174,7 +185,7 @@ fn an_overrun(rt: HostRuntime) -> Result<(), Fail> {
 fn a_patience_of_nothing(rt: HostRuntime) -> Result<(), Fail> {
     let session = Session::new(0x11111111, 96, 0x22222222, 97, 0x33333333)?;
     let config = Config::new(session, 1, 5, 8, 8, 0, 20, 3, 2)?;
-    let world = World::<ListWindow>::new(rt.alloc(), &config);
+    let world = World::<ListHistory, ListWindow>::new(rt.alloc(), &config);
     shows(
         &mut world.map_err(|_| "memory is ample")?,
         &[
@@ -262,9 +273,9 @@ fn limits(rt: HostRuntime) -> Result<(), Fail> {
 /// `rt try --test --fail-alloc N` refuses the Nth allocation.
 #[test]
 fn a_refused_growth(rt: HostRuntime) -> Result<(), Fail> {
-    let made = match World::<ListWindow>::new(rt.alloc(), &config(1, 8)?) {
+    let made = match World::<ListHistory, ListWindow>::new(rt.alloc(), &config(1, 8)?) {
         Ok(made) => Ok(made),
-        Err(_) => World::<ListWindow>::new(rt.alloc(), &config(1, 8)?),
+        Err(_) => World::<ListHistory, ListWindow>::new(rt.alloc(), &config(1, 8)?),
     };
     let mut world = made.map_err(|_| "memory is back")?;
     for (row, want) in [
@@ -296,9 +307,9 @@ fn a_run_with_a_refused_growth(rt: HostRuntime) -> Result<(), Fail> {
         Event::Play(0),
         inject(b"")?,
     ];
-    let made = match run::<ListWindow>(rt.alloc(), &config(1, 8)?, &events) {
+    let made = match run::<ListHistory, ListWindow>(rt.alloc(), &config(1, 8)?, &events) {
         Ok(made) => Ok(made),
-        Err(_) => run::<ListWindow>(rt.alloc(), &config(1, 8)?, &events),
+        Err(_) => run::<ListHistory, ListWindow>(rt.alloc(), &config(1, 8)?, &events),
     };
     let world = made.map_err(|_| "memory is back")?;
     let wanted = [

@@ -2,9 +2,9 @@
 ghost use Rattle.std.specs.Prelude.{◌≡◌, ◌↔◌, ◌<◌, ◌++◌, [], ◌∷◌, List, reverse, vec_len, IsTrue, IfOk, OnOk, OnErr};
 ghost use Rattle.std.specs.Vec.{vec_capacity};
 ghost use Rattle.receiver.specs.Receiver.{Receiving};
-ghost use Rattle.world.specs.Config.{Config as Setup};
+ghost use Rattle.sender.specs.Sender.{Sending};
+ghost use Rattle.world.specs.Config.{Config as Setup, sending};
 ghost use Rattle.world.specs.Labels.{end_of};
-ghost use Rattle.world.specs.Sending.{Sender as Sending};
 ghost use Rattle.world.specs.Answers.{Item, HearsAt, Step, Answers};
 ghost use Rattle.world.specs.Reading.{IsRising, IsFinal};
 ghost use Rattle.world.specs.Wire.{IsFaithful};
@@ -16,26 +16,27 @@ use crate::closeness::Closeness;
 use crate::config::Config;
 use crate::event::{Answer, End, Entry, Event, Label};
 use crate::laws::{logs_are_good, logs_are_in_order, wires_are_faithful};
-use crate::send::Sender;
 use receiver::Receiver;
 use rtpwire::{Content, Datagram};
+use sender::Sender;
 use std::alloc::Global;
 use std::marker::Model;
-use stores::{OutOfMemory, Window};
+use stores::{History, OutOfMemory, Window};
 
 /// Both ends, what lies between them, and what happened.
 #[derive(Drop)]
-pub struct World<W: Window> {
+pub struct World<H: History, W: Window> {
     config: Config,
-    sender: Sender,
+    sender: Sender<H>,
     wire: Vec<(Label, Datagram)>,
     receiver: Receiver<W>,
     log: Vec<Entry>,
     closeness: Closeness,
 }
 
-impl<W: Window> Model for World<W> {
+impl<H: History, W: Window> Model for World<H, W> {
     ghost use Rattle.std.specs.Prelude.{◌≡◌, reverse};
+    ghost use Rattle.world.specs.Config.{sending};
     ghost use Rattle.world.specs.Close.{Tells};
     ghost use Rattle.world.specs.World.{Recorded, IsLogged, stand_at};
 
@@ -43,22 +44,24 @@ impl<W: Window> Model for World<W> {
 
     ghost view = { λ w. record { config = w.config; sender = w.sender; wire = w.wire.items; receiver = w.receiver; log = w.log.items } };
 
-    ghost invariant = { λ w. (w.receiver.config ≡ w.config.receiver) × (w.receiver.span.capacity ≡ w.config.window)
+    ghost invariant = { λ w. (w.sender.config ≡ sending w.config) × (w.sender.past.capacity ≡ w.config.history)
+        × (w.receiver.config ≡ w.config.receiver) × (w.receiver.span.capacity ≡ w.config.window)
         × IsLogged w.config w.log.items (stand_at w.sender w.wire.items w.receiver)
         × Tells w.closeness.highest w.closeness.holds (reverse w.log.items) };
 }
 
-impl<W: Window> World<W> {
+impl<H: History, W: Window> World<H, W> {
     /// A world in which nothing happened.
     ///
-    /// `OutOfMemory`: the allocator refused the receiver's window.
-    pub fn new(alloc: Global, config: &Config) -> Result<World<W>, OutOfMemory>
+    /// `OutOfMemory`: the allocator refused the sender's history or the receiver's window.
+    pub fn new(alloc: Global, config: &Config) -> Result<World<H, W>, OutOfMemory>
         ensures { IfOk result (λ world. world ≡ empty config.now) }
     {
+        let history = H::new(alloc, config.history())?;
         let window = W::new(alloc, config.window())?;
         Ok(World {
             config: *config,
-            sender: Sender::new(config.first()),
+            sender: Sender::new(config.sender(), history),
             wire: Vec::new(alloc),
             receiver: Receiver::new(config.receiver(), window),
             log: Vec::new(alloc),
@@ -74,6 +77,7 @@ impl<W: Window> World<W> {
         ensures log { IfOk result (λ entry. self.new.log ≡ self.old.log ++ entry ∷ []) }
         ensures config { self.new.config ≡ self.old.config }
         ensures capacity { self.new.receiver.span.capacity ≡ self.new.config.window }
+        ensures kept { self.new.sender.past.capacity ≡ self.new.config.history }
         ensures err { OnErr result (self.new ≡ self.old) }
 
         // The log answers the events so far, so it is in order, and the wire is faithful to it.
@@ -127,6 +131,13 @@ impl<W: Window> World<W> {
         self.closeness.holds()
     }
 
+    /// The sender's history.
+    pub fn history(&self) -> &H
+        ensures { H.meaning result.now ≡ self.now.sender.past }
+    {
+        self.sender.history()
+    }
+
     /// The receiver's window.
     pub fn window(&self) -> &W
         ensures { W.meaning result.now ≡ self.now.receiver.span }
@@ -137,15 +148,16 @@ impl<W: Window> World<W> {
 
 /// A new world after these events.
 ///
-/// `OutOfMemory`: the allocator refused the window, or a growth of the log or the wire.
-pub fn run<W: Window>(
+/// `OutOfMemory`: the allocator refused the history, the window, or a growth of the log or the wire.
+pub fn run<H: History, W: Window>(
     alloc: Global,
     config: &Config,
     events: &[Event],
-) -> Result<World<W>, OutOfMemory>
+) -> Result<World<H, W>, OutOfMemory>
     ensures config { IfOk result (λ world. world.config ≡ config.now) }
     // The receiver's window is that of the configuration.
     ensures capacity { IfOk result (λ world. world.receiver.span.capacity ≡ config.now.window) }
+    ensures kept { IfOk result (λ world. world.sender.past.capacity ≡ config.now.history) }
     // One entry for each event, each the answer of its end in the state that those before it left.
     ensures answers { IfOk result (λ world. Answers config.now (reverse events.now) (reverse world.log) (stand_of world)) }
     // What is played or given up rises, and is played never again.
@@ -168,23 +180,27 @@ pub fn run<W: Window>(
 }
 
 /// What the ends do with an event. There is room on the wire.
-fn answered<W: Window>(
+fn answered<H: History, W: Window>(
     config: &Config,
-    sender: &mut Sender,
+    sender: &mut Sender<H>,
     wire: &mut Vec<(Label, Datagram)>,
     receiver: &mut Receiver<W>,
     event: &Event,
 ) -> Entry
     requires room { vec_len wire.old < vec_capacity wire.old }
+    requires sender { sender.old.config ≡ sending config.now }
+    requires history { sender.old.past.capacity ≡ config.now.history }
     requires receiver { receiver.old.config ≡ config.now.receiver }
     requires window { receiver.old.span.capacity ≡ config.now.window }
     ensures step { Step config.now (stand_at sender.old wire.old.items receiver.old) event.now result
         (stand_at sender.new wire.new.items receiver.new) }
+    ensures sender { sender.new.config ≡ sender.old.config }
+    ensures history { sender.new.past.capacity ≡ sender.old.past.capacity }
     ensures receiver { receiver.new.config ≡ receiver.old.config }
     ensures window { receiver.new.span.capacity ≡ receiver.old.span.capacity }
 {
     match event {
-        Event::Send(content, padding) => sent(config, sender, wire, content, *padding),
+        Event::Send(content, padding) => sent(sender, wire, content, *padding),
         Event::Deliver(index, now) => delivered(wire.as_slice(), receiver, *index, *now),
         Event::Play(now) => Entry::Played {
             now: *now,
@@ -199,19 +215,21 @@ fn answered<W: Window>(
 }
 
 /// Sends a content. There is room on the wire.
-fn sent(
-    config: &Config,
-    sender: &mut Sender,
+fn sent<H: History>(
+    sender: &mut Sender<H>,
     wire: &mut Vec<(Label, Datagram)>,
     content: &Content,
     padding: u8,
 ) -> Entry
     requires room { vec_len wire.old < vec_capacity wire.old }
-    ensures step { (receiver : Receiving) → Step config.now (stand_at sender.old wire.old.items receiver) (Event.Send content.now padding) result
+    ensures step { (c : Setup) (receiver : Receiving) → sender.old.config ≡ sending c → sender.old.past.capacity ≡ c.history
+        → Step c (stand_at sender.old wire.old.items receiver) (Event.Send content.now padding) result
         (stand_at sender.new wire.new.items receiver) }
+    ensures sender { sender.new.config ≡ sender.old.config }
+    ensures history { sender.new.past.capacity ≡ sender.old.past.capacity }
 {
     let index = wire.len() as u64;
-    match sender.send(&config.receiver().session(), content, padding) {
+    match sender.send(content.copy(), padding) {
         Err(fault) => Entry::SendRefused(fault),
         Ok((place, datagram)) => {
             wire.push_reserved((Label::Media(place), datagram));

@@ -8,7 +8,7 @@ use Rattle.world.proofs.world.run.Goals as goal
 pub returns-clause-answers : goal.returns-clause-answers
 returns-clause-answers g c =
     subst (λ (events : List Event). Answers c.args.config.now (reverse events) (reverse c.loop-event.world.log) (stand_of c.loop-event.world))
-    (take_all c.loop-event.event-index c.args.events.now (omega (arith, c.loop-event-test.false))) c.loop-event.invariant.2
+    (take_all c.loop-event.event-index c.args.events.now (omega (arith, c.loop-event-test.false))) c.loop-event.invariant.3
 
 pub returns-clause-rising : goal.returns-clause-rising
 returns-clause-rising g c = c.logs_are_in_order.ensures.rising _ _ _ _ (returns-clause-answers g c)

@@ -7,7 +7,7 @@ use Rattle.world.proofs.world.World.close.Goals as goal
 pub returns-clause-good : goal.returns-clause-good
 returns-clause-good g c = λ holds.
     let w = c.self.inside in
-    let logged = c.self.invariant.2 in
-    let tells = (c.self.invariant.3.holds_if).0 (subst IsTrue c.holds.ensures holds) in
+    let logged = c.self.invariant.4 in
+    let tells = (c.self.invariant.5.holds_if).0 (subst IsTrue c.holds.ensures holds) in
     subst (λ (x : Recorded). IsGood x.config (reverse x.log) (stand_of x)) c.self.view_is
     (c.logs_are_good.ensures.good w.config (reverse logged.events) (reverse w.log.items) (stand_at w.sender w.wire.items w.receiver) logged.answers tells.0 (honest (reverse w.log.items) tells.1))
