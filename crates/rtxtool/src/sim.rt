@@ -11,7 +11,7 @@ use crate::pending::Pending;
 use lines::{LONGEST_LINE, find_byte, parse_config, parse_event, push_entry};
 use std::alloc::Global;
 use std::io::{Read, Write};
-use stores::{ListHistory, ListWindow, OutOfMemory};
+use stores::{OutOfMemory, RingHistory, RingWindow};
 use world::{Config, Event, World};
 
 /// What stands at the front of the octets that are pending.
@@ -111,7 +111,7 @@ fn read_event<R: Read, W: Write>(
 
 /// Does an event, and puts the line of its entry in the place of `line`.
 fn advance(
-    world: &mut World<ListHistory, ListWindow>,
+    world: &mut World<RingHistory, RingWindow>,
     event: &Event,
     line: &mut Vec<u8>,
 ) -> Result<(), OutOfMemory>
@@ -144,7 +144,7 @@ pub fn sim_text<R: Read, W: Write>(
     let mut pending = Pending::new(alloc)?;
     let mut line = Vec::new(alloc);
     let config = read_config(&mut pending, input, output)?;
-    let mut world = World::<ListHistory, ListWindow>::new(alloc, &config)?;
+    let mut world = World::<RingHistory, RingWindow>::new(alloc, &config)?;
     // A log of 2^64 entries has no room in any memory, so the loop ends before its range does.
     for count in 0..u64::MAX - 2 {
         let Some(event) = read_event(&mut pending, input, output, count + 2)? else {

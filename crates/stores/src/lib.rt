@@ -27,10 +27,3 @@ pub use ring_history::RingHistory;
 pub use ring_window::RingWindow;
 pub use slot::{PutFault, Slot};
 pub use window::Window;
-
-#[cfg(test)]
-mod history_tests;
-#[cfg(test)]
-mod tests;
-#[cfg(test)]
-mod window_tests;

@@ -3,6 +3,10 @@
 #![tactic(auto)]
 
 #[cfg(test)]
+mod both_histories;
+#[cfg(test)]
+mod both_windows;
+#[cfg(test)]
 mod feedback;
 #[cfg(test)]
 mod framing;
@@ -16,3 +20,5 @@ mod retransmission;
 mod rtp;
 #[cfg(test)]
 mod script_lines;
+#[cfg(test)]
+mod windows;

@@ -1,4 +1,4 @@
-use super::*;
+use stores::*;
 use arrayvec::ArrayVec;
 use places::Place;
 use rtpwire::Content;

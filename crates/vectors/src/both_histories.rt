@@ -3,8 +3,8 @@ ghost use Rattle.std.specs.Prelude.{◌≡◌, ◌<◌, ◌≤◌, true, IsSome}
 ghost use Rattle.std.specs.Option.{ForSome};
 ghost use Rattle.stores.specs.Past.{next_of, entry_at};
 
-use super::*;
-use crate::tests::{content, place};
+use stores::*;
+use crate::windows::{content, place};
 use places::Place;
 use std::alloc::Global;
 use std::test::Fail;
@@ -31,6 +31,7 @@ fn start<H: History>(alloc: Global, capacity: usize, first: u64) -> Result<Sendi
 
 /// Pushes a content with this octet at the next place.
 fn push<H: History>(sending: &mut Sending<H>, octet: u8) -> Result<(), Fail> {
+    history_by_place();
     let place = Place::new(sending.next).ok_or("a place is below 2^48")?;
     sending.history.push(place, content(octet));
     sending.next = place.value() + 1;
@@ -41,6 +42,7 @@ fn push<H: History>(sending: &mut Sending<H>, octet: u8) -> Result<(), Fail> {
 fn has<H: History>(history: &H, place: Place) -> bool
     ensures { result ≡ true → IsSome (entry_at (H.meaning history.now) place) }
 {
+    history_by_place();
     match history.find(place.number()) {
         Some(found) => found == place,
         None => false,
@@ -60,6 +62,7 @@ fn entry<H: History>(history: &H, at: u64) -> Result<Option<(u8, u8, bool)>, Fai
 
 /// Marks the entry of this place, if there is one.
 fn mark<H: History>(sending: &mut Sending<H>, at: u64) -> Result<(), Fail> {
+    history_by_place();
     let place = place(at)?;
     if has(&sending.history, place) {
         sending.history.mark(place);
@@ -69,6 +72,7 @@ fn mark<H: History>(sending: &mut Sending<H>, at: u64) -> Result<(), Fail> {
 
 /// Counts a retransmission of the entry of this place, if there is one and it takes one more.
 fn repeat<H: History>(sending: &mut Sending<H>, at: u64) -> Result<(), Fail> {
+    history_by_place();
     let place = place(at)?;
     if has(&sending.history, place) && sending.history.get(place).repeats < 255 {
         sending.history.count_repeat(place);

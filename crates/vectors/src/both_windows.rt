@@ -1,6 +1,6 @@
 //! The window as a list and as a ring, side by side: the same calls give the same answers.
-use super::*;
-use crate::tests::{asked, content, place, taken};
+use stores::*;
+use crate::windows::{asked, content, place, taken};
 use std::test::Fail;
 
 /// Puts a content at this place into both, and tells whether they answer the same.

@@ -1,8 +1,0 @@
-use Rattle.std.proofs.Common.{sym, ◌∙◌}
-use Rattle.stores.proofs.EntryChanges.{mark_by_place}
-use Rattle.stores.proofs.history_tests.mark.Goals as goal
-
-pub invariant_of-sending : goal.invariant_of-sending
-invariant_of-sending g c =
-    let changes = mark_by_place (g.H.History.meaning c.args.sending.now.history) (g.H.History.meaning c.mark.new.self) c.in_ok-place.place c.mark.ensures in
-    record { follows = λ x e. c.args.sending.now.follows x (sym changes.next ∙ e) }

@@ -1,8 +1,0 @@
-use Rattle.std.proofs.Common.{sym, ◌∙◌}
-use Rattle.stores.proofs.EntryChanges.{repeat_by_place}
-use Rattle.stores.proofs.history_tests.repeat.Goals as goal
-
-pub invariant_of-sending : goal.invariant_of-sending
-invariant_of-sending g c =
-    let changes = repeat_by_place (g.H.History.meaning c.args.sending.now.history) (g.H.History.meaning c.count_repeat.new.self) c.in_ok-place.place c.count_repeat.ensures in
-    record { follows = λ x e. c.args.sending.now.follows x (sym changes.next ∙ e) }

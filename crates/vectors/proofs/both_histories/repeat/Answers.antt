@@ -1,0 +1,7 @@
+use Rattle.std.proofs.Common.{sym, ◌∙◌}
+use Rattle.vectors.proofs.both_histories.repeat.Goals as goal
+
+pub invariant_of-sending : goal.invariant_of-sending
+invariant_of-sending g c =
+    let changes = c.history_by_place.ensures.count_repeat (g.H.History.meaning c.args.sending.now.history) (g.H.History.meaning c.count_repeat.new.self) c.in_ok-place.place c.count_repeat.ensures in
+    record { follows = λ x e. c.args.sending.now.follows x (sym changes.next ∙ e) }
