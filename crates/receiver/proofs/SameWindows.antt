@@ -13,7 +13,7 @@ use Rattle.receiver.specs.declared.fault.ReceiveFault.TheVariants as refused
 use Rattle.receiver.specs.Window.{Window, Missed, Starts, Takes, Passes, HasPassed, AnswersPlace, StartsAt, Plays, PlaysAny}
 
 -- windows that agree at every place are one
-same_window : (v w : Window) → v.cursor ≡ w.cursor → v.highest ≡ w.highest → ((k : ℕ) → v.held k ≡ w.held k) → ((k : ℕ) → v.missing k ≡ w.missing k) → v ≡ w
+pub same_window : (v w : Window) → v.cursor ≡ w.cursor → v.highest ≡ w.highest → ((k : ℕ) → v.held k ≡ w.held k) → ((k : ℕ) → v.missing k ≡ w.missing k) → v ≡ w
 same_window v w cursor highest held missing =
     λ i. record { cursor = cursor i; highest = highest i; held = λ k. held k i; missing = λ k. missing k i }
 
@@ -79,7 +79,7 @@ one_pass old v w a b =
     (at_each v.missing w.missing old.cursor (a.missing_dropped ∙ sym b.missing_dropped) (λ k other. a.missing k other ∙ sym (b.missing k other)))
 
 -- a window that is some one
-one_such : (P : Window → Type 0) → ((v w : Window) → P v → P w → v ≡ w) → (v w : Option Window) → IsSomeAnd v P → IsSomeAnd w P → v ≡ w
+pub one_such : (P : Window → Type 0) → ((v w : Window) → P v → P w → v ≡ w) → (v w : Option Window) → IsSomeAnd v P → IsSomeAnd w P → v ≡ w
 one_such P one None w none b = absurd none
 one_such P one (Some v) None a none = absurd none
 one_such P one (Some v) (Some w) a b = ap (λ (x : Window). Some x) (one v w a b)

@@ -1,4 +1,6 @@
 pub mod Window
+pub mod Asks
+pub mod Counted
 pub mod Heard
 pub mod Config
 pub mod Receiver

@@ -66,4 +66,18 @@ impl ReceiverConfig {
     {
         self.patience
     }
+
+    /// How long until a missing place is asked for again, in milliseconds from its last ask.
+    pub fn retry(&self) -> u64
+        ensures { result ≡ self.now.retry }
+    {
+        self.retry
+    }
+
+    /// How often a missing place may be asked for.
+    pub fn asks(&self) -> u8
+        ensures { result ≡ self.now.asks }
+    {
+        self.asks
+    }
 }

@@ -1,6 +1,7 @@
 //! Laws on what a receiver answers. These functions compute nothing: their contracts are the laws, for callers that
 //! speak of places and contents alone.
 ghost use Rattle.std.specs.Prelude.{◌≡◌, ℕ, List, Option, Result};
+ghost use Rattle.arrayvec.specs.ArrayVec.{ArrayVec};
 ghost use Rattle.rtpwire.specs.declared.content.Content.{Content};
 ghost use Rattle.rtpwire.specs.Rtp.{RtpSpells};
 ghost use Rattle.rtpwire.specs.Content.{IsTooLong, packet_of};
@@ -9,8 +10,10 @@ ghost use Rattle.receiver.specs.declared.answer.Played.{Played};
 ghost use Rattle.receiver.specs.declared.fault.ReceiveFault.{ReceiveFault};
 ghost use Rattle.receiver.specs.Config.{Config};
 ghost use Rattle.receiver.specs.Window.{Window, PlaysAny};
+ghost use Rattle.receiver.specs.Asks.{AsksAny, KeepsLimit};
 ghost use Rattle.receiver.specs.Heard.{Hears, TakesNumber, TakesOrRefuses};
 
+use fbwire::packing_is_determined;
 use places::near_is_determined;
 use rtpwire::{content_is_determined, spelling_is_determined};
 
@@ -40,3 +43,14 @@ pub fn playing_is_determined()
     ensures { (patience now : ℕ) (old : Option Window) (r s : Played) (v w : Option Window)
         → PlaysAny patience old now r v → PlaysAny patience old now s w → (r ≡ s) × (v ≡ w) }
 {}
+
+/// What a receiver asks for: the moment and the receiver before determine it, and the receiver after.
+pub fn asking_is_determined()
+    ensures one { (c : Config) (now : ℕ) (old : Option Window) (r s : Option (ArrayVec ℕ)) (v w : Option Window)
+        → AsksAny c old now r v → AsksAny c old now s w → (r ≡ s) × (v ≡ w) }
+    // No place is asked for more often than the limit.
+    ensures bounded { (c : Config) (now : ℕ) (old : Option Window) (answer : Option (ArrayVec ℕ)) (new : Option Window)
+        → AsksAny c old now answer new → KeepsLimit c.asks old → KeepsLimit c.asks new }
+{
+    packing_is_determined();
+}

@@ -11,9 +11,11 @@ mod stream;
 pub use answer::{Played, Taken};
 pub use config::ReceiverConfig;
 pub use fault::ReceiveFault;
-pub use laws::{hearing_is_determined, playing_is_determined};
+pub use laws::{asking_is_determined, hearing_is_determined, playing_is_determined};
 pub use receiver::Receiver;
 pub use stream::Stream;
 
+#[cfg(test)]
+mod row_tests;
 #[cfg(test)]
 mod tests;

@@ -1,6 +1,9 @@
 //! The receiving end.
-ghost use Rattle.std.specs.Prelude.{◌≡◌, ◌^◌, ◌<◌, None, OnErr};
+ghost use Rattle.std.specs.Prelude.{◌≡◌, ◌^◌, ◌<◌, None, IsNone, OnErr};
+ghost use Rattle.std.specs.List.Sorted.{IsStrictlyIncreasing};
 ghost use Rattle.stores.specs.Span.{IsSpan};
+ghost use Rattle.receiver.specs.Asks.{AsksAny, CountsMissing};
+ghost use Rattle.receiver.specs.Counted.{CanAllBeAsked, CountsAsks};
 ghost use Rattle.receiver.specs.Window.{window_of, TakesPlace, PlaysAny};
 ghost use Rattle.receiver.specs.Heard.{Hears, TakesNumber};
 ghost use Rattle.receiver.specs.Receiver.{state_of};
@@ -9,8 +12,9 @@ use crate::answer::{Played, Taken};
 use crate::config::ReceiverConfig;
 use crate::fault::ReceiveFault;
 use crate::stream::{Stream, stream_of};
+use fbwire::{pack, write_nack};
 use places::{Place, near};
-use rtpwire::{Content, RtpView};
+use rtpwire::{Content, Datagram, RtpView};
 use std::marker::Model;
 use stores::{Slot, Window, window_by_place};
 
@@ -82,6 +86,32 @@ impl<W: Window> Receiver<W> {
     {
         let patience = self.config.patience();
         play_from(&mut self.window, patience, now)
+    }
+
+    /// Asks for missing places at the moment `now`, in milliseconds. It may be called at any time, and
+    /// moments need not rise. The answer is the datagram of a generic NACK (RFC 4585, section 6.2.1), from
+    /// the session's receiver to its media source, and None where no place is due: nothing changes then.
+    ///
+    /// A place is due that is missing, was asked for fewer times than the configured limit, and either
+    /// never or last at least `retry` milliseconds before `now`. The first 1088 of them, or all, are packed
+    /// into at most 64 pairs. Each place that the pairs cover was then asked for once more, last at `now`;
+    /// one that they do not cover stays due, so a caller asks again until the answer is None.
+    pub fn ask(&mut self, now: u64) -> Option<Datagram>
+        ensures asks { AsksAny self.old.config (state_of self.old) now result (state_of self.new) }
+        ensures none { IsNone result → self.new ≡ self.old }
+        ensures config { self.new.config ≡ self.old.config }
+        ensures capacity { self.new.span.capacity ≡ self.old.span.capacity }
+        ensures is_span { IsSpan self.new.span }
+    {
+        ask_from(&mut self.window, &self.config, now)
+    }
+
+    /// How many places are missing: above the next one to play, below the highest one that was taken, and
+    /// not held.
+    pub fn missing(&self) -> usize
+        ensures { CountsMissing (state_of self.now) result }
+    {
+        missing_in(&self.window)
     }
 
     /// Its window, to see what it holds and misses.
@@ -175,4 +205,45 @@ fn play_from<W: Window>(window: &mut W, patience: u64, now: u64) -> Played
         Slot::Held(content) => Played::Packet(place, content),
         Slot::Missing { .. } => Played::Gap(place),
     }
+}
+
+/// Asks for the due places of a window.
+fn ask_from<W: Window>(window: &mut W, config: &ReceiverConfig, now: u64) -> Option<Datagram>
+    ensures asks { AsksAny config.now (window_of (W.meaning window.old)) now result (window_of (W.meaning window.new)) }
+    ensures none { IsNone result → W.meaning window.new ≡ W.meaning window.old }
+    ensures capacity { (W.meaning window.new).capacity ≡ (W.meaning window.old).capacity }
+{
+    window_by_place();
+    let due = window.due(now, config.retry(), config.asks());
+    if due.is_empty() {
+        return None;
+    }
+    let (pairs, count) = pack(due.as_slice());
+    count_asks(window, &due.as_slice()[..count], now);
+    let session = config.session();
+    Some(write_nack(
+        session.receiver_ssrc(),
+        session.media_ssrc(),
+        pairs.as_slice(),
+    ))
+}
+
+/// Counts one ask for each of these places, made at the moment `now`.
+fn count_asks<W: Window>(window: &mut W, places: &[Place], now: u64)
+    requires rising { IsStrictlyIncreasing places.now }
+    requires askable { CanAllBeAsked (W.meaning window.old) places.now }
+    ensures { CountsAsks (W.meaning window.old) (W.meaning window.new) places.now now }
+{
+    window_by_place();
+    for place in places {
+        window.count_ask(*place, now);
+    }
+}
+
+/// How many places of a window are missing.
+fn missing_in<W: Window>(window: &W) -> usize
+    ensures { CountsMissing (window_of (W.meaning window.now)) result }
+{
+    window_by_place();
+    window.missing()
 }

@@ -1,0 +1,198 @@
+-- Asks that a window counts are asks of the receiver.
+use Rattle.std.proofs.Common.{◌≡◌, ◌≢◌, ℕ, ◌+◌, ◌-◌, ◌<◌, ◌==◌, ◌||◌, Bool, true, false, cond, List, [], ◌∷◌, length, take, get_or, Option, Some, None, IsSomeAnd, IsSome, option_map, refl, sym, ap, subst, ◌∙◌, arith, inl, inr, eqb-true, eq-eqb, ne_eqb, true≢false}
+use Rattle.std.specs.List.{All}
+use Rattle.std.specs.List.Sorted.{IsStrictlyIncreasing}
+use Rattle.std.proofs.lemmas.Bool.{cases_eq}
+use Rattle.std.proofs.lemmas.Option.{same_Some}
+use Rattle.std.proofs.lemmas.List.Folds.{list_any_more}
+use Rattle.std.proofs.lemmas.List.Elements.{All-take}
+use Rattle.arrayvec.specs.ArrayVec.{ArrayVec}
+use Rattle.fbwire.specs.declared.nack.Pair.{Pair}
+use Rattle.fbwire.specs.Nack.{NackSpells}
+use Rattle.fbwire.specs.Packing.{IsPacking, IsNarrow}
+use Rattle.stores.specs.declared.slot.Slot.{Slot}
+use Rattle.stores.specs.declared.slot.Slot.TheVariants.{Held, Missing}
+use Rattle.stores.specs.Span.{Span, IsSpan}
+use Rattle.stores.specs.ByPlace.{slot_at, IsInside}
+use Rattle.stores.specs.PlaceLists.{Lists}
+use Rattle.stores.specs.Asking.{CanBeAsked, asked_slot, due_places, missing_places, CountsAsk}
+use Rattle.stores.specs.Asking.{is_due as is_due_slot, is_missing as is_missing_slot}
+use Rattle.receiver.specs.Config.{Config}
+use Rattle.receiver.specs.Window.{held_in, missed_in, window_at, window_of}
+use Rattle.receiver.specs.Asks.{is_due, is_missed, is_among, asked_once, Asks, AsksAny, CountsMissing}
+use Rattle.receiver.specs.Counted.{CanAllBeAsked, CountsAsks}
+use Rattle.receiver.proofs.Rising.{members, not_before}
+
+-- what is true of a slot, by what it misses
+same_due : (now retry limit : ℕ) (o : Option Slot) → is_due_slot now retry limit o ≡ is_due retry limit now (missed_in o)
+same_due now retry limit None = refl
+same_due now retry limit (Some (Held content)) = refl
+same_due now retry limit (Some (Missing noticed asks last)) = refl
+
+same_missing : (o : Option Slot) → is_missing_slot o ≡ is_missed (missed_in o)
+same_missing None = refl
+same_missing (Some (Held content)) = refl
+same_missing (Some (Missing noticed asks last)) = refl
+
+due_is_some : (now retry limit : ℕ) (o : Option Slot) → is_due_slot now retry limit o ≡ true → IsSome o
+due_is_some now retry limit None due = absurd cc
+due_is_some now retry limit (Some slot) due = refl
+
+lists_same : (places : List ℕ) (f g : ℕ → Bool) → ((q : ℕ) → f q ≡ g q) → Lists places f → Lists places g
+lists_same places f g same lists = record { rises = lists.rises; each = λ q. lists.each q ∙ same q }
+
+-- each listed place passes the test
+pub all_pass : (places : List ℕ) (test : ℕ → Bool) → Lists places test → All (λ q. test q ≡ true) places
+all_pass places test lists = members (λ q. test q ≡ true) places (λ q among. sym (lists.each q) ∙ among)
+
+-- places that have a slot lie within one window
+within_window : (cursor : Option ℕ) (slots : List Slot) (room : ℕ) → let s : Span = record { cursor = cursor; slots = slots; capacity = room } in
+    IsSpan s → ((q : ℕ) → IsSome (slot_at s q) → IsInside s q) → (places : List ℕ) → All (λ q. IsSome (slot_at s q)) places → IsNarrow places
+within_window cursor slots room is inside [] all = omega arith
+within_window None slots room is inside (x ∷ xs) all = absurd (inside x (all 0 0 (omega arith))).0
+within_window (Some k) slots room is inside (x ∷ xs) all =
+    let first = inside x (all 0 0 (omega arith)) in
+    let last = inside (get_or (x ∷ xs) (length (x ∷ xs) - 1) 0) (all (length (x ∷ xs) - 1) 0 (omega arith)) in
+    let low = first.0 in
+    let high = last.1 in
+    let fits = is.room in
+    let limit = is.limit in
+    let some = (is.started k refl).0 in
+    omega arith
+
+module _ (s : Span) (is : IsSpan s) (inside : (q : ℕ) → IsSome (slot_at s q) → IsInside s q) (now retry limit : ℕ)
+    (lists : Lists (due_places s now retry limit) (λ q. is_due_slot now retry limit (slot_at s q))) where
+  -- the first of the due places, so many of them
+  pub due_narrow : (n : ℕ) → IsNarrow (take n (due_places s now retry limit))
+  due_narrow n =
+      within_window s.cursor s.slots s.capacity is inside _
+      (All-take (λ q. IsSome (slot_at s q)) n _ (λ k d l. due_is_some now retry limit _ (all_pass _ _ lists k d l)))
+
+  pub due_askable : ((o : Option Slot) → is_due_slot now retry limit o ≡ true → IsSomeAnd o CanBeAsked) → (n m : ℕ) → CanAllBeAsked s (take m (take n (due_places s now retry limit)))
+  due_askable askable n m =
+      let P : ℕ → Type 0 = λ q. IsSomeAnd (slot_at s q) CanBeAsked in
+      All-take P m _ (All-take P n _ (λ k d l. askable _ (all_pass _ _ lists k d l)))
+
+-- Asks that are counted one after another.
+
+pub counts_none : (s : Span) (places : List ℕ) (now : ℕ) → CountsAsks s s (take 0 places) now
+counts_none s places now = record { cursor = refl; highest = refl; slots = λ q. refl; capacity = refl }
+
+merged : (x y z : Bool) (f : Option Slot → Option Slot) (o m n : Option Slot) → z ≡ (x || y) → (y ≡ true → x ≡ false) → m ≡ cond x (f o) o → n ≡ cond y (f m) m → n ≡ cond z (f o) o
+merged true true z f o m n is once a b = absurd (true≢false (once refl))
+merged true false z f o m n is once a b = b ∙ a ∙ sym (ap (λ t. cond t (f o) o) is)
+merged false true z f o m n is once a b = b ∙ ap f a ∙ sym (ap (λ t. cond t (f o) o) is)
+merged false false z f o m n is once a b = b ∙ a ∙ sym (ap (λ t. cond t (f o) o) is)
+
+swapped : (p q : ℕ) → (q == p) ≡ (p == q)
+swapped p q = elim (cases_eq q p) [ inl same ↦ eq-eqb q p same ∙ sym (eq-eqb p q (sym same)) | inr other ↦ ne_eqb q p other ∙ sym (ne_eqb p q (λ e. other (sym e))) ]
+
+module _ (old mid : Span) (places : List ℕ) (i d now : ℕ) (rising : IsStrictlyIncreasing places) (within : i < length places) (before : CountsAsks old mid (take i places) now) where
+  -- the next place was not asked for so far
+  pub askable_still : CanAllBeAsked old places → IsSomeAnd (slot_at mid (get_or places i d)) CanBeAsked
+  askable_still all =
+      let here = before.slots (get_or places i d) ∙ ap (λ b. cond b (option_map (asked_slot now) (slot_at old (get_or places i d))) (slot_at old (get_or places i d))) (not_before places i d rising within) in
+      subst (λ o. IsSomeAnd o CanBeAsked) (sym here) (all i d within)
+
+  pub counts_more : (new : Span) → CountsAsk mid new (get_or places i d) now → CountsAsks old new (take (i + 1) places) now
+  counts_more new one =
+      record {
+        cursor = one.cursor ∙ before.cursor;
+        highest = one.highest ∙ before.highest;
+        slots = λ q.
+            merged (is_among (take i places) q) (q == get_or places i d) (is_among (take (i + 1) places) q) (option_map (asked_slot now)) (slot_at old q) (slot_at mid q) (slot_at new q)
+            (list_any_more (λ p. p == q) places i d within ∙ ap (λ b. is_among (take i places) q || b) (sym (swapped (get_or places i d) q)))
+            (λ same. ap (is_among (take i places)) (eqb-true _ _ same) ∙ not_before places i d rising within)
+            (before.slots q)
+            (one.slots q);
+        capacity = one.capacity ∙ before.capacity;
+      }
+
+held_asked : (now : ℕ) (o : Option Slot) → held_in (option_map (asked_slot now) o) ≡ held_in o
+held_asked now None = refl
+held_asked now (Some (Held content)) = refl
+held_asked now (Some (Missing noticed asks last)) = refl
+
+missed_asked : (now : ℕ) (o : Option Slot) → missed_in (option_map (asked_slot now) o) ≡ option_map (asked_once now) (missed_in o)
+missed_asked now None = refl
+missed_asked now (Some (Held content)) = refl
+missed_asked now (Some (Missing noticed asks last)) = refl
+
+held_still : (now : ℕ) (b : Bool) (o n : Option Slot) → n ≡ cond b (option_map (asked_slot now) o) o → held_in n ≡ held_in o
+held_still now true o n is = ap held_in is ∙ held_asked now o
+held_still now false o n is = ap held_in is
+
+missed_once : (now : ℕ) (b : Bool) (o n : Option Slot) → n ≡ cond b (option_map (asked_slot now) o) o → missed_in n ≡ cond b (option_map (asked_once now) (missed_in o)) (missed_in o)
+missed_once now true o n is = ap missed_in is ∙ missed_asked now o
+missed_once now false o n is = ap missed_in is
+
+-- asks that were counted at a started window
+asks_at : (k : ℕ) (slots : List Slot) (room : ℕ) (new : Span) (covered : List ℕ) (now : ℕ) → let old : Span = record { cursor = Some k; slots = slots; capacity = room } in
+    CountsAsks old new covered now →
+    IsSomeAnd (window_of new) (Asks (record { cursor = k; highest = k + length slots - 1; held = λ q. held_in (slot_at old q); missing = λ q. missed_in (slot_at old q) }) covered now)
+asks_at k slots room new covered now counts =
+    let old : Span = record { cursor = Some k; slots = slots; capacity = room } in
+    let P : Option ℕ → Type 0 = λ c.
+    IsSomeAnd (window_at c new) (Asks (record { cursor = k; highest = k + length slots - 1; held = λ q. held_in (slot_at old q); missing = λ q. missed_in (slot_at old q) }) covered now) in
+    let highest : option_map (λ c. c + length new.slots - 1) (Some k) ≡ Some (k + length slots - 1) = ap (option_map (λ c. c + length new.slots - 1)) (sym counts.cursor) ∙ counts.highest in
+    subst P (sym counts.cursor) (record {
+      cursor = refl;
+      highest = same_Some _ _ highest;
+      held = λ q. held_still now _ _ _ (counts.slots q);
+      missing = λ q. missed_once now _ _ _ (counts.slots q);
+    })
+
+-- an ask of a window
+module _ (slots : List Slot) (room : ℕ) (c : Config) (now : ℕ) where
+  abbrev at : Option ℕ → Span
+  at cursor = record { cursor = cursor; slots = slots; capacity = room }
+
+  abbrev due : Option ℕ → List ℕ
+  due cursor = due_places (at cursor) now c.retry c.asks
+
+  pub asks_some : (cursor : Option ℕ) (pairs : List Pair) (count : ℕ) (datagram : ArrayVec ℕ) (new : Span) →
+      Lists (due cursor) (λ q. is_due_slot now c.retry c.asks (slot_at (at cursor) q)) → IsNarrow (take 1088 (due cursor)) →
+      take 1088 (due cursor) ≢ [] → IsPacking (take 1088 (due cursor)) pairs count →
+      NackSpells (record { reporter = c.session.receiver_ssrc; media = c.session.media_ssrc; pairs = pairs }) datagram.items →
+      CountsAsks (at cursor) new (take count (take 1088 (due cursor))) now →
+      AsksAny c (window_of (at cursor)) now (Some datagram) (window_of new)
+  asks_some None pairs count datagram new lists narrow some packs spells counts = absurd (some refl)
+  asks_some (Some k) pairs count datagram new lists narrow some packs spells counts =
+      record {
+        due = due (Some k);
+        each = lists_same _ _ _ (λ q. same_due now c.retry c.asks (slot_at (at (Some k)) q)) lists;
+        answers = (
+          λ none. some (ap (take 1088) none),
+          record { pairs = pairs; count = count; narrow = narrow; packing = packs; spells = spells; asks = asks_at k slots room new _ now counts },
+        );
+      }
+
+  pub asks_none : (cursor : Option ℕ) → Lists (due cursor) (λ q. is_due_slot now c.retry c.asks (slot_at (at cursor) q)) → due cursor ≡ [] →
+      AsksAny c (window_of (at cursor)) now None (window_of (at cursor))
+  asks_none None lists none = (refl, refl)
+  asks_none (Some k) lists none =
+      record {
+        due = due (Some k);
+        each = lists_same _ _ _ (λ q. same_due now c.retry c.asks (slot_at (at (Some k)) q)) lists;
+        answers = (none, refl);
+      }
+
+-- the missing places of a window are counted
+pub counts_missed : (slots : List Slot) (room : ℕ) (cursor : Option ℕ) (count : ℕ) → let s : Span = record { cursor = cursor; slots = slots; capacity = room } in
+    Lists (missing_places s) (λ q. is_missing_slot (slot_at s q)) → count ≡ length (missing_places s) → CountsMissing (window_of s) count
+counts_missed slots room None count lists is = is
+counts_missed slots room (Some k) count lists is =
+    let s : Span = record { cursor = Some k; slots = slots; capacity = room } in
+    record {
+      places = missing_places s;
+      each = lists_same _ _ _ (λ q. same_missing (slot_at s q)) lists;
+      counted = is;
+    }
+
+-- no place is due where the first ones are none
+pub none_due : (items places : List ℕ) → items ≡ take 1088 places → (length items == 0) ≡ true → places ≡ []
+none_due items [] is none = refl
+none_due items (x ∷ xs) is none = let count = ap length is in let e = eqb-true _ _ none in absurd (omega arith)
+
+pub some_due : (items places : List ℕ) → items ≡ places → (length items == 0) ≡ false → places ≢ []
+some_due items places is some none = true≢false (sym (ap (λ (xs : List ℕ). length xs == 0) (is ∙ none)) ∙ some)

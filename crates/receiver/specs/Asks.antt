@@ -1,0 +1,79 @@
+-- What a receiver asks for: which missing places are due, how they are packed into a generic NACK (RFC 4585,
+-- section 6.2.1), and what an ask leaves. When to ask is a choice of this project.
+use Rattle.std.specs.Prelude.{◌≡◌, ◌≢◌, ℕ, ◌+◌, ◌-◌, ◌≤◌, ◌==◌, ◌||◌, ◌&&◌, Bool, true, false, List, [], length, take, Option, Some, None, IsSomeAnd, IfSome, if◌then◌else◌, nat_lt, nat_le}
+use Rattle.std.specs.List.{list_any}
+use Rattle.std.specs.Option.{option_map}
+use Rattle.arrayvec.specs.ArrayVec.{ArrayVec}
+use Rattle.fbwire.specs.declared.nack.Pair.{Pair}
+use Rattle.fbwire.specs.Nack.{NackSpells}
+use Rattle.fbwire.specs.Packing.{IsPacking, IsNarrow}
+use Rattle.stores.specs.PlaceLists.{Lists}
+use Rattle.receiver.specs.Config.{Config}
+use Rattle.receiver.specs.Window.{Missed, Window}
+
+-- Whether a place is due to be asked for: it is missing, it was asked for fewer times than the limit, and
+-- never so far or last so long ago. A moment before the last ask is never long enough after it.
+abbrev pub is_due : (retry limit now : ℕ) → Option Missed → Bool
+is_due retry limit now (Some m) = nat_lt m.asks limit && (m.asks == 0 || (nat_le m.last now && nat_le retry (now - m.last)))
+is_due retry limit now None = false
+
+abbrev pub is_missed : Option Missed → Bool
+is_missed (Some m) = true
+is_missed None = false
+
+-- the place is among these
+abbrev pub is_among : List ℕ → ℕ → Bool
+is_among places k = list_any (λ p. p == k) places
+
+-- a missing place after one more ask at the moment `now`
+abbrev pub asked_once : (now : ℕ) → Missed → Missed
+asked_once now m = record { noticed = m.noticed; asks = m.asks + 1; last = now }
+
+-- Each of the covered places was asked for once more, at the moment `now`. All else is as it was.
+pub record Asks (old : Window) (covered : List ℕ) (now : ℕ) (new : Window) : Type 0 where
+  pub cursor : new.cursor ≡ old.cursor
+  pub highest : new.highest ≡ old.highest
+  pub held : (k : ℕ) → new.held k ≡ old.held k
+  pub missing : (k : ℕ) → new.missing k ≡ (if is_among covered k then option_map (asked_once now) (old.missing k) else old.missing k)
+
+-- An ask for due places. The first 1088 of them, or all, are packed into as few pairs as name them, 64 at
+-- most; the datagram is the NACK of the pairs, from the receiver to the media source. A due place that the
+-- pairs do not cover stays due.
+pub record AsksFor (c : Config) (old : Window) (due : List ℕ) (now : ℕ) (datagram : ArrayVec ℕ) (new : Option Window) : Type 0 where
+  pub pairs : List Pair
+  pub count : ℕ
+  -- the places lie within one window, so no two of them have one sequence number
+  pub narrow : IsNarrow (take 1088 due)
+  pub packing : IsPacking (take 1088 due) pairs count
+  pub spells : NackSpells (record { reporter = c.session.receiver_ssrc; media = c.session.media_ssrc; pairs = pairs }) datagram.items
+  pub asks : IsSomeAnd new (Asks old (take count (take 1088 due)) now)
+
+-- where no place is due there is no ask, and nothing changes
+abbrev pub AnswersAsk : Config → Window → (due : List ℕ) → (now : ℕ) → Option (ArrayVec ℕ) → Option Window → Type 0
+AnswersAsk c old due now (Some datagram) new = (due ≢ []) × AsksFor c old due now datagram new
+AnswersAsk c old due now None new = (due ≡ []) × (new ≡ Some old)
+
+-- an ask at a started receiver
+pub record AsksDue (c : Config) (old : Window) (now : ℕ) (answer : Option (ArrayVec ℕ)) (new : Option Window) : Type 0 where
+  pub due : List ℕ
+  pub each : Lists due (λ k. is_due c.retry c.asks now (old.missing k))
+  pub answers : AnswersAsk c old due now answer new
+
+-- A receiver that took nothing asks for nothing.
+abbrev pub AsksAny : Config → Option Window → (now : ℕ) → Option (ArrayVec ℕ) → Option Window → Type 0
+AsksAny c None now answer new = (answer ≡ None) × (new ≡ None)
+AsksAny c (Some old) now answer new = AsksDue c old now answer new
+
+-- how many places are missing
+pub record CountsMissed (old : Window) (count : ℕ) : Type 0 where
+  pub places : List ℕ
+  pub each : Lists places (λ k. is_missed (old.missing k))
+  pub counted : count ≡ length places
+
+abbrev pub CountsMissing : Option Window → (count : ℕ) → Type 0
+CountsMissing None count = count ≡ 0
+CountsMissing (Some old) count = CountsMissed old count
+
+-- no place was asked for more often than this limit
+abbrev pub KeepsLimit : (limit : ℕ) → Option Window → Type 0
+KeepsLimit limit state = IfSome state (λ w. (k : ℕ) → IfSome (w.missing k) (λ m. m.asks ≤ limit))
