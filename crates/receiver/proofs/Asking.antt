@@ -127,23 +127,24 @@ missed_once now true o n is = ap missed_in is ∙ missed_asked now o
 missed_once now false o n is = ap missed_in is
 
 -- asks that were counted at a started window
-asks_at : (k : ℕ) (slots : List Slot) (room : ℕ) (new : Span) (covered : List ℕ) (now : ℕ) → let old : Span = record { cursor = Some k; slots = slots; capacity = room } in
+asks_at : (learnt : Option ℕ) (k : ℕ) (slots : List Slot) (room : ℕ) (new : Span) (covered : List ℕ) (now : ℕ) → let old : Span = record { cursor = Some k; slots = slots; capacity = room } in
     CountsAsks old new covered now →
-    IsSomeAnd (window_of new) (Asks (record { cursor = k; highest = k + length slots - 1; held = λ q. held_in (slot_at old q); missing = λ q. missed_in (slot_at old q) }) covered now)
-asks_at k slots room new covered now counts =
+    IsSomeAnd (window_of learnt new) (Asks (record { cursor = k; highest = k + length slots - 1; held = λ q. held_in (slot_at old q); missing = λ q. missed_in (slot_at old q); learnt = learnt }) covered now)
+asks_at learnt k slots room new covered now counts =
     let old : Span = record { cursor = Some k; slots = slots; capacity = room } in
     let P : Option ℕ → Type 0 = λ c.
-    IsSomeAnd (window_at c new) (Asks (record { cursor = k; highest = k + length slots - 1; held = λ q. held_in (slot_at old q); missing = λ q. missed_in (slot_at old q) }) covered now) in
+    IsSomeAnd (window_at learnt c new) (Asks (record { cursor = k; highest = k + length slots - 1; held = λ q. held_in (slot_at old q); missing = λ q. missed_in (slot_at old q); learnt = learnt }) covered now) in
     let highest : option_map (λ c. c + length new.slots - 1) (Some k) ≡ Some (k + length slots - 1) = ap (option_map (λ c. c + length new.slots - 1)) (sym counts.cursor) ∙ counts.highest in
     subst P (sym counts.cursor) (record {
       cursor = refl;
       highest = same_Some _ _ highest;
       held = λ q. held_still now _ _ _ (counts.slots q);
       missing = λ q. missed_once now _ _ _ (counts.slots q);
+      learnt = refl;
     })
 
 -- an ask of a window
-module _ (slots : List Slot) (room : ℕ) (c : Config) (now : ℕ) where
+module _ (slots : List Slot) (room : ℕ) (c : Config) (now : ℕ) (learnt : Option ℕ) where
   abbrev at : Option ℕ → Span
   at cursor = record { cursor = cursor; slots = slots; capacity = room }
 
@@ -155,7 +156,7 @@ module _ (slots : List Slot) (room : ℕ) (c : Config) (now : ℕ) where
       take 1088 (due cursor) ≢ [] → IsPacking (take 1088 (due cursor)) pairs count →
       NackSpells (record { reporter = c.session.receiver_ssrc; media = c.session.media_ssrc; pairs = pairs }) datagram.items →
       CountsAsks (at cursor) new (take count (take 1088 (due cursor))) now →
-      AsksAny c (window_of (at cursor)) now (Some datagram) (window_of new)
+      AsksAny c (window_of learnt (at cursor)) now (Some datagram) (window_of learnt new)
   asks_some None pairs count datagram new lists narrow some packs spells counts = absurd (some refl)
   asks_some (Some k) pairs count datagram new lists narrow some packs spells counts =
       record {
@@ -163,12 +164,12 @@ module _ (slots : List Slot) (room : ℕ) (c : Config) (now : ℕ) where
         each = lists_same _ _ _ (λ q. same_due now c.retry c.asks (slot_at (at (Some k)) q)) lists;
         answers = (
           λ none. some (ap (take 1088) none),
-          record { pairs = pairs; count = count; narrow = narrow; packing = packs; spells = spells; asks = asks_at k slots room new _ now counts },
+          record { pairs = pairs; count = count; narrow = narrow; packing = packs; spells = spells; asks = asks_at learnt k slots room new _ now counts },
         );
       }
 
   pub asks_none : (cursor : Option ℕ) → Lists (due cursor) (λ q. is_due_slot now c.retry c.asks (slot_at (at cursor) q)) → due cursor ≡ [] →
-      AsksAny c (window_of (at cursor)) now None (window_of (at cursor))
+      AsksAny c (window_of learnt (at cursor)) now None (window_of learnt (at cursor))
   asks_none None lists none = (refl, refl)
   asks_none (Some k) lists none =
       record {
@@ -178,10 +179,10 @@ module _ (slots : List Slot) (room : ℕ) (c : Config) (now : ℕ) where
       }
 
 -- the missing places of a window are counted
-pub counts_missed : (slots : List Slot) (room : ℕ) (cursor : Option ℕ) (count : ℕ) → let s : Span = record { cursor = cursor; slots = slots; capacity = room } in
-    Lists (missing_places s) (λ q. is_missing_slot (slot_at s q)) → count ≡ length (missing_places s) → CountsMissing (window_of s) count
-counts_missed slots room None count lists is = is
-counts_missed slots room (Some k) count lists is =
+pub counts_missed : (slots : List Slot) (room : ℕ) (learnt cursor : Option ℕ) (count : ℕ) → let s : Span = record { cursor = cursor; slots = slots; capacity = room } in
+    Lists (missing_places s) (λ q. is_missing_slot (slot_at s q)) → count ≡ length (missing_places s) → CountsMissing (window_of learnt s) count
+counts_missed slots room learnt None count lists is = is
+counts_missed slots room learnt (Some k) count lists is =
     let s : Span = record { cursor = Some k; slots = slots; capacity = room } in
     record {
       places = missing_places s;

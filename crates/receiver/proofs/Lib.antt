@@ -5,3 +5,5 @@ pub mod Whichever
 pub mod Rising
 pub mod Asking
 pub mod SameAsks
+pub mod Numbered
+pub mod Limits

@@ -1,20 +1,19 @@
--- What a receiver asks for is determined, and keeps the limit.
-use Rattle.std.proofs.Common.{◌≡◌, ℕ, ◌≤◌, Bool, true, false, cond, List, take, Option, Some, None, IsSomeAnd, IfSome, option_map, refl, sym, ap, subst, ◌∙◌, arith}
+-- What a receiver asks for is determined.
+use Rattle.std.proofs.Common.{◌≡◌, ℕ, List, take, Option, Some, None, IsSomeAnd, refl, sym, ap, subst, ◌∙◌}
 use Rattle.std.specs.List.Sorted.{IsStrictlyIncreasing}
-use Rattle.std.proofs.lemmas.Bool.Decides.{nat_tests}
 use Rattle.arrayvec.specs.ArrayVec.{ArrayVec}
 use Rattle.fbwire.specs.declared.nack.Pair.{Pair}
 use Rattle.fbwire.specs.Nack.{Nack, nack_octets}
 use Rattle.fbwire.specs.Packing.{IsPacking, IsNarrow}
 use Rattle.receiver.specs.Config.{Config}
-use Rattle.receiver.specs.Window.{Missed, Window}
-use Rattle.receiver.specs.Asks.{is_due, is_among, asked_once, Asks, AsksFor, AsksAny, AnswersAsk, KeepsLimit}
-use Rattle.receiver.proofs.Rising.{rising_take, one_list, among_take}
+use Rattle.receiver.specs.Window.{Window}
+use Rattle.receiver.specs.Asks.{is_due, Asks, AsksFor, AsksAny, AnswersAsk}
+use Rattle.receiver.proofs.Rising.{rising_take, one_list}
 use Rattle.receiver.proofs.SameWindows.{Same, same_window, one_such}
 
 one_asks : (old : Window) (covered : List ℕ) (now : ℕ) (v w : Window) → Asks old covered now v → Asks old covered now w → v ≡ w
 one_asks old covered now v w a b =
-    same_window v w (a.cursor ∙ sym b.cursor) (a.highest ∙ sym b.highest) (λ k. a.held k ∙ sym (b.held k)) (λ k. a.missing k ∙ sym (b.missing k))
+    same_window v w (a.cursor ∙ sym b.cursor) (a.highest ∙ sym b.highest) (λ k. a.held k ∙ sym (b.held k)) (λ k. a.missing k ∙ sym (b.missing k)) (a.learnt ∙ sym b.learnt)
 
 -- places have one packing
 abbrev pub OnePacking : Type 0
@@ -44,23 +43,3 @@ module _ (one_packing : OnePacking) (c : Config) (now : ℕ) (v w : Option Windo
   one_ask (Some old) r s a b =
       one_answer old a.due r s a.each.rises a.answers
       (subst (λ (due : List ℕ). AnswersAsk c old due now s w) (one_list b.due a.due (λ k. is_due c.retry c.asks now (old.missing k)) b.each a.each) b.answers)
-
--- a place that is asked for was asked for fewer times than the limit
-kept : (retry limit now : ℕ) (m : Option Missed) (among : Bool) → (among ≡ true → is_due retry limit now m ≡ true) → IfSome m (λ x. x.asks ≤ limit) →
-    IfSome (cond among (option_map (asked_once now) m) m) (λ x. x.asks ≤ limit)
-kept retry limit now None true due keeps = keeps
-kept retry limit now None false due keeps = keeps
-kept retry limit now (Some m) true due keeps = let is = due refl in grind (arith, nat_tests)
-kept retry limit now (Some m) false due keeps = keeps
-
-keeps_at : (c : Config) (now : ℕ) (old : Window) (due : List ℕ) (count : ℕ) (new : Option Window) → ((q : ℕ) → is_among due q ≡ is_due c.retry c.asks now (old.missing q)) →
-    IsSomeAnd new (Asks old (take count (take 1088 due)) now) → KeepsLimit c.asks (Some old) → KeepsLimit c.asks new
-keeps_at c now old due count None each none keeps = absurd none
-keeps_at c now old due count (Some new) each asks keeps =
-    λ k. subst (λ (m : Option Missed). IfSome m (λ x. x.asks ≤ c.asks)) (sym (asks.missing k))
-    (kept c.retry c.asks now (old.missing k) _ (λ among. sym (each k) ∙ among_take 1088 due k (among_take count (take 1088 due) k among)) (keeps k))
-
-pub keeps_limit : (c : Config) (now : ℕ) (old : Option Window) (answer : Option (ArrayVec ℕ)) (new : Option Window) → AsksAny c old now answer new → KeepsLimit c.asks old → KeepsLimit c.asks new
-keeps_limit c now None answer new (none, is) keeps = subst (λ (s : Option Window). KeepsLimit c.asks s) (sym is) keeps
-keeps_limit c now (Some old) None new a keeps = subst (λ (s : Option Window). KeepsLimit c.asks s) (sym a.answers.1) keeps
-keeps_limit c now (Some old) (Some datagram) new a keeps = keeps_at c now old a.due a.answers.1.count new a.each.each a.answers.1.asks keeps

@@ -13,9 +13,9 @@ use Rattle.receiver.specs.declared.fault.ReceiveFault.TheVariants as refused
 use Rattle.receiver.specs.Window.{Window, Missed, Starts, Takes, Passes, HasPassed, AnswersPlace, StartsAt, Plays, PlaysAny}
 
 -- windows that agree at every place are one
-pub same_window : (v w : Window) → v.cursor ≡ w.cursor → v.highest ≡ w.highest → ((k : ℕ) → v.held k ≡ w.held k) → ((k : ℕ) → v.missing k ≡ w.missing k) → v ≡ w
-same_window v w cursor highest held missing =
-    λ i. record { cursor = cursor i; highest = highest i; held = λ k. held k i; missing = λ k. missing k i }
+pub same_window : (v w : Window) → v.cursor ≡ w.cursor → v.highest ≡ w.highest → ((k : ℕ) → v.held k ≡ w.held k) → ((k : ℕ) → v.missing k ≡ w.missing k) → v.learnt ≡ w.learnt → v ≡ w
+same_window v w cursor highest held missing learnt =
+    λ i. record { cursor = cursor i; highest = highest i; held = λ k. held k i; missing = λ k. missing k i; learnt = learnt i }
 
 -- two maps agree at a place and at every other
 at_each : {A : Type 0} (f g : ℕ → A) (p : ℕ) → f p ≡ g p → ((k : ℕ) → k ≢ p → f k ≡ g k) → (k : ℕ) → f k ≡ g k
@@ -26,7 +26,7 @@ one_start : (place : ℕ) (content : Content) (v w : Window) → Starts place co
 one_start place content v w a b =
     same_window v w (a.cursor ∙ sym b.cursor) (a.highest ∙ sym b.highest)
     (at_each v.held w.held place (a.held ∙ sym b.held) (λ k other. a.held_else k other ∙ sym (b.held_else k other)))
-    (λ k. a.missing k ∙ sym (b.missing k))
+    (λ k. a.missing k ∙ sym (b.missing k)) (a.learnt ∙ sym b.learnt)
 
 module _ (room : ℕ) (old : Window) (place : ℕ) (content : Content) (now : ℕ) (v w : Window) (a : Takes room old place content now v) (b : Takes room old place content now w) where
   cursors : v.cursor ≡ w.cursor
@@ -71,12 +71,14 @@ module _ (room : ℕ) (old : Window) (place : ℕ) (content : Content) (now : �
       same_window v w cursors (a.highest ∙ sym b.highest)
       (at_each v.held w.held place (a.held ∙ sym b.held) same_held)
       (at_each v.missing w.missing place (a.missing ∙ sym b.missing) same_missing)
+      (a.learnt ∙ sym b.learnt)
 
 one_pass : (old v w : Window) → Passes old v → Passes old w → v ≡ w
 one_pass old v w a b =
     same_window v w (a.cursor ∙ sym b.cursor) (a.highest ∙ sym b.highest)
     (at_each v.held w.held old.cursor (a.held_dropped ∙ sym b.held_dropped) (λ k other. a.held k other ∙ sym (b.held k other)))
     (at_each v.missing w.missing old.cursor (a.missing_dropped ∙ sym b.missing_dropped) (λ k other. a.missing k other ∙ sym (b.missing k other)))
+    (a.learnt ∙ sym b.learnt)
 
 -- a window that is some one
 pub one_such : (P : Window → Type 0) → ((v w : Window) → P v → P w → v ≡ w) → (v w : Option Window) → IsSomeAnd v P → IsSomeAnd w P → v ≡ w

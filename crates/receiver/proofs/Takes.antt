@@ -1,20 +1,17 @@
 -- A put of the window is a take of the receiver.
-use Rattle.std.proofs.Common.{◌≡◌, ◌≢◌, ◌⊎◌, ℕ, ◌+◌, ◌-◌, ◌^◌, ◌<◌, ◌≤◌, ◌==◌, ◌&&◌, Bool, true, false, cond, List, length, max, Option, Some, None, Ok, Result, nat_lt, arith, refl, ap, sym, subst, slice_get, ◌∙◌, inl, inr, eq-eqb}
-use Rattle.std.specs.Prelude.{IsSomeAnd}
+use Rattle.std.proofs.Common.{◌≡◌, ◌≢◌, ◌⊎◌, ℕ, ◌+◌, ◌-◌, ◌<◌, ◌≤◌, ◌==◌, ◌&&◌, Bool, true, false, cond, List, length, max, Option, Some, None, Ok, nat_lt, arith, refl, ap, sym, subst, slice_get, ◌∙◌, inl, inr, eq-eqb}
+use Rattle.std.specs.Prelude.{IsSomeAnd, IsSome}
 use Rattle.std.specs.Option.{option_map}
 use Rattle.std.proofs.lemmas.Option.{slice_get_past, same_Some}
 use Rattle.std.proofs.lemmas.Bool.{cases_Bool, cases_lt, eqb-true, lt-ltb, le-ltb}
 use Rattle.rtpwire.specs.declared.content.Content.{Content}
 use Rattle.stores.specs.declared.slot.Slot.{Slot}
 use Rattle.stores.specs.declared.slot.Slot.TheVariants.{Held, Missing}
-use Rattle.stores.specs.Span.{Span, IsSpan, highest_of}
+use Rattle.stores.specs.Span.{Span, IsSpan}
 use Rattle.stores.specs.Put.{overrun_of}
 use Rattle.stores.specs.ByPlace.{slot_at, PutStep, StartsWith, Gains, IsHeld}
-use Rattle.places.specs.Place.{IsNear}
-use Rattle.receiver.specs.declared.answer.Taken.{Taken}
-use Rattle.receiver.specs.declared.fault.ReceiveFault.{ReceiveFault}
-use Rattle.receiver.specs.Heard.{TakesNumber}
-use Rattle.receiver.specs.Window.{Window, Starts, Takes, TakesPlace, held_in, missed_in, window_at, window_of, cursor_after}
+use Rattle.receiver.specs.Receiver.{IsUnlearnt}
+use Rattle.receiver.specs.Window.{Starts, Takes, TakesPlace, held_in, missed_in, window_at, window_of, cursor_after}
 
 -- the tests in the words on slots, decided
 at_place : (p : ℕ) (x y : Option Slot) → cond (p == p) x y ≡ x
@@ -40,9 +37,9 @@ not_between_right : (a b : Bool) (x y : Option Slot) → b ≡ false → cond (a
 not_between_right true b x y second = rw second refl
 not_between_right false b x y second = refl
 
-starts : (old new : Span) (p : ℕ) (content : Content) → StartsWith old new p content → IsSomeAnd (window_of new) (Starts p content)
-starts old new p content s =
-    let P : Option ℕ → Type 0 = λ c. IsSomeAnd (window_at c new) (Starts p content) in
+starts : (learnt : Option ℕ) (old new : Span) (p : ℕ) (content : Content) → learnt ≡ None → StartsWith old new p content → IsSomeAnd (window_of learnt new) (Starts p content)
+starts learnt old new p content unlearnt s =
+    let P : Option ℕ → Type 0 = λ c. IsSomeAnd (window_at learnt c new) (Starts p content) in
     let highest : option_map (λ k. k + length new.slots - 1) (Some p) ≡ Some p = ap (option_map (λ k. k + length new.slots - 1)) (sym s.cursor) ∙ s.highest in
     subst P (sym s.cursor) (record {
       cursor = refl;
@@ -51,19 +48,20 @@ starts old new p content s =
       held_else = λ k other. ap held_in (s.slots k ∙ elsewhere k p _ _ other);
       missing = λ k. ap missed_in (s.slots k)
           ∙ elim (cases_Bool (k == p)) [ inl e ↦ ap (λ b. missed_in (cond b (Some (Held content)) None)) e | inr e ↦ ap (λ b. missed_in (cond b (Some (Held content)) None)) e ];
+      learnt = unlearnt;
     })
 
-module _ (slots : List Slot) (room k : ℕ) (new : Span) (p overrun : ℕ) (content : Content) (now : ℕ) where
+module _ (learnt : Option ℕ) (slots : List Slot) (room k : ℕ) (new : Span) (p overrun : ℕ) (content : Content) (now : ℕ) where
   abbrev old : Span
   old = record { cursor = Some k; slots = slots; capacity = room }
 
   takes : IsSpan old → Gains old new (k + overrun) p content now → k ≤ p → overrun ≡ overrun_of room k p →
-      IsSomeAnd (window_of new)
-      (Takes room (record { cursor = k; highest = k + length slots - 1; held = λ q. held_in (slot_at old q); missing = λ q. missed_in (slot_at old q) }) p content now)
+      IsSomeAnd (window_of learnt new)
+      (Takes room (record { cursor = k; highest = k + length slots - 1; held = λ q. held_in (slot_at old q); missing = λ q. missed_in (slot_at old q); learnt = learnt }) p content now)
   takes is g over count =
       let P : Option ℕ → Type 0 = λ c.
-      IsSomeAnd (window_at c new)
-      (Takes room (record { cursor = k; highest = k + length slots - 1; held = λ q. held_in (slot_at old q); missing = λ q. missed_in (slot_at old q) }) p content now) in
+      IsSomeAnd (window_at learnt c new)
+      (Takes room (record { cursor = k; highest = k + length slots - 1; held = λ q. held_in (slot_at old q); missing = λ q. missed_in (slot_at old q); learnt = learnt }) p content now) in
       let highest : option_map (λ c. c + length new.slots - 1) (Some (k + overrun)) ≡ Some (max (k + length slots - 1) p) =
       ap (option_map (λ c. c + length new.slots - 1)) (sym g.cursor) ∙ g.highest in
       let some : 0 < k + length slots = (is.started k refl).0 in
@@ -97,6 +95,7 @@ module _ (slots : List Slot) (room k : ℕ) (new : Span) (p overrun : ℕ) (cont
         missing_below = λ q above other low. ap missed_in (kept q above other (inl low));
         missing_above = λ q above far. ap missed_in (kept q above (λ same. absurd (omega arith)) (inr far));
         missing_dropped = λ q under. ap missed_in (g.slots q ∙ elsewhere q p _ _ (apart q under) ∙ below q (k + overrun) _ _ under);
+        learnt = refl;
       })
     where
       less : (q p : ℕ) → q ≤ p → q ≢ p → q < p
@@ -115,25 +114,18 @@ not_held (Some (Missing noticed asks last)) free = refl
 overrun_is : (room k p overrun : ℕ) → overrun ≡ overrun_of room k p → overrun ≡ cursor_after room k p - k
 overrun_is room k p overrun count = omega arith
 
-pub put_takes : (cursor : Option ℕ) (slots : List Slot) (room : ℕ) (new : Span) (p overrun : ℕ) (content : Content) (now : ℕ) →
-    IsSpan (record { cursor = cursor; slots = slots; capacity = room }) → PutStep p content now (record { cursor = cursor; slots = slots; capacity = room }) (Ok overrun) new →
-    TakesPlace room (window_of (record { cursor = cursor; slots = slots; capacity = room })) p content now (Ok (record { place = p; overrun = overrun })) (window_of new)
-put_takes None slots room new p overrun content now is step = (refl, step.0, starts (record { cursor = None; slots = slots; capacity = room }) new p content step.1)
-put_takes (Some k) slots room new p overrun content now is step =
-    (refl, step.0, not_held _ step.1, overrun_is room k p overrun step.2, takes slots room k new p overrun content now is step.3 step.0 step.2)
+abbrev span : Option ℕ → List Slot → ℕ → Span
+span cursor slots room = record { cursor = cursor; slots = slots; capacity = room }
 
--- a content at the place of its number
-module _ (slots : List Slot) (room seq : ℕ) (content : Content) (now : ℕ) (answer : Result Taken ReceiveFault) (new : Option Window) where
-  pub at_first : (cursor : Option ℕ) → highest_of (record { cursor = cursor; slots = slots; capacity = room }) ≡ None →
-      TakesPlace room (window_of (record { cursor = cursor; slots = slots; capacity = room })) (65536 + seq) content now answer new →
-      TakesNumber room (window_of (record { cursor = cursor; slots = slots; capacity = room })) seq content now answer new
-  at_first None none takes = takes
-  at_first (Some k) none takes = absurd cc
+pub put_takes : (learnt cursor : Option ℕ) (slots : List Slot) (room : ℕ) (new : Span) (p overrun : ℕ) (content : Content) (now : ℕ) →
+    IsUnlearnt (span cursor slots room) learnt → IsSpan (span cursor slots room) → PutStep p content now (span cursor slots room) (Ok overrun) new →
+    TakesPlace room (window_of learnt (span cursor slots room)) p content now (Ok (record { place = p; overrun = overrun })) (window_of learnt new)
+put_takes learnt None slots room new p overrun content now unlearnt is step = (refl, step.0, starts learnt (span None slots room) new p content (unlearnt refl) step.1)
+put_takes learnt (Some k) slots room new p overrun content now unlearnt is step =
+    (refl, step.0, not_held _ step.1, overrun_is room k p overrun step.2, takes learnt slots room k new p overrun content now is step.3 step.0 step.2)
 
-  pub at_near : (cursor : Option ℕ) (highest place : ℕ) → highest_of (record { cursor = cursor; slots = slots; capacity = room }) ≡ Some highest →
-      IsNear highest seq place → place < 2 ^ 48 →
-      TakesPlace room (window_of (record { cursor = cursor; slots = slots; capacity = room })) place content now answer new →
-      TakesNumber room (window_of (record { cursor = cursor; slots = slots; capacity = room })) seq content now answer new
-  at_near None highest place some near fits takes = absurd cc
-  at_near (Some k) highest place some near fits takes =
-      inr (inr (place, subst (λ h. IsNear h seq place) (sym (same_Some _ _ some)) near, fits, takes))
+-- the window is started then
+pub put_starts : (cursor : Option ℕ) (slots : List Slot) (room : ℕ) (new : Span) (p overrun : ℕ) (content : Content) (now : ℕ) →
+    PutStep p content now (span cursor slots room) (Ok overrun) new → IsSome new.cursor
+put_starts None slots room new p overrun content now step = subst (λ (o : Option ℕ). IsSome o) (sym step.1.cursor) refl
+put_starts (Some k) slots room new p overrun content now step = subst (λ (o : Option ℕ). IsSome o) (sym step.3.cursor) refl

@@ -35,6 +35,7 @@ pub record Asks (old : Window) (covered : List ℕ) (now : ℕ) (new : Window) :
   pub highest : new.highest ≡ old.highest
   pub held : (k : ℕ) → new.held k ≡ old.held k
   pub missing : (k : ℕ) → new.missing k ≡ (if is_among covered k then option_map (asked_once now) (old.missing k) else old.missing k)
+  pub learnt : new.learnt ≡ old.learnt
 
 -- An ask for due places. The first 1088 of them, or all, are packed into as few pairs as name them, 64 at
 -- most; the datagram is the NACK of the pairs, from the receiver to the media source. A due place that the

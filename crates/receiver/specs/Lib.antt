@@ -1,7 +1,9 @@
 pub mod Window
 pub mod Asks
 pub mod Counted
+pub mod Streams
 pub mod Heard
+pub mod Carried
 pub mod Config
 pub mod Receiver
 pub mod Fault

@@ -1,13 +1,31 @@
 -- A receiver as its callers see it.
-use Rattle.std.specs.Prelude.{Option}
+use Rattle.std.specs.Prelude.{◌≡◌, ℕ, Option, Some, None, Result, Ok, Err}
 use Rattle.stores.specs.Span.{Span}
+use Rattle.receiver.specs.declared.answer.Taken.{Taken}
+use Rattle.receiver.specs.declared.fault.ReceiveFault.{ReceiveFault}
 use Rattle.receiver.specs.Config.{Config}
 use Rattle.receiver.specs.Window.{Window, window_of}
+use Rattle.receiver.specs.Asks.{KeepsLimit}
 
 pub record Receiving : Type 0 where
   pub config : Config
   pub span : Span  -- its window
+  pub learnt : Option ℕ  -- the SSRC of the retransmissions, where it was learnt
+
+-- a receiver that took nothing learnt nothing
+abbrev pub IsUnlearnt : Span → (learnt : Option ℕ) → Type 0
+IsUnlearnt s learnt = s.cursor ≡ None → learnt ≡ None
 
 -- the receiver over places
 abbrev pub state_of : Receiving → Option Window
-state_of r = window_of r.span
+state_of r = window_of r.learnt r.span
+
+-- What is true of every receiver: no place was asked for more often than the configuration says.
+pub record IsReceiving (r : Receiving) : Type 0 where
+  pub unlearnt : IsUnlearnt r.span r.learnt
+  pub limit : KeepsLimit r.config.asks (state_of r)
+
+-- what a receiver has learnt after it answered a retransmission under an SSRC that may be learnt
+abbrev pub learnt_after : (ssrc : ℕ) → (learnt : Option ℕ) → Result Taken ReceiveFault → Option ℕ
+learnt_after ssrc learnt (Ok taken) = Some ssrc
+learnt_after ssrc learnt (Err fault) = learnt

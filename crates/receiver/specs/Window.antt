@@ -25,6 +25,7 @@ pub record Window : Type 0 where
   pub highest : ℕ  -- the highest place that was taken
   pub held : ℕ → Option Content
   pub missing : ℕ → Option Missed
+  pub learnt : Option ℕ  -- the SSRC of the retransmissions, where it was learnt
 
 -- what a slot holds or misses
 abbrev pub held_in : Option Slot → Option Content
@@ -37,19 +38,20 @@ missed_in None = None
 missed_in (Some (Held content)) = None
 missed_in (Some (Missing noticed asks last)) = Some (record { noticed = noticed; asks = asks; last = last })
 
--- the receiver whose window is kept so, by its cursor
-abbrev pub window_at : Option ℕ → Span → Option Window
-window_at None s = None
-window_at (Some k) s =
+-- the receiver that learnt this and whose window is kept so, by its cursor
+abbrev pub window_at : (learnt cursor : Option ℕ) → Span → Option Window
+window_at learnt None s = None
+window_at learnt (Some k) s =
     Some (record {
       cursor = k;
       highest = k + length s.slots - 1;
       held = λ q. held_in (slot_at s q);
       missing = λ q. missed_in (slot_at s q);
+      learnt = learnt;
     })
 
-abbrev pub window_of : Span → Option Window
-window_of s = window_at s.cursor s
+abbrev pub window_of : (learnt : Option ℕ) → Span → Option Window
+window_of learnt s = window_at learnt s.cursor s
 
 abbrev pub new_missed : ℕ → Missed
 new_missed now = record { noticed = now; asks = 0; last = 0 }
@@ -65,6 +67,7 @@ pub record Starts (place : ℕ) (content : Content) (new : Window) : Type 0 wher
   pub held : new.held place ≡ Some content
   pub held_else : (k : ℕ) → k ≢ place → new.held k ≡ None
   pub missing : (k : ℕ) → new.missing k ≡ None
+  pub learnt : new.learnt ≡ None
 
 -- A later place that is taken. What falls below the cursor is dropped for good; the places that lie
 -- between the highest so far and this one are noticed to be missing.
@@ -79,6 +82,7 @@ pub record Takes (room : ℕ) (old : Window) (place : ℕ) (content : Content) (
   pub missing_below : (k : ℕ) → new.cursor ≤ k → k ≢ place → k ≤ old.highest → new.missing k ≡ old.missing k
   pub missing_above : (k : ℕ) → new.cursor ≤ k → place < k → new.missing k ≡ old.missing k
   pub missing_dropped : (k : ℕ) → k < new.cursor → new.missing k ≡ None
+  pub learnt : new.learnt ≡ old.learnt
 
 -- The cursor rises by one.
 pub record Passes (old new : Window) : Type 0 where
@@ -88,6 +92,7 @@ pub record Passes (old new : Window) : Type 0 where
   pub held_dropped : new.held old.cursor ≡ None
   pub missing : (k : ℕ) → k ≢ old.cursor → new.missing k ≡ old.missing k
   pub missing_dropped : new.missing old.cursor ≡ None
+  pub learnt : new.learnt ≡ old.learnt
 
 -- What a started receiver answers to a content at its place: it takes it, or refuses it below the cursor
 -- (35) or where the place is held already (36), which changes nothing.

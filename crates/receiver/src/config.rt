@@ -1,5 +1,5 @@
 ghost use Rattle.std.specs.Prelude.{◌≡◌, ◌↔◌, IsOk, IfOk, OnErr};
-ghost use Rattle.receiver.specs.Config.{IsConfig, config};
+ghost use Rattle.receiver.specs.Config.{IsConfig, config, config_of, learning};
 
 use rtpwire::{ConfigFault, Session};
 use std::marker::Model;
@@ -12,18 +12,19 @@ pub struct ReceiverConfig {
     patience: u64,
     retry: u64,
     asks: u8,
+    learns: bool,
 }
 
 impl Model for ReceiverConfig {
-    ghost use Rattle.receiver.specs.Config.{Config, IsConfig, config};
+    ghost use Rattle.receiver.specs.Config.{Config, IsConfig, config_of};
 
     ghost Value = { Config };
 
-    ghost view = { λ c. config c.session c.patience c.retry c.asks };
+    ghost view = { λ c. config_of c.session c.patience c.retry c.asks c.learns };
 
-    ghost invariant = { λ c. IsConfig (config c.session c.patience c.retry c.asks) };
+    ghost invariant = { λ c. IsConfig (config_of c.session c.patience c.retry c.asks c.learns) };
 
-    ghost inverse = { λ c. record { session = c.session; patience = c.patience; retry = c.retry; asks = c.asks } };
+    ghost inverse = { λ c. record { session = c.session; patience = c.patience; retry = c.retry; asks = c.asks; learns = c.learns } };
 }
 
 impl ReceiverConfig {
@@ -42,6 +43,38 @@ impl ReceiverConfig {
         ensures succeeds { IsOk result ↔ IsConfig (config session patience retry asks) }
         ensures err { OnErr result (result ≡ Err ConfigFault.BadLimit) }
     {
+        ReceiverConfig::checked(session, patience, retry, asks, false)
+    }
+
+    /// The same, but for a receiver that does not use the session's SSRC of the retransmissions: it learns
+    /// it from the first retransmission of a place that it asked for.
+    ///
+    /// `BadLimit` (53), and no other: `retry` or `asks` is 0.
+    pub fn learning(
+        session: Session,
+        patience: u64,
+        retry: u64,
+        asks: u8,
+    ) -> Result<ReceiverConfig, ConfigFault>
+        ensures ok { IfOk result (λ made. made ≡ learning session patience retry asks) }
+        ensures succeeds { IsOk result ↔ IsConfig (learning session patience retry asks) }
+        ensures err { OnErr result (result ≡ Err ConfigFault.BadLimit) }
+    {
+        ReceiverConfig::checked(session, patience, retry, asks, true)
+    }
+
+    /// A receiver of one of both kinds, if its limits are above 0.
+    fn checked(
+        session: Session,
+        patience: u64,
+        retry: u64,
+        asks: u8,
+        learns: bool,
+    ) -> Result<ReceiverConfig, ConfigFault>
+        ensures ok { IfOk result (λ made. made ≡ config_of session patience retry asks learns) }
+        ensures succeeds { IsOk result ↔ IsConfig (config_of session patience retry asks learns) }
+        ensures err { OnErr result (result ≡ Err ConfigFault.BadLimit) }
+    {
         if retry == 0 || asks == 0 {
             return Err(ConfigFault::BadLimit);
         }
@@ -50,6 +83,7 @@ impl ReceiverConfig {
             patience,
             retry,
             asks,
+            learns,
         })
     }
 
@@ -79,5 +113,12 @@ impl ReceiverConfig {
         ensures { result ≡ self.now.asks }
     {
         self.asks
+    }
+
+    /// Whether the SSRC of the retransmissions is learnt.
+    pub fn learns(&self) -> bool
+        ensures { result ≡ self.now.learns }
+    {
+        self.learns
     }
 }

@@ -9,18 +9,20 @@ use stores::PutFault;
 /// as it was.
 #[derive(Clone, Copy, Debug, PartialEq, Eq, Hash)]
 pub enum ReceiveFault {
-    /// The octets are no RTP packet (1 to 5).
+    /// The octets are no RTP packet (1 to 5), or a retransmission has no original sequence number (6).
     Rtp(RtpFault),
     /// 31: the SSRC is neither that of the media nor that of the retransmissions.
     UnknownSource,
     /// 32: the payload type is not that of the SSRC's stream.
     UnknownType,
-    /// 33: the packet is a retransmission, and the receiver has not started to take them.
-    NotStarted,
     /// 37: no content holds what the packet carries: its payload or its extension is too long.
     Content(ContentFault),
+    /// 33: the packet is a retransmission, and the receiver has not started to take them.
+    NotStarted,
     /// 34 or 39: the sequence number stands for no place near the highest one.
     Place(PlaceFault),
+    /// 38: the SSRC of the retransmissions is still to be learnt, and the place is not one that was asked for.
+    Unasked,
     /// 35 or 36: the window does not take the place: it was passed, or is held already.
     Put(PutFault),
 }
@@ -28,7 +30,7 @@ pub enum ReceiveFault {
 impl ReceiveFault {
     ghost use Rattle.receiver.specs.Fault.{receive_number};
 
-    /// Its refusal number: 1 to 5, 31 to 37 or 39.
+    /// Its refusal number: 1 to 6, or 31 to 39.
     pub fn number(&self) -> u8
         ensures { result ≡ receive_number self.now }
     {
@@ -36,9 +38,10 @@ impl ReceiveFault {
             ReceiveFault::Rtp(fault) => fault.number(),
             ReceiveFault::UnknownSource => 31,
             ReceiveFault::UnknownType => 32,
-            ReceiveFault::NotStarted => 33,
             ReceiveFault::Content(fault) => fault.number(),
+            ReceiveFault::NotStarted => 33,
             ReceiveFault::Place(fault) => fault.number(),
+            ReceiveFault::Unasked => 38,
             ReceiveFault::Put(fault) => fault.number(),
         }
     }

@@ -1,21 +1,24 @@
 //! Laws on what a receiver answers. These functions compute nothing: their contracts are the laws, for callers that
 //! speak of places and contents alone.
-ghost use Rattle.std.specs.Prelude.{◌≡◌, ℕ, List, Option, Result};
+ghost use Rattle.std.specs.Prelude.{◌≡◌, ℕ, List, Option, Result, Ok};
 ghost use Rattle.arrayvec.specs.ArrayVec.{ArrayVec};
 ghost use Rattle.rtpwire.specs.declared.content.Content.{Content};
 ghost use Rattle.rtpwire.specs.Rtp.{RtpSpells};
 ghost use Rattle.rtpwire.specs.Content.{IsTooLong, packet_of};
+ghost use Rattle.rtpwire.specs.Retransmission.{RepairSpells, repair_packet, repair_of};
 ghost use Rattle.receiver.specs.declared.answer.Taken.{Taken};
 ghost use Rattle.receiver.specs.declared.answer.Played.{Played};
 ghost use Rattle.receiver.specs.declared.fault.ReceiveFault.{ReceiveFault};
 ghost use Rattle.receiver.specs.Config.{Config};
 ghost use Rattle.receiver.specs.Window.{Window, PlaysAny};
-ghost use Rattle.receiver.specs.Asks.{AsksAny, KeepsLimit};
+ghost use Rattle.receiver.specs.Asks.{AsksAny};
+ghost use Rattle.receiver.specs.Streams.{stream_of, source_of};
 ghost use Rattle.receiver.specs.Heard.{Hears, TakesNumber, TakesOrRefuses};
 
+use crate::stream::Stream;
 use fbwire::packing_is_determined;
 use places::near_is_determined;
-use rtpwire::{content_is_determined, spelling_is_determined};
+use rtpwire::{content_is_determined, repair_is_determined, spelling_is_determined};
 
 /// What a receiver answers to a datagram.
 pub fn hearing_is_determined()
@@ -28,13 +31,23 @@ pub fn hearing_is_determined()
         (content : Content) (padding seq : ℕ)
         → RtpSpells (packet_of content padding seq c.session.media_type c.session.media_ssrc) octets
         → (IsTooLong (packet_of content padding seq c.session.media_type c.session.media_ssrc) → ⊥)
-        → Hears room c old octets now answer new → TakesNumber room old seq content now answer new }
+        → Hears room c old octets now answer new → TakesNumber room Stream.Media old seq content now answer new }
+    // Octets that spell a retransmission are answered as the content that it carries, by its original sequence
+    // number, if a content holds that.
+    ensures repair { (room : ℕ) (c : Config) (old : Option Window) (octets : List ℕ) (now : ℕ) (answer : Result Taken ReceiveFault) (new : Option Window)
+        (content : Content) (original sequence payload_type ssrc : ℕ) (stream : Stream)
+        → RepairSpells content original sequence payload_type ssrc octets
+        → (IsTooLong (packet_of content 0 sequence payload_type ssrc) → ⊥)
+        → stream_of c.session (source_of c old) (repair_packet (repair_of content original sequence payload_type ssrc)) ≡ Ok stream
+        → (stream ≡ Stream.Media → ⊥)
+        → Hears room c old octets now answer new → TakesNumber room stream old original content now answer new }
     // Whatever the octets: the receiver takes the content that they spell, or refuses it and is as it was.
     ensures any { (room : ℕ) (c : Config) (old : Option Window) (octets : List ℕ) (now : ℕ) (answer : Result Taken ReceiveFault) (new : Option Window)
         → Hears room c old octets now answer new → TakesOrRefuses room c old octets now answer new }
 {
     spelling_is_determined();
     content_is_determined();
+    repair_is_determined();
     near_is_determined();
 }
 
@@ -46,11 +59,8 @@ pub fn playing_is_determined()
 
 /// What a receiver asks for: the moment and the receiver before determine it, and the receiver after.
 pub fn asking_is_determined()
-    ensures one { (c : Config) (now : ℕ) (old : Option Window) (r s : Option (ArrayVec ℕ)) (v w : Option Window)
+    ensures { (c : Config) (now : ℕ) (old : Option Window) (r s : Option (ArrayVec ℕ)) (v w : Option Window)
         → AsksAny c old now r v → AsksAny c old now s w → (r ≡ s) × (v ≡ w) }
-    // No place is asked for more often than the limit.
-    ensures bounded { (c : Config) (now : ℕ) (old : Option Window) (answer : Option (ArrayVec ℕ)) (new : Option Window)
-        → AsksAny c old now answer new → KeepsLimit c.asks old → KeepsLimit c.asks new }
 {
     packing_is_determined();
 }

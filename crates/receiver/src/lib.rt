@@ -16,6 +16,10 @@ pub use receiver::Receiver;
 pub use stream::Stream;
 
 #[cfg(test)]
+mod ask_tests;
+#[cfg(test)]
+mod repair_tests;
+#[cfg(test)]
 mod row_tests;
 #[cfg(test)]
 mod tests;

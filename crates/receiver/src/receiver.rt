@@ -1,37 +1,41 @@
 //! The receiving end.
-ghost use Rattle.std.specs.Prelude.{◌≡◌, ◌^◌, ◌<◌, None, IsNone, OnErr};
+ghost use Rattle.std.specs.Prelude.{◌≡◌, ◌^◌, ◌<◌, ℕ, Option, None, IsNone, IsSome, IsSomeAnd, OnOk, OnErr};
 ghost use Rattle.std.specs.List.Sorted.{IsStrictlyIncreasing};
 ghost use Rattle.stores.specs.Span.{IsSpan};
-ghost use Rattle.receiver.specs.Asks.{AsksAny, CountsMissing};
+ghost use Rattle.receiver.specs.Asks.{AsksAny, CountsMissing, KeepsLimit};
 ghost use Rattle.receiver.specs.Counted.{CanAllBeAsked, CountsAsks};
 ghost use Rattle.receiver.specs.Window.{window_of, TakesPlace, PlaysAny};
-ghost use Rattle.receiver.specs.Heard.{Hears, TakesNumber};
-ghost use Rattle.receiver.specs.Receiver.{state_of};
+ghost use Rattle.receiver.specs.Streams.{known_to, source_of};
+ghost use Rattle.receiver.specs.Heard.{Hears, TakesNumber, AnswersCandidate};
+ghost use Rattle.receiver.specs.Receiver.{state_of, IsUnlearnt, learnt_after};
 
 use crate::answer::{Played, Taken};
 use crate::config::ReceiverConfig;
 use crate::fault::ReceiveFault;
-use crate::stream::{Stream, stream_of};
+use crate::stream::{Stream, carried, stream_of};
 use fbwire::{pack, write_nack};
 use places::{Place, near};
 use rtpwire::{Content, Datagram, RtpView};
 use std::marker::Model;
 use stores::{Slot, Window, window_by_place};
 
-/// The receiving end of a session, over any window: it takes packets in any order, and plays their
-/// contents in the order of their places. Neither takes memory: the window has it from the start.
+/// The receiving end of a session, over any window: it takes packets in any order, asks for those that are
+/// missing, and plays their contents in the order of their places. No call takes memory: the window has it from the start.
 #[derive(Drop)]
 pub struct Receiver<W: Window> {
     config: ReceiverConfig,
     window: W,
+    learnt: Option<u32>,
 }
 
 impl<W: Window> Model for Receiver<W> {
-    ghost use Rattle.receiver.specs.Receiver.{Receiving};
+    ghost use Rattle.receiver.specs.Receiver.{Receiving, IsReceiving};
 
     ghost Value = { Receiving };
 
-    ghost view = { λ r. record { config = r.config; span = W.meaning r.window } };
+    ghost view = { λ r. record { config = r.config; span = W.meaning r.window; learnt = r.learnt } };
+
+    ghost invariant = { λ r. IsReceiving (record { config = r.config; span = W.meaning r.window; learnt = r.learnt }) };
 }
 
 impl<W: Window> Receiver<W> {
@@ -39,9 +43,13 @@ impl<W: Window> Receiver<W> {
     /// many places it keeps.
     pub fn new(config: ReceiverConfig, window: W) -> Receiver<W>
         requires { (W.meaning window).cursor ≡ None }
-        ensures { result ≡ record { config = config; span = W.meaning window } }
+        ensures { result ≡ record { config = config; span = W.meaning window; learnt = None } }
     {
-        Receiver { config, window }
+        Receiver {
+            config,
+            window,
+            learnt: None,
+        }
     }
 
     /// Takes a datagram at the moment `now`, in milliseconds. It may be called at any time, with any
@@ -49,17 +57,27 @@ impl<W: Window> Receiver<W> {
     /// the window passed unplayed for it.
     ///
     /// The first media packet starts the receiver, one cycle of 65536 above its sequence number. A later
-    /// one has the place of its sequence number that is nearest to the highest place so far.
+    /// one has the place of its sequence number that is nearest to the highest place so far. A
+    /// retransmission (RFC 4588, section 4) has that of its original sequence number, and is taken as the
+    /// media packet of that place would have been; it starts no receiver.
+    ///
+    /// A receiver that learns takes as a retransmission what it asked for, under any SSRC but the media's
+    /// and its own, until it took one: that SSRC is then the one of the retransmissions for good.
     ///
     /// The refusals, in the order of the checks; after each the receiver is as it was:
     ///
     /// - `Rtp` (1 to 5): the octets are no RTP packet.
-    /// - `UnknownSource` (31): the SSRC is neither that of the media nor that of the retransmissions.
+    /// - `UnknownSource` (31): the SSRC is neither that of the media nor that of the retransmissions; where
+    ///   the latter is not learnt yet, it is the receiver's own.
     /// - `UnknownType` (32): the payload type is not that of the SSRC's stream.
+    /// - `Rtp` (6): the packet is a retransmission, and its payload has no original sequence number.
+    /// - `Content` (37): the original payload has more than 1200 octets, or the extension more than 16
+    ///   words.
     /// - `NotStarted` (33): the packet is a retransmission, and the receiver has not started to take them.
-    /// - `Content` (37): the payload has more than 1200 octets, or the extension more than 16 words.
     /// - `Place` (34, 39): the sequence number is too far from that of the highest place, or stands for
     ///   no place from 0 to 2^48 - 1.
+    /// - `Unasked` (38): the SSRC is to be learnt, and the place is not one that is missing and was asked
+    ///   for.
     /// - `Put` (35, 36): the place lies below the next one to play, or is held already.
     pub fn on_media(&mut self, octets: &[u8], now: u64) -> Result<Taken, ReceiveFault>
         ensures hears { Hears self.old.span.capacity self.old.config (state_of self.old) octets.now now result (state_of self.new) }
@@ -68,7 +86,22 @@ impl<W: Window> Receiver<W> {
         ensures capacity { self.new.span.capacity ≡ self.old.span.capacity }
         ensures is_span { IsSpan self.new.span }
     {
-        hear(&mut self.window, &self.config, octets, now)
+        hear(
+            &mut self.window,
+            &mut self.learnt,
+            &self.config,
+            octets,
+            now,
+        )
+    }
+
+    /// The SSRC of the retransmissions: the session's, or the one that was learnt, where the receiver
+    /// learns it, and None until it has.
+    pub fn repair_source(&self) -> Option<u32>
+        ensures known { result ≡ known_to self.now.config self.now.learnt }
+        ensures source { result ≡ source_of self.now.config (state_of self.now) }
+    {
+        known_source(&self.config, self.learnt)
     }
 
     /// Plays the next place at the moment `now`, in milliseconds, or gives it up, or waits. It may be
@@ -114,66 +147,114 @@ impl<W: Window> Receiver<W> {
         missing_in(&self.window)
     }
 
-    /// Its window, to see what it holds and misses.
+    /// Its window, to see what it holds and misses. No place of it was asked for more often than the
+    /// configuration says.
     pub fn window(&self) -> &W
-        ensures { W.meaning result.now ≡ self.now.span }
+        ensures span { W.meaning result.now ≡ self.now.span }
+        ensures limit { KeepsLimit self.now.config.asks (state_of self.now) }
     {
         &self.window
     }
 }
 
-/// Hears a datagram: its packet, its stream, its content and then its place.
+/// The SSRC of the retransmissions, if it is known, by what was learnt.
+fn known_source(config: &ReceiverConfig, learnt: Option<u32>) -> Option<u32>
+    ensures { result ≡ known_to config.now learnt }
+{
+    if config.learns() {
+        learnt
+    } else {
+        Some(config.session().repair_ssrc())
+    }
+}
+
+/// Hears a datagram: its packet, its stream, what it carries, and then the place of that.
 fn hear<W: Window>(
     window: &mut W,
+    learnt: &mut Option<u32>,
     config: &ReceiverConfig,
     octets: &[u8],
     now: u64,
 ) -> Result<Taken, ReceiveFault>
-    ensures hears { Hears (W.meaning window.old).capacity config.now (window_of (W.meaning window.old)) octets.now now result (window_of (W.meaning window.new)) }
+    requires { IsUnlearnt (W.meaning window.old) learnt.old }
+    ensures hears { Hears (W.meaning window.old).capacity config.now (window_of learnt.old (W.meaning window.old)) octets.now now result (window_of learnt.new (W.meaning window.new)) }
     ensures err { OnErr result (W.meaning window.new ≡ W.meaning window.old) }
+    ensures err_learnt { OnErr result (learnt.new ≡ learnt.old) }
+    ensures unlearnt { IsUnlearnt (W.meaning window.new) learnt.new }
     ensures capacity { (W.meaning window.new).capacity ≡ (W.meaning window.old).capacity }
 {
     let view = RtpView::read(octets)?;
-    match stream_of(&config.session(), &view)? {
-        Stream::Repair => return Err(ReceiveFault::NotStarted),
-        Stream::Media => {}
-    }
-    let content = match Content::of_view(&view) {
-        Ok(content) => content,
-        Err(fault) => return Err(ReceiveFault::Content(fault)),
-    };
-    take_number(window, view.sequence(), content, now)
+    let source = known_source(config, *learnt);
+    let stream = stream_of(&config.session(), source, &view)?;
+    let (seq, content) = carried(stream, &view)?;
+    take_number(window, learnt, stream, seq, content, now)
 }
 
-/// Takes a content by its sequence number.
+/// Takes a content by the sequence number of its original packet.
 fn take_number<W: Window>(
     window: &mut W,
+    learnt: &mut Option<u32>,
+    stream: Stream,
     seq: u16,
     content: Content,
     now: u64,
 ) -> Result<Taken, ReceiveFault>
-    ensures takes { TakesNumber (W.meaning window.old).capacity (window_of (W.meaning window.old)) seq content now result (window_of (W.meaning window.new)) }
+    requires { IsUnlearnt (W.meaning window.old) learnt.old }
+    ensures takes { TakesNumber (W.meaning window.old).capacity stream (window_of learnt.old (W.meaning window.old)) seq content now result (window_of learnt.new (W.meaning window.new)) }
     ensures err { OnErr result (W.meaning window.new ≡ W.meaning window.old) }
+    ensures err_learnt { OnErr result (learnt.new ≡ learnt.old) }
+    ensures unlearnt { IsUnlearnt (W.meaning window.new) learnt.new }
     ensures capacity { (W.meaning window.new).capacity ≡ (W.meaning window.old).capacity }
 {
-    match window.highest() {
-        None => take_place(window, Place::first(seq), content, now),
-        Some(highest) => {
-            let place = near(highest, seq)?;
-            take_place(window, place, content, now)
+    let Some(highest) = window.highest() else {
+        return match stream {
+            Stream::Media => take_place(window, Place::first(seq), content, now),
+            Stream::Repair | Stream::Candidate(_) => Err(ReceiveFault::NotStarted),
+        };
+    };
+    let place = near(highest, seq)?;
+    match stream {
+        Stream::Media | Stream::Repair => take_place(window, place, content, now),
+        Stream::Candidate(ssrc) => {
+            let taken = take_asked(window, place, content, now)?;
+            *learnt = Some(ssrc);
+            Ok(taken)
         }
     }
 }
 
-/// Takes a content at its place.
+/// Takes a content at its place, if that is missing and was asked for.
+fn take_asked<W: Window>(
+    window: &mut W,
+    place: Place,
+    content: Content,
+    now: u64,
+) -> Result<Taken, ReceiveFault>
+    requires { IsSome (W.meaning window.old).cursor }
+    ensures takes { (ssrc : ℕ) (learnt : Option ℕ) → IsSomeAnd (window_of learnt (W.meaning window.old)) (λ old.
+        AnswersCandidate ssrc (W.meaning window.old).capacity old place content now result (window_of (learnt_after ssrc learnt result) (W.meaning window.new))) }
+    ensures err { OnErr result (W.meaning window.new ≡ W.meaning window.old) }
+    ensures started { IsSome (W.meaning window.new).cursor }
+    ensures capacity { (W.meaning window.new).capacity ≡ (W.meaning window.old).capacity }
+{
+    window_by_place();
+    match window.slot(place) {
+        Some(Slot::Missing { asks, .. }) if *asks > 0 => take_place(window, place, content, now),
+        _ => Err(ReceiveFault::Unasked),
+    }
+}
+
+/// Takes a content at its place. Whatever was learnt, that stays so.
 fn take_place<W: Window>(
     window: &mut W,
     place: Place,
     content: Content,
     now: u64,
 ) -> Result<Taken, ReceiveFault>
-    ensures takes { TakesPlace (W.meaning window.old).capacity (window_of (W.meaning window.old)) place content now result (window_of (W.meaning window.new)) }
+    ensures takes { (learnt : Option ℕ) → IsUnlearnt (W.meaning window.old) learnt
+        → TakesPlace (W.meaning window.old).capacity (window_of learnt (W.meaning window.old)) place content now result (window_of learnt (W.meaning window.new)) }
     ensures err { OnErr result (W.meaning window.new ≡ W.meaning window.old) }
+    ensures started { OnOk result (IsSome (W.meaning window.new).cursor) }
     ensures capacity { (W.meaning window.new).capacity ≡ (W.meaning window.old).capacity }
 {
     window_by_place();
@@ -185,8 +266,9 @@ fn take_place<W: Window>(
 
 /// Plays from a window.
 fn play_from<W: Window>(window: &mut W, patience: u64, now: u64) -> Played
-    ensures plays { PlaysAny patience (window_of (W.meaning window.old)) now result (window_of (W.meaning window.new)) }
+    ensures plays { (learnt : Option ℕ) → PlaysAny patience (window_of learnt (W.meaning window.old)) now result (window_of learnt (W.meaning window.new)) }
     ensures wait { result ≡ Played.Wait → W.meaning window.new ≡ W.meaning window.old }
+    ensures started { (W.meaning window.new).cursor ≡ None → (W.meaning window.old).cursor ≡ None }
     ensures capacity { (W.meaning window.new).capacity ≡ (W.meaning window.old).capacity }
 {
     let Some(cursor) = window.cursor() else {
@@ -209,8 +291,9 @@ fn play_from<W: Window>(window: &mut W, patience: u64, now: u64) -> Played
 
 /// Asks for the due places of a window.
 fn ask_from<W: Window>(window: &mut W, config: &ReceiverConfig, now: u64) -> Option<Datagram>
-    ensures asks { AsksAny config.now (window_of (W.meaning window.old)) now result (window_of (W.meaning window.new)) }
+    ensures asks { (learnt : Option ℕ) → AsksAny config.now (window_of learnt (W.meaning window.old)) now result (window_of learnt (W.meaning window.new)) }
     ensures none { IsNone result → W.meaning window.new ≡ W.meaning window.old }
+    ensures started { (W.meaning window.new).cursor ≡ (W.meaning window.old).cursor }
     ensures capacity { (W.meaning window.new).capacity ≡ (W.meaning window.old).capacity }
 {
     window_by_place();
@@ -242,7 +325,7 @@ fn count_asks<W: Window>(window: &mut W, places: &[Place], now: u64)
 
 /// How many places of a window are missing.
 fn missing_in<W: Window>(window: &W) -> usize
-    ensures { CountsMissing (window_of (W.meaning window.now)) result }
+    ensures { (learnt : Option ℕ) → CountsMissing (window_of learnt (W.meaning window.now)) result }
 {
     window_by_place();
     window.missing()

@@ -1,8 +1,9 @@
 ghost use Rattle.std.specs.Prelude.{◌≡◌};
-ghost use Rattle.receiver.specs.Heard.{stream_of};
+ghost use Rattle.receiver.specs.Streams.{stream_under, stream_of};
+ghost use Rattle.receiver.specs.Carried.{CarriesOrNot};
 
 use crate::fault::ReceiveFault;
-use rtpwire::{RtpView, Session};
+use rtpwire::{Content, RtpView, RtxView, Session};
 
 /// The streams that go to a receiver: the media, and its retransmissions.
 #[derive(Clone, Copy, Debug, PartialEq, Eq)]
@@ -11,22 +12,64 @@ pub enum Stream {
     Media,
     /// Under the retransmission SSRC and type.
     Repair,
+    /// Under this SSRC and the retransmission type, where the receiver is to learn the SSRC of its
+    /// retransmissions and has not so far.
+    Candidate(u32),
 }
 
-/// The stream of a packet, by its SSRC and then its payload type.
-pub(crate) fn stream_of(session: &Session, view: &RtpView<'_>) -> Result<Stream, ReceiveFault>
-    ensures { result ≡ stream_of session.now view.now }
+/// The stream of a packet, by its SSRC and then its payload type. `source` is the SSRC of the
+/// retransmissions, if it is known.
+pub(crate) fn stream_of(
+    session: &Session,
+    source: Option<u32>,
+    view: &RtpView<'_>,
+) -> Result<Stream, ReceiveFault>
+    ensures { result ≡ stream_of session.now source view.now }
 {
-    let (stream, payload_type) = if view.ssrc() == session.media_ssrc() {
-        (Stream::Media, session.media_type())
-    } else if view.ssrc() == session.repair_ssrc() {
-        (Stream::Repair, session.repair_type())
-    } else {
+    let Some(stream) = stream_under(session, source, view.ssrc()) else {
         return Err(ReceiveFault::UnknownSource);
+    };
+    let payload_type = match stream {
+        Stream::Media => session.media_type(),
+        Stream::Repair | Stream::Candidate(_) => session.repair_type(),
     };
     if view.payload_type() == payload_type {
         Ok(stream)
     } else {
         Err(ReceiveFault::UnknownType)
     }
+}
+
+/// The stream of an SSRC, if it may be one's.
+fn stream_under(session: &Session, source: Option<u32>, ssrc: u32) -> Option<Stream>
+    ensures { result ≡ stream_under session.now source ssrc }
+{
+    if ssrc == session.media_ssrc() {
+        return Some(Stream::Media);
+    }
+    match source {
+        Some(known) if ssrc == known => Some(Stream::Repair),
+        None if ssrc != session.receiver_ssrc() => Some(Stream::Candidate(ssrc)),
+        _ => None,
+    }
+}
+
+/// What a packet of a stream carries: the sequence number of the original packet, and its content.
+///
+/// Refused: `Rtp` (6), where a retransmission has no original sequence number, and then `Content` (37).
+pub(crate) fn carried(stream: Stream, view: &RtpView<'_>) -> Result<(u16, Content), ReceiveFault>
+    ensures { CarriesOrNot stream view.now result }
+{
+    match stream {
+        Stream::Media => Ok((view.sequence(), Content::of_view(view)?)),
+        Stream::Repair | Stream::Candidate(_) => carried_again(view),
+    }
+}
+
+/// What a retransmission carries: the sequence number and the content of the packet that it repeats.
+fn carried_again(view: &RtpView<'_>) -> Result<(u16, Content), ReceiveFault>
+    ensures { CarriesOrNot Stream.Repair view.now result }
+{
+    let repair = RtxView::read(view)?;
+    Ok((repair.original(), Content::of_rtx(&repair)?))
 }

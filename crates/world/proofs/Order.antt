@@ -7,7 +7,9 @@ use Rattle.receiver.specs.declared.answer.Played.TheVariants.{Packet, Gap, Wait}
 use Rattle.receiver.specs.declared.fault.ReceiveFault.{ReceiveFault}
 use Rattle.receiver.specs.Config.{Config as Receiving}
 use Rattle.receiver.specs.Window.{Window, cursor_after, AnswersPlace, StartsAt, PlaysAny}
-use Rattle.receiver.specs.Heard.{TakesNumber, Hears, TakesOrRefuses}
+use Rattle.receiver.specs.declared.stream.Stream.{Stream}
+use Rattle.receiver.specs.declared.stream.Stream.TheVariants.{Media, Repair, Candidate}
+use Rattle.receiver.specs.Heard.{AnswersIn, TakesNumber, Hears, TakesOrRefuses}
 use Rattle.world.specs.declared.event.Event.{Event}
 use Rattle.world.specs.declared.event.Event.TheVariants.{Send, Deliver, Play, Inject}
 use Rattle.world.specs.declared.event.End.{End}
@@ -77,17 +79,29 @@ module _ (c : Config) (past : List Entry) (end : End) (now : ℕ) where
         final = was.final;
       }
 
-  numbered : (seq : ℕ) (content : Content) (taken : Took) (old new : Option Window) →
-      TakesNumber c.window old seq content now (Ok taken) new → Ordered c past old → Ordered c (Injected end now (Taken taken) ∷ past) new
-  numbered seq content taken None new step was = started (65536 + seq) content taken new step was
-  numbered seq content taken (Some old) new (inl (far, is, same)) was = absurd cc
-  numbered seq content taken (Some old) new (inr (inl (past_end, is, same))) was = absurd cc
-  numbered seq content taken (Some old) new (inr (inr (place, near, fits, step))) was = placed place content taken old new step was
+  -- what was learnt says nothing of the order
+  learns : (old : Window) (learnt : Option ℕ) → Ordered c past (Some old) → Ordered c past (Some (record old { learnt = learnt }))
+  learns old learnt was = record { orders = was.orders; rising = was.rising; final = was.final }
+
+  placed_in : (stream : Stream) (place : ℕ) (content : Content) (taken : Took) (old : Window) (new : Option Window) →
+      AnswersIn c.window stream old place content now (Ok taken) new → Ordered c past (Some old) → Ordered c (Injected end now (Taken taken) ∷ past) new
+  placed_in Media place content taken old new step was = placed place content taken old new step was
+  placed_in Repair place content taken old new step was = placed place content taken old new step was
+  placed_in (Candidate ssrc) place content taken old new (asked, step) was = placed place content taken (record old { learnt = Some ssrc }) new step (learns old (Some ssrc) was)
+
+  numbered : (stream : Stream) (seq : ℕ) (content : Content) (taken : Took) (old new : Option Window) →
+      TakesNumber c.window stream old seq content now (Ok taken) new → Ordered c past old → Ordered c (Injected end now (Taken taken) ∷ past) new
+  numbered Media seq content taken None new step was = started (65536 + seq) content taken new step was
+  numbered Repair seq content taken None new (is, same) was = absurd cc
+  numbered (Candidate ssrc) seq content taken None new (is, same) was = absurd cc
+  numbered stream seq content taken (Some old) new (inl (far, is, same)) was = absurd cc
+  numbered stream seq content taken (Some old) new (inr (inl (past_end, is, same))) was = absurd cc
+  numbered stream seq content taken (Some old) new (inr (inr (place, near, fits, step))) was = placed_in stream place content taken old new step was
 
   -- what a receiver heard, whatever it was
   heard_any : (octets : List ℕ) (heard : Result Took ReceiveFault) (old new : Option Window) →
       TakesOrRefuses c.window c.receiver old octets now heard new → Ordered c past old → Ordered c (Injected end now (told heard) ∷ past) new
-  heard_any octets (Ok taken) old new step was = numbered step.seq step.content taken old new step.takes was
+  heard_any octets (Ok taken) old new step was = numbered step.stream step.seq step.content taken old new step.takes was
   heard_any octets (Err fault) old new same was = refusal c past end now fault old new same was
 
 -- a delivery counts as an injection of the same answer

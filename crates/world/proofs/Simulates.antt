@@ -15,6 +15,7 @@ use Rattle.receiver.specs.declared.answer.Taken.{Taken as Took}
 use Rattle.receiver.specs.declared.fault.ReceiveFault.{ReceiveFault}
 use Rattle.receiver.specs.Config.{Config as Receiving}
 use Rattle.receiver.specs.Window.{Window, PlaysAny}
+use Rattle.receiver.specs.declared.stream.Stream.TheVariants.{Media as Fresh}
 use Rattle.receiver.specs.Heard.{AnswersNumber, TakesNumber, Hears}
 use Rattle.world.specs.declared.event.Event.{Event}
 use Rattle.world.specs.declared.event.Event.TheVariants.{Send, Deliver, Play, Inject}
@@ -37,10 +38,10 @@ use Rattle.world.proofs.Right.{goes}
 
 -- what a started receiver answers to a sequence number is what it answers to the place
 near_label : (c : Config) (past : List Entry) (w : Window) (new : Option Window) (p : ℕ) (content : Content) (now : ℕ) (heard : Result Took ReceiveFault) →
-    p < 2 ^ 48 → KeptBy c past w → IsCloseTo (highest_taken past) (Some p) → AnswersNumber c.window w (number p) content now heard new → AnswersLabel c (shift_of past) w p content now heard new
+    p < 2 ^ 48 → KeptBy c past w → IsCloseTo (highest_taken past) (Some p) → AnswersNumber c.window Fresh w (number p) content now heard new → AnswersLabel c (shift_of past) w p content now heard new
 near_label c past w new p content now heard small kept close step = found (subst (λ o. IsCloseTo o (Some p)) kept.highest close) step
   where
-    found : IsWithin close_distance p (w.highest + shift_of past) → AnswersNumber c.window w (number p) content now heard new → AnswersLabel c (shift_of past) w p content now heard new
+    found : IsWithin close_distance p (w.highest + shift_of past) → AnswersNumber c.window Fresh w (number p) content now heard new → AnswersLabel c (shift_of past) w p content now heard new
     found near (inl (far, is, same)) = inl (far_apart w.highest (shift_of past) kept.cycles p kept.whole near kept.started far, is, same)
     found near (inr (inl (past_end, is, same))) = absurd (never_past w.highest (shift_of past) kept.cycles p kept.whole near kept.started small past_end)
     found near (inr (inr (q, is_near, below, answers))) =
@@ -48,7 +49,7 @@ near_label c past w new p content now heard small kept close step = found (subst
 
 -- the number of a sent packet reaches the receiver
 numbered : (c : Config) (past : List Entry) (old new : Option Window) (label : Label) (p : ℕ) (content : Content) (now : ℕ) (heard : Result Took ReceiveFault) →
-    p < 2 ^ 48 → Keeps c past old → IsCloseTo (highest_taken past) (Some p) → TakesNumber c.window old (number p) content now heard new → ReceivesLabel c (shift_of past) old label p content now heard new
+    p < 2 ^ 48 → Keeps c past old → IsCloseTo (highest_taken past) (Some p) → TakesNumber c.window Fresh old (number p) content now heard new → ReceivesLabel c (shift_of past) old label p content now heard new
 numbered c past None new (Media sent) p content now heard small fresh close step = step
 numbered c past (Some w) new label p content now heard small kept close step = near_label c past w new p content now heard small kept close step
 
@@ -67,7 +68,7 @@ abbrev pub MediaHearing : Type 0
 MediaHearing =
     (room : ℕ) (c : Receiving) (old : Option Window) (octets : List ℕ) (now : ℕ) (answer : Result Took ReceiveFault) (new : Option Window) (content : Content) (padding seq : ℕ) →
     RtpSpells (packet_of content padding seq c.session.media_type c.session.media_ssrc) octets → (IsTooLong (packet_of content padding seq c.session.media_type c.session.media_ssrc) → ⊥) →
-    Hears room c old octets now answer new → TakesNumber room old seq content now answer new
+    Hears room c old octets now answer new → TakesNumber room Fresh old seq content now answer new
 
 module _ (media : MediaHearing) where
   -- a datagram reaches the receiver as its label does

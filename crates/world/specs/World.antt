@@ -1,5 +1,5 @@
 -- A world as its callers see it.
-use Rattle.std.specs.Prelude.{List, [], reverse}
+use Rattle.std.specs.Prelude.{List, [], None, reverse}
 use Rattle.stores.specs.Past.{empty_past}
 use Rattle.stores.specs.Span.{empty_span}
 use Rattle.sender.specs.Sender.{Sending, new_sending, state_of as sender_of}
@@ -23,7 +23,7 @@ empty c =
       config = c;
       sender = new_sending (sending c) (empty_past c.history);
       wire = [];
-      receiver = record { config = c.receiver; span = empty_span c.window };
+      receiver = record { config = c.receiver; span = empty_span c.window; learnt = None };
       log = [];
     }
 

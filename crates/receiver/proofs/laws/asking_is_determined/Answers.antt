@@ -1,9 +1,5 @@
-use Rattle.receiver.proofs.SameAsks.{one_ask, keeps_limit}
+use Rattle.receiver.proofs.SameAsks.{one_ask}
 use Rattle.receiver.proofs.laws.asking_is_determined.Goals as goal
 
 pub returns : goal.returns
-returns c =
-    record {
-      one = λ config now old r s v w a b. one_ask c.packing_is_determined.ensures.one config now v w old r s a b;
-      bounded = λ config now old answer new asks. keeps_limit config now old answer new asks;
-    }
+returns c = λ config now old r s v w a b. one_ask c.packing_is_determined.ensures.one config now v w old r s a b

@@ -1,4 +1,4 @@
-use Rattle.receiver.proofs.SameHearing.{Laws, one_hearing, media_heard}
+use Rattle.receiver.proofs.SameHearing.{Laws, one_hearing, media_heard, repair_heard}
 use Rattle.receiver.proofs.Whichever.{whichever}
 use Rattle.receiver.proofs.laws.hearing_is_determined.Goals as goal
 
@@ -13,5 +13,6 @@ returns c =
       near_not_far = c.near_is_determined.ensures.near_not_far;
       near_not_past_end = c.near_is_determined.ensures.near_not_past_end;
       far_not_past_end = c.near_is_determined.ensures.far_not_past_end;
+      long = c.repair_is_determined.ensures.long;
     } in
-    record { one = one_hearing laws; media = media_heard laws; any = whichever }
+    record { one = one_hearing laws; media = media_heard laws; repair = repair_heard laws; any = whichever }

@@ -40,7 +40,7 @@ returns-then-is_empty-clause-asks g c =
     let asks = c.args.config.now.asks in
     let due : c.due-due.result.items ≡ take 1088 (due_places s c.args.now retry asks) =
     c.due-due.ensures ∙ ap (λ r. take 1088 (due_places s c.args.now r c.asks.result)) c.retry.ensures ∙ ap (λ n. take 1088 (due_places s c.args.now retry n)) c.asks.ensures in
-    asks_none s.slots s.capacity c.args.config.now c.args.now s.cursor (law.due s c.args.now retry asks)
+    λ learnt. asks_none s.slots s.capacity c.args.config.now c.args.now learnt s.cursor (law.due s c.args.now retry asks)
     (none_due c.due-due.result.items (due_places s c.args.now retry asks) due (sym c.is_empty.ensures ∙ c.if-is_empty.true))
 
 pub returns-clause-asks : goal.returns-clause-asks
@@ -55,7 +55,7 @@ returns-clause-asks g c =
     c.due-due.ensures ∙ ap (λ r. take 1088 (due_places s c.args.now r c.asks.result)) c.retry.ensures ∙ ap (λ n. take 1088 (due_places s c.args.now retry n)) c.asks.ensures in
     let reporter : c.receiver_ssrc.result ≡ c.args.config.now.session.receiver_ssrc = c.receiver_ssrc.ensures ∙ ap (λ (streams : Streams). streams.receiver_ssrc) c.session-session.ensures in
     let media : c.media_ssrc.result ≡ c.args.config.now.session.media_ssrc = c.media_ssrc.ensures ∙ ap (λ (streams : Streams). streams.media_ssrc) c.session-session.ensures in
-    asks_some s.slots s.capacity c.args.config.now c.args.now s.cursor c.pack-pairs.result.0.items c.pack-pairs.result.1 c.write_nack.result (g.W.Window.meaning c.count_asks.new.window)
+    λ learnt. asks_some s.slots s.capacity c.args.config.now c.args.now learnt s.cursor c.pack-pairs.result.0.items c.pack-pairs.result.1 c.write_nack.result (g.W.Window.meaning c.count_asks.new.window)
     lists
     (due_narrow s is (λ q some. (law.inside s q is).0 some) c.args.now retry asks lists 1088)
     (some_due c.due-due.result.items _ due (sym c.is_empty.ensures ∙ c.if-is_empty.false))

@@ -4,4 +4,4 @@ use Rattle.receiver.proofs.receiver.missing_in.Goals as goal
 pub returns : goal.returns
 returns g c =
     let s = g.W.Window.meaning c.args.window.now in
-    counts_missed s.slots s.capacity s.cursor c.missing.result (c.window_by_place.ensures.missing s) c.missing.ensures
+    λ learnt. counts_missed s.slots s.capacity learnt s.cursor c.missing.result (c.window_by_place.ensures.missing s) c.missing.ensures

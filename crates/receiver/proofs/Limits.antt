@@ -1,0 +1,118 @@
+-- No place is asked for more often than the limit, whatever a receiver does.
+use Rattle.std.proofs.Common.{◌≡◌, ◌≢◌, ℕ, ◌<◌, ◌≤◌, Bool, true, false, cond, List, take, Option, Some, None, IsSomeAnd, IfSome, option_map, Result, Ok, Err, refl, sym, ap, subst, ◌∙◌, inl, inr, arith}
+use Rattle.std.proofs.lemmas.Bool.{cases_eq, cases_lt}
+use Rattle.std.proofs.lemmas.Bool.Decides.{nat_tests}
+use Rattle.arrayvec.specs.ArrayVec.{ArrayVec}
+use Rattle.rtpwire.specs.declared.content.Content.{Content}
+use Rattle.receiver.specs.declared.answer.Taken.{Taken}
+use Rattle.receiver.specs.declared.answer.Played.{Played}
+use Rattle.receiver.specs.declared.answer.Played.TheVariants.{Packet, Gap, Wait}
+use Rattle.receiver.specs.declared.fault.ReceiveFault.{ReceiveFault}
+use Rattle.receiver.specs.declared.stream.Stream.{Stream}
+use Rattle.receiver.specs.declared.stream.Stream.TheVariants.{Media, Repair, Candidate}
+use Rattle.receiver.specs.Config.{Config}
+use Rattle.receiver.specs.Window.{Missed, Window, Takes, Passes, AnswersPlace, Plays, PlaysAny}
+use Rattle.receiver.specs.Asks.{is_due, is_among, asked_once, Asks, AsksAny, KeepsLimit}
+use Rattle.receiver.specs.Heard.{AnswersIn, TakesNumber, Hears, TakesOrRefuses}
+use Rattle.receiver.proofs.Rising.{among_take}
+use Rattle.receiver.proofs.Whichever.{whichever}
+
+-- a place that is asked for was asked for fewer times than the limit
+kept : (retry limit now : ℕ) (m : Option Missed) (among : Bool) → (among ≡ true → is_due retry limit now m ≡ true) → IfSome m (λ x. x.asks ≤ limit) →
+    IfSome (cond among (option_map (asked_once now) m) m) (λ x. x.asks ≤ limit)
+kept retry limit now None true due keeps = keeps
+kept retry limit now None false due keeps = keeps
+kept retry limit now (Some m) true due keeps = let is = due refl in grind (arith, nat_tests)
+kept retry limit now (Some m) false due keeps = keeps
+
+keeps_at : (c : Config) (now : ℕ) (old : Window) (due : List ℕ) (count : ℕ) (new : Option Window) → ((q : ℕ) → is_among due q ≡ is_due c.retry c.asks now (old.missing q)) →
+    IsSomeAnd new (Asks old (take count (take 1088 due)) now) → KeepsLimit c.asks (Some old) → KeepsLimit c.asks new
+keeps_at c now old due count None each none keeps = absurd none
+keeps_at c now old due count (Some new) each asks keeps =
+    λ k. subst (λ (m : Option Missed). IfSome m (λ x. x.asks ≤ c.asks)) (sym (asks.missing k))
+    (kept c.retry c.asks now (old.missing k) _ (λ among. sym (each k) ∙ among_take 1088 due k (among_take count (take 1088 due) k among)) (keeps k))
+
+pub asks_keep : (c : Config) (now : ℕ) (old : Option Window) (answer : Option (ArrayVec ℕ)) (new : Option Window) → AsksAny c old now answer new → KeepsLimit c.asks old → KeepsLimit c.asks new
+asks_keep c now None answer new (none, is) keeps = subst (λ (s : Option Window). KeepsLimit c.asks s) (sym is) keeps
+asks_keep c now (Some old) None new a keeps = subst (λ (s : Option Window). KeepsLimit c.asks s) (sym a.answers.1) keeps
+asks_keep c now (Some old) (Some datagram) new a keeps = keeps_at c now old a.due a.answers.1.count new a.each.each a.answers.1.asks keeps
+
+-- one place keeps the limit: it isn't missing, or is as it was, or was only noticed
+abbrev Within : (limit : ℕ) → Option Missed → Type 0
+Within limit m = IfSome m (λ x. x.asks ≤ limit)
+
+gone : (limit : ℕ) (m : Option Missed) → m ≡ None → Within limit m
+gone limit m is = subst (λ (x : Option Missed). Within limit x) (sym is) tt
+
+as_it_was : (limit : ℕ) (m n : Option Missed) → m ≡ n → Within limit n → Within limit m
+as_it_was limit m n is keeps = subst (λ (x : Option Missed). Within limit x) (sym is) keeps
+
+unchanged : (limit : ℕ) (old new : Option Window) → new ≡ old → KeepsLimit limit old → KeepsLimit limit new
+unchanged limit old new is keeps = subst (λ (x : Option Window). KeepsLimit limit x) (sym is) keeps
+
+module _ (limit room : ℕ) (place : ℕ) (content : Content) (now : ℕ) where
+  takes_keep : (old new : Window) → Takes room old place content now new → KeepsLimit limit (Some old) → KeepsLimit limit (Some new)
+  takes_keep old new t keeps k =
+      elim (cases_lt k new.cursor) [
+        | inl under ↦ gone limit _ (t.missing_dropped k under)
+        | inr over ↦ elim (cases_eq k place) [
+          | inl here ↦ gone limit _ (ap new.missing here ∙ t.missing)
+          | inr other ↦ elim (cases_lt old.highest k) [
+            | inl high ↦ elim (cases_lt place k) [
+              | inl far ↦ as_it_was limit _ _ (t.missing_above k over far) (keeps k)
+              | inr near ↦ as_it_was limit _ _ (t.missing_between k over high (less k other near)) (omega arith)
+            ]
+            | inr low ↦ as_it_was limit _ _ (t.missing_below k over other low) (keeps k)
+          ]
+        ]
+      ]
+    where
+      less : (k : ℕ) → k ≢ place → k ≤ place → k < place
+      less k other near = elim (cases_lt k place) [ inl under ↦ under | inr above ↦ absurd (other (omega arith)) ]
+
+  placed_keep : (taken : Taken) (old : Window) (new : Option Window) → AnswersPlace room old place content now (Ok taken) new → KeepsLimit limit (Some old) → KeepsLimit limit new
+  placed_keep taken old None (at, above, free, over, none) keeps = absurd none
+  placed_keep taken old (Some w) (at, above, free, over, takes) keeps = takes_keep old w takes keeps
+
+  in_keep : (stream : Stream) (taken : Taken) (old : Window) (new : Option Window) → AnswersIn room stream old place content now (Ok taken) new → KeepsLimit limit (Some old) → KeepsLimit limit new
+  in_keep Media taken old new step keeps = placed_keep taken old new step keeps
+  in_keep Repair taken old new step keeps = placed_keep taken old new step keeps
+  in_keep (Candidate ssrc) taken old new (asked, step) keeps = placed_keep taken (record old { learnt = Some ssrc }) new step keeps
+
+module _ (limit room seq : ℕ) (content : Content) (now : ℕ) (taken : Taken) where
+  number_keeps : (stream : Stream) (old new : Option Window) → TakesNumber room stream old seq content now (Ok taken) new → KeepsLimit limit old → KeepsLimit limit new
+  number_keeps Media None None (at, over, none) keeps = absurd none
+  number_keeps Media None (Some w) (at, over, starts) keeps = λ k. gone limit _ (starts.missing k)
+  number_keeps Repair None new (is, same) keeps = unchanged limit None new same keeps
+  number_keeps (Candidate ssrc) None new (is, same) keeps = unchanged limit None new same keeps
+  number_keeps stream (Some old) new (inl (far, is, same)) keeps = unchanged limit (Some old) new same keeps
+  number_keeps stream (Some old) new (inr (inl (past_end, is, same))) keeps = unchanged limit (Some old) new same keeps
+  number_keeps stream (Some old) new (inr (inr (place, near, fits, step))) keeps = in_keep limit room place content now stream taken old new step keeps
+
+spelled_keeps : (limit room : ℕ) (c : Config) (octets : List ℕ) (now : ℕ) (answer : Result Taken ReceiveFault) (old new : Option Window) →
+    TakesOrRefuses room c old octets now answer new → KeepsLimit limit old → KeepsLimit limit new
+spelled_keeps limit room c octets now (Ok taken) old new step keeps = number_keeps limit room step.seq step.content now taken step.stream old new step.takes keeps
+spelled_keeps limit room c octets now (Err fault) old new same keeps = unchanged limit old new same keeps
+
+pub hears_keep : (limit room : ℕ) (c : Config) (octets : List ℕ) (now : ℕ) (answer : Result Taken ReceiveFault) (old new : Option Window) →
+    Hears room c old octets now answer new → KeepsLimit limit old → KeepsLimit limit new
+hears_keep limit room c octets now answer old new hears keeps = spelled_keeps limit room c octets now answer old new (whichever room c old octets now answer new hears) keeps
+
+passes_keep : (limit : ℕ) (old : Window) (new : Option Window) → IsSomeAnd new (Passes old) → KeepsLimit limit (Some old) → KeepsLimit limit new
+passes_keep limit old None none keeps = absurd none
+passes_keep limit old (Some w) passes keeps =
+    λ k. elim (cases_eq k old.cursor) [
+      | inl here ↦ gone limit _ (ap w.missing here ∙ passes.missing_dropped)
+      | inr other ↦ as_it_was limit _ _ (passes.missing k other) (keeps k)
+    ]
+
+plays_keep_from : (limit patience now : ℕ) (old : Window) (played : Played) (new : Option Window) → Plays patience old now played new → KeepsLimit limit (Some old) → KeepsLimit limit new
+plays_keep_from limit patience now old (Packet place content) new (at, held, passes) keeps = passes_keep limit old new passes keeps
+plays_keep_from limit patience now old (Gap place) new (at, free, cause, passes) keeps = passes_keep limit old new passes keeps
+plays_keep_from limit patience now old Wait new (free, waits, same) keeps = unchanged limit (Some old) new same keeps
+
+pub plays_keep : (limit patience now : ℕ) (old : Option Window) (played : Played) (new : Option Window) → PlaysAny patience old now played new → KeepsLimit limit old → KeepsLimit limit new
+plays_keep limit patience now None Wait new same keeps = unchanged limit None new same keeps
+plays_keep limit patience now None (Packet place content) new never keeps = absurd never
+plays_keep limit patience now None (Gap place) new never keeps = absurd never
+plays_keep limit patience now (Some old) played new plays keeps = plays_keep_from limit patience now old played new plays keeps
