@@ -3,11 +3,11 @@ ghost use Rattle.std.specs.Prelude.{◌≡◌, ◌<◌, ◌≤◌, true, IsSome}
 ghost use Rattle.std.specs.Option.{ForSome};
 ghost use Rattle.stores.specs.Past.{next_of, entry_at};
 
-use stores::*;
 use crate::windows::{content, place};
 use places::Place;
 use std::alloc::Global;
 use std::test::Fail;
+use stores::*;
 
 /// A history and the place that comes next, as a sender keeps them.
 #[derive(Drop)]

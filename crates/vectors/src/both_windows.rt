@@ -1,7 +1,7 @@
 //! The window as a list and as a ring, side by side: the same calls give the same answers.
-use stores::*;
 use crate::windows::{asked, content, place, taken};
 use std::test::Fail;
+use stores::*;
 
 /// Puts a content at this place into both, and tells whether they answer the same.
 fn both_put<A: Window, B: Window>(a: &mut A, b: &mut B, at: u64, now: u64) -> Result<bool, Fail> {

@@ -1,9 +1,9 @@
-use stores::*;
 use arrayvec::ArrayVec;
 use places::Place;
 use rtpwire::Content;
 use std::alloc::{AllocError, AllocFailed};
 use std::test::Fail;
+use stores::*;
 
 pub fn place(value: u64) -> Result<Place, Fail> {
     Ok(Place::new(value).ok_or("a place is below 2^48")?)
