@@ -1,6 +1,7 @@
 //! The sending end.
 ghost use Rattle.std.specs.Prelude.{◌≡◌, [], None, OnErr};
 ghost use Rattle.stores.specs.Past.{IsPast};
+ghost use Rattle.sender.specs.History.{new_history};
 ghost use Rattle.sender.specs.Sender.{Sending, IsSending, new_sending, state_of};
 ghost use Rattle.sender.specs.Sending.{SendsAny};
 ghost use Rattle.sender.specs.Feedback.{HearsFeedback};
@@ -31,6 +32,7 @@ pub struct Sender<H: History> {
 }
 
 impl<H: History> Model for Sender<H> {
+    ghost use Rattle.sender.specs.History.{new_history};
     ghost use Rattle.sender.specs.Sender.{Sending, IsSending};
 
     ghost Value = { Sending };
@@ -45,7 +47,8 @@ impl<H: History> Sender<H> {
     /// it keeps.
     pub fn new(config: SenderConfig, history: H) -> Sender<H>
         requires { (H.meaning history).entries ≡ [] }
-        ensures { result ≡ new_sending config (H.meaning history) }
+        ensures value { result ≡ new_sending config (H.meaning history) }
+        ensures state { state_of result ≡ new_history config.first config.repair_first }
     {
         let _repeats = config.repeats();
         Sender {
