@@ -1,7 +1,8 @@
 -- How far a simulation has come: what was read and written, and what the rest of the text says.
-use Rattle.std.proofs.Common.{◌≡◌, ℕ, ◌+◌, List, [], ◌∷◌, ◌++◌, length, take, reverse, refl, sym, ap, ◌∙◌, subst, arith, Option, Some, None, append_assoc, append-nil, length-append, inl, inr}
+use Rattle.std.proofs.Common.{◌≡◌, ℕ, ◌+◌, List, [], ◌∷◌, ◌++◌, length, take, reverse, refl, sym, ap, ◌∙◌, subst, arith, Option, Some, None, Result, Ok, Err, IfErr, append_assoc, append-nil, length-append, inl, inr}
 use Rattle.std.specs.List.{flat_map, AllZip}
 use Rattle.std.specs.Option.{IfSome}
+use Rattle.std.specs.Result.{IsErrAnd}
 use Rattle.std.specs.Io.KnownBytes.{Appends, Keeps, append_known, prepend_known}
 use Rattle.std.proofs.Math.Seq.{take-append_seam, take-append-add}
 use Rattle.std.proofs.lemmas.List.{take_all}
@@ -231,6 +232,16 @@ known_start config (Some x) (Some y) v w b k = start config v w x y b k
 pub known_first : (fault : SimFault) (old u v : Option (List ℕ)) → IfSome (prepend_known [] old) (FailsFirst fault) → Keeps u v → IfSome old (λ text. IsStopped fault text u v)
 known_first fault None u v bad k = tt
 known_first fault (Some x) u v bad k = stopped_first fault u v x bad k
+
+-- a fault of memory or of the writer says nothing of a line
+pub known_memory : {T : Type 0} (r : Result T SimFault) (old u v : Option (List ℕ)) → IsErrAnd r (λ x. x ≡ OutOfMemory) → IfErr r (λ fault. IfSome old (λ text. IsStopped fault text u v))
+known_memory (Ok x) old u v is = tt
+known_memory (Err fault) None u v is = tt
+known_memory (Err fault) (Some x) u v is = subst (λ (f : SimFault). IsStopped f x u v) (sym is) tt
+
+pub known_unwritten : (fault : SimFault) (old u v : Option (List ℕ)) → fault ≡ Write → IfSome old (λ text. IsStopped fault text u v)
+known_unwritten fault None u v is = tt
+known_unwritten fault (Some x) u v is = subst (λ (f : SimFault). IsStopped f x u v) (sym is) tt
 
 pub known_kept : (world : Recorded) (count : ℕ) (text left u v w : Option (List ℕ)) → IfBoth text left (Progress world count u v) → Keeps v w → IfBoth text left (Progress world count u w)
 known_kept world count None left u v w p k = tt

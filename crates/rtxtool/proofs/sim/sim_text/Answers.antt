@@ -1,7 +1,7 @@
 use Rattle.std.proofs.Common.{◌≡◌, [], IfErr, OnErr, Result, Ok, Err, sym, subst}
 use Rattle.std.specs.Result.{IsErrAnd}
 use Rattle.rtxtool.proofs.KnownLemmas.{Keeps-refl, leaves_end}
-use Rattle.rtxtool.proofs.ProgressLemmas.{known_start, known_first, known_kept, known_step, known_done, known_stopped, known_of_read, known_of_read_part, known_nothing_of_read, known_answered, known_answered_first, held_ends, taken_ends, config_ends}
+use Rattle.rtxtool.proofs.ProgressLemmas.{known_start, known_first, known_kept, known_step, known_done, known_stopped, known_of_read, known_of_read_part, known_nothing_of_read, known_answered, known_answered_first, known_memory, known_unwritten, held_ends, taken_ends, config_ends}
 use Rattle.rtxtool.proofs.sim.sim_text.Goals as goal
 
 on_err : {T E : Type 0} {P : Type 0} (r : Result T E) → P → OnErr r P
@@ -53,6 +53,12 @@ pub returns-in_default-clause-whole_log : goal.returns-in_default-clause-whole_l
 returns-in_default-clause-whole_log g c =
     let before = known_kept _ _ _ _ _ _ _ c.loop-count.invariant c.in_ok-event.ensures.written in
     known_done _ _ _ _ _ _ _ before (rw c.in_default.is at c.in_ok-event.ensures.ok)
+
+pub returns-in_err-advance-clause-first_bad_line : goal.returns-in_err-advance-clause-first_bad_line
+returns-in_err-advance-clause-first_bad_line g c = known_memory _ _ _ _ c.from_residual-in_err-advance.ensures.1
+
+pub returns-in_err-write_text-clause-first_bad_line : goal.returns-in_err-write_text-clause-first_bad_line
+returns-in_err-write_text-clause-first_bad_line g c = if_err _ _ _ c.from_residual-in_err-write_text.ensures.1 (known_unwritten _ _ _ _ c.in_err-write_text.ensures.fault)
 
 pub returns-in_err-advance-clause-a_beginning : goal.returns-in_err-advance-clause-a_beginning
 returns-in_err-advance-clause-a_beginning g c =
