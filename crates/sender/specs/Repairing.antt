@@ -14,6 +14,11 @@ pub record RepairsAt (s : Streams) (old : History) (place : ℕ) (octets : List 
   pub repairs : Repairs old place entry new
   pub spells : RepairSpells entry.content (number place) old.repair s.repair_type s.repair_ssrc octets
 
+-- the answer of a retransmission into a datagram that the caller lends, with the datagram
+abbrev pub repaired_in : ArrayVec ℕ → Option ℕ → Option (ℕ × ArrayVec ℕ)
+repaired_in datagram (Some place) = Some (place, datagram)
+repaired_in datagram None = None
+
 -- There is a retransmission exactly where a place is marked; else nothing changes.
 abbrev pub RepairsAny : Streams → History → Option (ℕ × ArrayVec ℕ) → History → Type 0
 RepairsAny s old (Some sent) new = RepairsAt s old sent.0 sent.1.items new

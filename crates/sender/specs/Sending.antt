@@ -28,6 +28,11 @@ pub record SendsAt (s : Streams) (room : ℕ) (old : History) (content : Content
   pub written_so : octets ≡ written (media_packet s content padding place)
   pub sends : Sends room old content new
 
+-- the answer of a send into a datagram that the caller lends, with the datagram
+abbrev pub sent_in : ArrayVec ℕ → Result ℕ SendFault → Result (ℕ × ArrayVec ℕ) SendFault
+sent_in datagram (Ok place) = Ok (place, datagram)
+sent_in datagram (Err fault) = Err fault
+
 -- What a send answers: padding without a payload (44), no place left (45), or a packet. A refusal changes
 -- nothing.
 abbrev pub SendsAny : Streams → (room : ℕ) → History → Content → (padding : ℕ) → Result (ℕ × ArrayVec ℕ) SendFault → History → Type 0

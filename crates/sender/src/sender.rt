@@ -3,9 +3,9 @@ ghost use Rattle.std.specs.Prelude.{◌≡◌, [], None, OnErr};
 ghost use Rattle.stores.specs.Past.{IsPast};
 ghost use Rattle.sender.specs.History.{new_history};
 ghost use Rattle.sender.specs.Sender.{Sending, IsSending, new_sending, state_of};
-ghost use Rattle.sender.specs.Sending.{SendsAny};
+ghost use Rattle.sender.specs.Sending.{SendsAny, sent_in};
 ghost use Rattle.sender.specs.Feedback.{HearsFeedback};
-ghost use Rattle.sender.specs.Repairing.{RepairsAny};
+ghost use Rattle.sender.specs.Repairing.{RepairsAny, repaired_in};
 
 use crate::answer::Marked;
 use crate::config::SenderConfig;
@@ -14,7 +14,7 @@ use crate::marking::{are_of_session, mark_nacks};
 use fbwire::{Compound, FeedbackFault, nack_is_determined};
 use places::Place;
 use rtpwire::{
-    Content, Datagram, content_is_bounded, content_is_determined, write_media, write_repair,
+    Content, Datagram, content_is_bounded, content_is_determined, write_media_to, write_repair_to,
 };
 use std::marker::Model;
 use stores::{History, history_by_place};
@@ -76,6 +76,28 @@ impl<H: History> Sender<H> {
         ensures capacity { self.new.past.capacity ≡ self.old.past.capacity }
         ensures is_past { IsPast self.new.past }
     {
+        let mut out = Datagram::new();
+        match self.send_to(&mut out, content, padding) {
+            Ok(place) => Ok((place, out)),
+            Err(fault) => Err(fault),
+        }
+    }
+
+    /// The same with a datagram that the caller lends for the packet, whatever it held. A datagram is blanked when
+    /// it is made, so one that is lent again and again saves that. After a refusal it is as it was.
+    pub fn send_to(
+        &mut self,
+        out: &mut Datagram,
+        content: Content,
+        padding: u8,
+    ) -> Result<Place, SendFault>
+        ensures sends { SendsAny self.old.config.session self.old.past.capacity (state_of self.old) content padding (sent_in out.new result) (state_of self.new) }
+        ensures lent { OnErr result (out.new ≡ out.old) }
+        ensures err { OnErr result (self.new ≡ self.old) }
+        ensures config { self.new.config ≡ self.old.config }
+        ensures capacity { self.new.past.capacity ≡ self.old.past.capacity }
+        ensures is_past { IsPast self.new.past }
+    {
         let session = self.config.session();
         if padding > 0 && content.payload.is_empty() {
             return Err(SendFault::PaddedEmpty);
@@ -86,7 +108,8 @@ impl<H: History> Sender<H> {
         content_is_bounded(&content);
         content_is_determined();
         history_by_place();
-        let datagram = write_media(
+        write_media_to(
+            out,
             &content,
             padding,
             place.number(),
@@ -95,7 +118,7 @@ impl<H: History> Sender<H> {
         );
         self.next += 1;
         self.history.push(place, content);
-        Ok((place, datagram))
+        Ok(place)
     }
 
     /// Takes a feedback datagram. It may be called at any time, with any octets. The answer is how many packets
@@ -137,12 +160,30 @@ impl<H: History> Sender<H> {
         ensures capacity { self.new.past.capacity ≡ self.old.past.capacity }
         ensures is_past { IsPast self.new.past }
     {
+        let mut out = Datagram::new();
+        match self.next_repair_to(&mut out) {
+            Some(place) => Some((place, out)),
+            None => None,
+        }
+    }
+
+    /// The same with a datagram that the caller lends for the retransmission, whatever it held. Without one it is as
+    /// it was.
+    pub fn next_repair_to(&mut self, out: &mut Datagram) -> Option<Place>
+        ensures repairs { RepairsAny self.old.config.session (state_of self.old) (repaired_in out.new result) (state_of self.new) }
+        ensures lent { result ≡ None → out.new ≡ out.old }
+        ensures none { result ≡ None → self.new ≡ self.old }
+        ensures config { self.new.config ≡ self.old.config }
+        ensures capacity { self.new.past.capacity ≡ self.old.past.capacity }
+        ensures is_past { IsPast self.new.past }
+    {
         history_by_place();
         let place = self.history.least_marked()?;
-        let original = place.number();
         let session = self.config.session();
+        let original = place.number();
         let entry = self.history.get(place);
-        let datagram = write_repair(
+        write_repair_to(
+            out,
             &entry.content,
             original,
             self.repair,
@@ -151,7 +192,7 @@ impl<H: History> Sender<H> {
         );
         self.history.count_repeat(place);
         self.repair = self.repair.wrapping_add(1);
-        Some((place, datagram))
+        Some(place)
     }
 
     /// Its history, to see what it keeps and is to retransmit.

@@ -6,7 +6,7 @@ use Rattle.sender.specs.History.{Sends}
 use Rattle.sender.specs.Sender.{Sending, history_of, state_of}
 use Rattle.sender.proofs.Keeping.{push_keeps}
 use Rattle.sender.proofs.Stepping.{sends}
-use Rattle.sender.proofs.sender.Sender.send.Goals as goal
+use Rattle.sender.proofs.sender.Sender.send_to.Goals as goal
 
 pub invariant_of-self : goal.invariant_of-self
 invariant_of-self g c =

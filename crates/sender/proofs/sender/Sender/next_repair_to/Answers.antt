@@ -1,6 +1,6 @@
 use Rattle.std.proofs.Common.{◌∙◌, sym}
 use Rattle.sender.proofs.Keeping.{repeat_keeps}
-use Rattle.sender.proofs.sender.Sender.next_repair.Goals as goal
+use Rattle.sender.proofs.sender.Sender.next_repair_to.Goals as goal
 
 pub invariant_of-self : goal.invariant_of-self
 invariant_of-self g c =
