@@ -2,7 +2,7 @@
 ghost use Rattle.std.specs.Prelude.{◌≡◌, None};
 
 use super::*;
-use crate::row_tests::{FIRST, Row, SECOND_IS_LOST, THIRD, config, first_miss};
+use crate::row_tests::{FIRST, Row, SECOND_IS_LOST, THIRD, config, first_miss, heard};
 use places::Place;
 use rtpwire::{Content, RtpView, Session};
 use std::test::Fail;
@@ -16,16 +16,6 @@ const SECOND_FROM_ANOTHER: &[u8] = b"\x80\x61\x00\x09\x00\x00\x00\xc8\x55\x55\x5
 
 /// The retransmission of the place 65537.
 const FIRST_AGAIN: &[u8] = b"\x80\xe1\x00\x05\x00\x00\x00\x64\x22\x22\x22\x22\x00\x01\xaa";
-
-/// A retransmission of number 2 whose original payload is one octet too long.
-fn too_long() -> [u8; 1215] {
-    let mut octets = [0x22; 1215];
-    octets[0] = 0x80;
-    octets[1] = 0x61;
-    octets[12] = 0;
-    octets[13] = 2;
-    octets
-}
 
 #[test]
 fn a_loss_across_the_wrap(rt: HostRuntime) -> Result<(), Fail> {
@@ -73,15 +63,12 @@ fn refused_retransmissions(rt: HostRuntime) -> Result<(), Fail> {
             0,
             Err(31),
         ),
-        // Too long, and before the start.
-        Row::Hear(&too_long(), 0, Err(37)),
         Row::Hear(FIRST_AGAIN, 0, Err(33)),
         Row::Wait(0),
         Row::Hear(FIRST, 0, Ok((65537, 0))),
         Row::Hear(FIRST_AGAIN, 0, Err(36)),
         Row::Play(0, 65537, Some(b"\xaa")),
         Row::Hear(FIRST_AGAIN, 0, Err(35)),
-        Row::Hear(&too_long(), 0, Err(37)),
         // The original is 16384 ahead, whatever the retransmission's own number is.
         Row::Hear(
             b"\x80\x61\x00\x01\x00\x00\x00\x00\x22\x22\x22\x22\x40\x01\xaa",
@@ -207,13 +194,12 @@ fn the_source_is_learnt(rt: HostRuntime) -> Result<(), Fail> {
 #[test]
 fn what_is_not_learnt_from(rt: HostRuntime) -> Result<(), Fail> {
     let rows = [
-        // Before the start, with a number missing, too long, or both ends of that order.
+        // Before the start, and without the whole of an original number.
         Row::Hear(
             b"\x80\x61\x00\x09\x00\x00\x00\x00\x55\x55\x55\x55\x00",
             0,
             Err(6),
         ),
-        Row::Hear(&too_long(), 0, Err(37)),
         Row::Hear(SECOND_FROM_ANOTHER, 0, Err(33)),
         Row::Hear(FIRST, 0, Ok((65537, 0))),
         Row::Hear(THIRD, 0, Ok((65539, 0))),
@@ -240,5 +226,33 @@ fn what_is_not_learnt_from(rt: HostRuntime) -> Result<(), Fail> {
         Row::Hear(SECOND_FROM_ANOTHER, 0, Err(36)),
     ];
     assert_eq!(rt; first_miss(rt.alloc(), 8, learning()?, &rows)?, None);
+    Ok(())
+}
+
+/// A retransmission of number 2, or 32770, whose original payload is one octet too long.
+fn too_long(is_far: bool) -> [u8; 1215] {
+    let mut octets = [0x22; 1215];
+    octets[0] = 0x80;
+    octets[1] = 0x61;
+    octets[12] = if is_far { 0x80 } else { 0 };
+    octets[13] = 2;
+    octets
+}
+
+#[test]
+fn a_retransmission_that_is_too_long(rt: HostRuntime) -> Result<(), Fail> {
+    // Before the start; and after it, where its place is missing, and where it has none.
+    for config in [config(3)?, learning()?] {
+        let Ok(window) = ListWindow::new(rt.alloc(), 8) else {
+            return Err(Fail::from("memory is ample"));
+        };
+        let mut receiver = Receiver::new(config, window);
+        assert_eq!(rt; heard(&mut receiver, &too_long(false), 0), Err(37));
+        assert_eq!(rt; heard(&mut receiver, FIRST, 0), Ok((65537, 0)));
+        assert_eq!(rt; heard(&mut receiver, THIRD, 0), Ok((65539, 0)));
+        for is_far in [false, true] {
+            assert_eq!(rt; heard(&mut receiver, &too_long(is_far), 0), Err(37));
+        }
+    }
     Ok(())
 }

@@ -9,13 +9,13 @@ use stores::{ListWindow, RingWindow, Window};
 
 /// One call, and what it answers.
 #[derive(Drop)]
-pub(crate) enum Row<'a> {
+pub(crate) enum Row {
     /// A datagram at a moment: the place and the overrun, or the refusal number.
-    Hear(&'a [u8], u64, Result<(u64, u64), u8>),
+    Hear(&'static [u8], u64, Result<(u64, u64), u8>),
     /// An ask at a moment: the octets of its datagram, or no octets where there is none.
-    Ask(u64, &'a [u8]),
+    Ask(u64, &'static [u8]),
     /// A play at a moment: the place, and the payload of what is played, or none where it is given up.
-    Play(u64, u64, Option<&'a [u8]>),
+    Play(u64, u64, Option<&'static [u8]>),
     /// A play at a moment that waits.
     Wait(u64),
     /// How many places are missing.
@@ -25,7 +25,11 @@ pub(crate) enum Row<'a> {
 }
 
 /// A datagram at the receiver: the place and the overrun, or the refusal number.
-fn heard<W: Window>(receiver: &mut Receiver<W>, octets: &[u8], now: u64) -> Result<(u64, u64), u8> {
+pub(crate) fn heard<W: Window>(
+    receiver: &mut Receiver<W>,
+    octets: &[u8],
+    now: u64,
+) -> Result<(u64, u64), u8> {
     match receiver.on_media(octets, now) {
         Ok(taken) => Ok((taken.place.value(), taken.overrun)),
         Err(fault) => Err(fault.number()),
@@ -58,7 +62,7 @@ fn asks<W: Window>(receiver: &mut Receiver<W>, now: u64, octets: &[u8]) -> bool 
 }
 
 /// Whether the receiver answers the call so.
-fn meets<W: Window>(receiver: &mut Receiver<W>, row: &Row<'_>) -> bool {
+fn meets<W: Window>(receiver: &mut Receiver<W>, row: &Row) -> bool {
     match row {
         Row::Hear(octets, now, answer) => heard(receiver, octets, *now) == *answer,
         Row::Ask(now, octets) => asks(receiver, *now, octets),
@@ -70,7 +74,7 @@ fn meets<W: Window>(receiver: &mut Receiver<W>, row: &Row<'_>) -> bool {
 }
 
 /// The index of the first row that a new receiver does not meet.
-fn miss<W: Window>(window: W, config: ReceiverConfig, rows: &[Row<'_>]) -> Option<usize>
+fn miss<W: Window>(window: W, config: ReceiverConfig, rows: &[Row]) -> Option<usize>
     requires { (W.meaning window).cursor ≡ None }
 {
     let mut receiver = Receiver::new(config, window);
@@ -87,7 +91,7 @@ pub(crate) fn first_miss(
     alloc: Global,
     room: usize,
     config: ReceiverConfig,
-    rows: &[Row<'_>],
+    rows: &[Row],
 ) -> Result<Option<usize>, Fail>
     requires nonzero { 0 < room }
     requires limit { room ≤ 8192 }

@@ -155,6 +155,7 @@ fn what_the_receiver_refused(rt: HostRuntime) -> Result<(), Fail> {
             ReceiveFault::Content(ContentFault::TooLong),
             b"refused 37\n",
         ),
+        (ReceiveFault::Unasked, b"refused 38\n"),
         (ReceiveFault::Place(PlaceFault::PastEnd), b"refused 39\n"),
     ] {
         has_line(&rt, &delivered(Answer::Refused(fault))?, want)?;
