@@ -14,12 +14,3 @@ pub use fault::ReceiveFault;
 pub use laws::{asking_is_determined, hearing_is_determined, playing_is_determined};
 pub use receiver::Receiver;
 pub use stream::Stream;
-
-#[cfg(test)]
-mod ask_tests;
-#[cfg(test)]
-mod repair_tests;
-#[cfg(test)]
-mod row_tests;
-#[cfg(test)]
-mod tests;

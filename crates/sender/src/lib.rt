@@ -13,6 +13,3 @@ pub use config::SenderConfig;
 pub use fault::SendFault;
 pub use laws::{feedback_is_determined, repairing_is_determined, sending_is_determined};
 pub use sender::Sender;
-
-#[cfg(test)]
-mod tests;

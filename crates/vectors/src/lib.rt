@@ -3,6 +3,8 @@
 #![tactic(auto)]
 
 #[cfg(test)]
+mod asks;
+#[cfg(test)]
 mod both_ends;
 #[cfg(test)]
 mod both_histories;
@@ -13,9 +15,17 @@ mod feedback;
 #[cfg(test)]
 mod framing;
 #[cfg(test)]
+mod headline;
+#[cfg(test)]
 mod log_lines;
 #[cfg(test)]
+mod media;
+#[cfg(test)]
 mod places;
+#[cfg(test)]
+mod receiver_rows;
+#[cfg(test)]
+mod repairs;
 #[cfg(test)]
 mod retransmission;
 #[cfg(test)]
@@ -23,4 +33,8 @@ mod rtp;
 #[cfg(test)]
 mod script_lines;
 #[cfg(test)]
+mod sending;
+#[cfg(test)]
 mod windows;
+#[cfg(test)]
+mod worlds;

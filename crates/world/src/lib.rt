@@ -11,8 +11,3 @@ pub use config::Config;
 pub use event::{Answer, End, Entry, Event, Label};
 pub use laws::{answers_are_determined, logs_are_good, logs_are_in_order, wires_are_faithful};
 pub use world::{World, run};
-
-#[cfg(test)]
-mod headline_tests;
-#[cfg(test)]
-mod tests;

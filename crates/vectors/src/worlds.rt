@@ -1,4 +1,4 @@
-use super::*;
+use world::*;
 use arrayvec::ArrayVec;
 use places::Place;
 use receiver::{Played, Taken};

@@ -1,5 +1,5 @@
-use super::*;
-use crate::tests::{Row, content, does, send, shows, world};
+use world::*;
+use crate::worlds::{Row, content, does, send, shows, world};
 use arrayvec::ArrayVec;
 use places::Place;
 use receiver::{Played, ReceiveFault, Taken};

@@ -1,7 +1,7 @@
 //! Rows of calls and what each answers, through both windows.
 ghost use Rattle.std.specs.Prelude.{◌≡◌, ◌<◌, ◌≤◌, None};
 
-use super::*;
+use receiver::*;
 use rtpwire::Session;
 use std::alloc::Global;
 use std::test::Fail;

@@ -1,6 +1,6 @@
 ghost use Rattle.std.specs.Prelude.{◌<◌, ◌≤◌};
 
-use super::*;
+use sender::*;
 use rtpwire::{Content, RtpView, Session};
 use std::alloc::Global;
 use std::test::Fail;

@@ -1,8 +1,8 @@
 //! Retransmissions at a receiver, and how it learns their SSRC.
 ghost use Rattle.std.specs.Prelude.{◌≡◌, None};
 
-use super::*;
-use crate::row_tests::{FIRST, Row, SECOND_IS_LOST, THIRD, config, first_miss, heard};
+use receiver::*;
+use crate::receiver_rows::{FIRST, Row, SECOND_IS_LOST, THIRD, config, first_miss, heard};
 use places::Place;
 use rtpwire::{Content, RtpView, Session};
 use std::test::Fail;
