@@ -1,6 +1,6 @@
 //! When a receiver asks, for what, and how often.
-use receiver::*;
 use crate::receiver_rows::{FIRST, Row, SECOND, SECOND_IS_LOST, THIRD, config, first_miss};
+use receiver::*;
 use std::alloc::Global;
 use std::test::Fail;
 use stores::{RingWindow, Window};

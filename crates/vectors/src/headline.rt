@@ -1,4 +1,3 @@
-use world::*;
 use crate::worlds::{Row, content, does, send, shows, world};
 use arrayvec::ArrayVec;
 use places::Place;
@@ -7,6 +6,7 @@ use rtpwire::{Content, Extension};
 use std::alloc::Global;
 use std::test::Fail;
 use stores::{ListHistory, ListWindow, PutFault};
+use world::*;
 
 /// A world in which the empty content was sent 49154 times: the places 65537 to 114690.
 fn with_sends(alloc: Global) -> Result<World<ListHistory, ListWindow>, Fail> {

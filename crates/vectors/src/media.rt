@@ -1,7 +1,7 @@
 ghost use Rattle.std.specs.Prelude.{◌<◌, ◌≤◌};
 
-use receiver::*;
 use places::Place;
+use receiver::*;
 use rtpwire::{Content, RtpView, Session};
 use std::alloc::Global;
 use std::test::Fail;

@@ -1,9 +1,9 @@
 //! Retransmissions at a receiver, and how it learns their SSRC.
 ghost use Rattle.std.specs.Prelude.{◌≡◌, None};
 
-use receiver::*;
 use crate::receiver_rows::{FIRST, Row, SECOND_IS_LOST, THIRD, config, first_miss, heard};
 use places::Place;
+use receiver::*;
 use rtpwire::{Content, RtpView, Session};
 use std::test::Fail;
 use stores::{ListWindow, Window};

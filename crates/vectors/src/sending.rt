@@ -1,7 +1,7 @@
 ghost use Rattle.std.specs.Prelude.{◌<◌, ◌≤◌};
 
-use sender::*;
 use rtpwire::{Content, RtpView, Session};
+use sender::*;
 use std::alloc::Global;
 use std::test::Fail;
 use stores::{History, ListHistory, RingHistory};

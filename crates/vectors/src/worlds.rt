@@ -1,4 +1,3 @@
-use world::*;
 use arrayvec::ArrayVec;
 use places::Place;
 use receiver::{Played, Taken};
@@ -7,6 +6,7 @@ use sender::SendFault;
 use std::alloc::Global;
 use std::test::Fail;
 use stores::{ListHistory, ListWindow};
+use world::*;
 
 /// Both ends under the session of the rows.
 pub(crate) fn config(first: u16, window: usize) -> Result<Config, Fail> {
