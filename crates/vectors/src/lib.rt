@@ -21,7 +21,7 @@ mod log_lines;
 #[cfg(test)]
 mod media;
 #[cfg(test)]
-mod places;
+mod nearness;
 #[cfg(test)]
 mod receiver_rows;
 #[cfg(test)]
