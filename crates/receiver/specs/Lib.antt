@@ -3,7 +3,6 @@ pub mod Asks
 pub mod Counted
 pub mod Streams
 pub mod Heard
-pub mod Carried
 pub mod Config
 pub mod Receiver
 pub mod Fault

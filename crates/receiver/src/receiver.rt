@@ -12,10 +12,10 @@ ghost use Rattle.receiver.specs.Receiver.{state_of, IsUnlearnt, learnt_after};
 use crate::answer::{Played, Taken};
 use crate::config::ReceiverConfig;
 use crate::fault::ReceiveFault;
-use crate::stream::{Stream, carried, stream_of};
+use crate::stream::{Stream, stream_of};
 use fbwire::{pack, write_nack};
 use places::{Place, near};
-use rtpwire::{Content, Datagram, RtpView};
+use rtpwire::{Content, Datagram, RtpView, RtxView};
 use std::marker::Model;
 use stores::{Slot, Window, window_by_place};
 
@@ -98,8 +98,7 @@ impl<W: Window> Receiver<W> {
     /// The SSRC of the retransmissions: the session's, or the one that was learnt, where the receiver
     /// learns it, and None until it has.
     pub fn repair_source(&self) -> Option<u32>
-        ensures known { result ≡ known_to self.now.config self.now.learnt }
-        ensures source { result ≡ source_of self.now.config (state_of self.now) }
+        ensures { result ≡ source_of self.now.config (state_of self.now) }
     {
         known_source(&self.config, self.learnt)
     }
@@ -186,11 +185,22 @@ fn hear<W: Window>(
     let view = RtpView::read(octets)?;
     let source = known_source(config, *learnt);
     let stream = stream_of(&config.session(), source, &view)?;
-    let (seq, content) = carried(stream, &view)?;
-    take_number(window, learnt, stream, seq, content, now)
+    match stream {
+        Stream::Media => {
+            let content = Content::of_view(&view)?;
+            take_number(window, learnt, stream, view.sequence(), content, now)
+        }
+        Stream::Repair | Stream::Candidate(_) => {
+            let repair = RtxView::read(&view)?;
+            let content = Content::of_rtx(&repair)?;
+            take_number(window, learnt, stream, repair.original(), content, now)
+        }
+    }
 }
 
 /// Takes a content by the sequence number of its original packet.
+// It has two callers, and what is passed by value to a function that is not inlined is copied there.
+#[inline(always)]
 fn take_number<W: Window>(
     window: &mut W,
     learnt: &mut Option<u32>,

@@ -1,9 +1,8 @@
 ghost use Rattle.std.specs.Prelude.{◌≡◌};
 ghost use Rattle.receiver.specs.Streams.{stream_under, stream_of};
-ghost use Rattle.receiver.specs.Carried.{CarriesOrNot};
 
 use crate::fault::ReceiveFault;
-use rtpwire::{Content, RtpView, RtxView, Session};
+use rtpwire::{RtpView, Session};
 
 /// The streams that go to a receiver: the media, and its retransmissions.
 #[derive(Clone, Copy, Debug, PartialEq, Eq)]
@@ -52,24 +51,4 @@ fn stream_under(session: &Session, source: Option<u32>, ssrc: u32) -> Option<Str
         None if ssrc != session.receiver_ssrc() => Some(Stream::Candidate(ssrc)),
         _ => None,
     }
-}
-
-/// What a packet of a stream carries: the sequence number of the original packet, and its content.
-///
-/// Refused: `Rtp` (6), where a retransmission has no original sequence number, and then `Content` (37).
-pub(crate) fn carried(stream: Stream, view: &RtpView<'_>) -> Result<(u16, Content), ReceiveFault>
-    ensures { CarriesOrNot stream view.now result }
-{
-    match stream {
-        Stream::Media => Ok((view.sequence(), Content::of_view(view)?)),
-        Stream::Repair | Stream::Candidate(_) => carried_again(view),
-    }
-}
-
-/// What a retransmission carries: the sequence number and the content of the packet that it repeats.
-fn carried_again(view: &RtpView<'_>) -> Result<(u16, Content), ReceiveFault>
-    ensures { CarriesOrNot Stream.Repair view.now result }
-{
-    let repair = RtxView::read(view)?;
-    Ok((repair.original(), Content::of_rtx(&repair)?))
 }
