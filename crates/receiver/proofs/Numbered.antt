@@ -18,7 +18,7 @@ use Rattle.receiver.specs.declared.answer.Taken.{Taken}
 use Rattle.receiver.specs.declared.fault.ReceiveFault.{ReceiveFault}
 use Rattle.receiver.specs.declared.fault.ReceiveFault.TheVariants as refused
 use Rattle.receiver.specs.declared.stream.Stream.{Stream}
-use Rattle.receiver.specs.declared.stream.Stream.TheVariants.{Media, Repair, Candidate}
+use Rattle.receiver.specs.declared.stream.Stream.TheVariants.{Repair, Candidate}
 use Rattle.receiver.specs.Config.{Config}
 use Rattle.receiver.specs.Window.{Window, window_of}
 use Rattle.receiver.specs.Streams.{known_to, source_of, stream_of}

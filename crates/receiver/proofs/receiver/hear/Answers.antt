@@ -1,4 +1,4 @@
-use Rattle.std.proofs.Common.{◌≡◌, ℕ, Err, refl, sym, ap, subst, true≢false, ◌∙◌}
+use Rattle.std.proofs.Common.{ℕ, Err, refl, sym, ap, subst, true≢false, ◌∙◌}
 use Rattle.rtpwire.specs.declared.fault.RtpFault.{RtpFault}
 use Rattle.receiver.specs.declared.fault.ReceiveFault.TheVariants as refused
 use Rattle.receiver.specs.declared.stream.Stream.{Stream}
