@@ -33,27 +33,36 @@ fn packing(values: &[u64]) -> Result<(ArrayVec<Pair, 64>, usize), Fail> {
     Ok(pack(&places))
 }
 
+/// NACKs, in words, that are refused with a number.
+const REFUSED_NACKS: [(&[u32], u8); 13] = [
+    (&[0x41cd0003, REPORTER, MEDIA, 0x00010000], 12),
+    (&[0xa1cd0003, REPORTER, MEDIA, 0x00010000], 13),
+    (&[0x81ce0003, REPORTER, MEDIA, 0x00010000], 14),
+    (&[0x82cd0003, REPORTER, MEDIA, 0x00010000], 15),
+    (&[0x81cd0004, REPORTER, MEDIA, 0x00010000], 16),
+    (&[0x81cd0002, REPORTER, MEDIA], 17),
+    (&[], 11),
+    // Each fails the check after it too.
+    (&[0x40cd0000, REPORTER], 11),
+    (&[0x61cd0003, REPORTER, MEDIA, 0x00010000], 12),
+    (&[0xa1ce0003, REPORTER, MEDIA, 0x00010000], 13),
+    (&[0x82ce0003, REPORTER, MEDIA, 0x00010000], 14),
+    (&[0x82cd0004, REPORTER, MEDIA, 0x00010000], 15),
+    (&[0x81cd0003, REPORTER, MEDIA], 16),
+];
+
+/// The refusal number of octets as a NACK, or 0 where they are read.
+fn refusal_of(octets: &[u8]) -> u8 {
+    match NackView::read(octets) {
+        Ok(_) => 0,
+        Err(fault) => fault.number(),
+    }
+}
+
 #[test]
 fn refused_nacks(rt: HostRuntime) -> Result<(), Fail> {
-    for (words, want) in [
-        (&[0x41cd0003, REPORTER, MEDIA, 0x00010000][..], 12),
-        (&[0xa1cd0003, REPORTER, MEDIA, 0x00010000], 13),
-        (&[0x81ce0003, REPORTER, MEDIA, 0x00010000], 14),
-        (&[0x82cd0003, REPORTER, MEDIA, 0x00010000], 15),
-        (&[0x81cd0004, REPORTER, MEDIA, 0x00010000], 16),
-        (&[0x81cd0002, REPORTER, MEDIA], 17),
-        (&[], 11),
-        // Each fails the check after it too.
-        (&[0x40cd0000, REPORTER], 11),
-        (&[0x61cd0003, REPORTER, MEDIA, 0x00010000], 12),
-        (&[0xa1ce0003, REPORTER, MEDIA, 0x00010000], 13),
-        (&[0x82ce0003, REPORTER, MEDIA, 0x00010000], 14),
-        (&[0x82cd0004, REPORTER, MEDIA, 0x00010000], 15),
-        (&[0x81cd0003, REPORTER, MEDIA], 16),
-    ] {
-        let octets = octets(words)?;
-        let fault = NackView::read(&octets).err().ok_or("it is refused")?;
-        assert_eq!(rt; fault.number(), want);
+    for (words, want) in REFUSED_NACKS {
+        assert_eq!(rt; refusal_of(&octets(words)?), want, "{words:?}");
     }
     Ok(())
 }
@@ -71,7 +80,6 @@ fn named_numbers(rt: HostRuntime) -> Result<(), Fail> {
         }
         assert_eq!(rt; numbers.next(), None);
     }
-    nack_is_determined();
     Ok(())
 }
 
@@ -100,7 +108,6 @@ fn packed_places(rt: HostRuntime) -> Result<(), Fail> {
             assert_eq!(rt; (pair.pid, pair.blp), *want);
         }
     }
-    packing_is_determined();
     Ok(())
 }
 
@@ -141,40 +148,50 @@ fn written_nacks(rt: HostRuntime) -> Result<(), Fail> {
     Ok(())
 }
 
+/// Compound datagrams that are refused with a number, as words and the octets after them.
+const REFUSED_COMPOUNDS: [(&[u32], &[u8], u8); 14] = [
+    (&[0x80c90001, REPORTER], &[], 14),
+    (&[0x80c90002, REPORTER], &[], 16),
+    (&[0x82cd0002, REPORTER, MEDIA], &[], 15),
+    (
+        &[0x81cd0003, REPORTER, MEDIA, 0x00010000],
+        &[0x81, 0, 0],
+        11,
+    ),
+    (
+        &[0x81cd0003, REPORTER, MEDIA, 0x00010000, 0x40c90000],
+        &[],
+        12,
+    ),
+    (&[], &[], 11),
+    (&[0x81cd0001, REPORTER], &[], 11),
+    (&[0x81cd0002, REPORTER, MEDIA], &[], 17),
+    // Each fails the check after it too.
+    (&[0x80c90001, REPORTER], &[0x41, 0xcd, 0], 11),
+    (&[0x61cd0003, REPORTER, MEDIA, 0x00010000], &[], 12),
+    (&[0xa1cd0004, REPORTER, MEDIA, 0x00010000], &[], 13),
+    (&[0x81cd0002, REPORTER], &[], 16),
+    // The first packet with a fault decides, and any fault before a want of NACKs.
+    (&[0x81cd0002, REPORTER, MEDIA, 0x40c90000], &[], 17),
+    (&[0x82cd0002, REPORTER, MEDIA, 0x40c90000], &[], 12),
+];
+
+/// The refusal number of these words, and of the octets after them, as a compound datagram, or 0 where it is read.
+fn refusal_of_compound(words: &[u32], rest: &[u8]) -> Result<u8, Fail> {
+    let mut octets = octets(words)?;
+    octets
+        .try_extend_from_slice(rest)
+        .map_err(|_| "a datagram holds them")?;
+    match Compound::read(&octets) {
+        Ok(_) => Ok(0),
+        Err(fault) => Ok(fault.number()),
+    }
+}
+
 #[test]
 fn refused_compounds(rt: HostRuntime) -> Result<(), Fail> {
-    for (words, rest, want) in [
-        (&[0x80c90001, REPORTER][..], &[][..], 14),
-        (&[0x80c90002, REPORTER], &[], 16),
-        (&[0x82cd0002, REPORTER, MEDIA], &[], 15),
-        (
-            &[0x81cd0003, REPORTER, MEDIA, 0x00010000],
-            &[0x81, 0, 0],
-            11,
-        ),
-        (
-            &[0x81cd0003, REPORTER, MEDIA, 0x00010000, 0x40c90000],
-            &[],
-            12,
-        ),
-        (&[], &[], 11),
-        (&[0x81cd0001, REPORTER], &[], 11),
-        (&[0x81cd0002, REPORTER, MEDIA], &[], 17),
-        // Each fails the check after it too.
-        (&[0x80c90001, REPORTER], &[0x41, 0xcd, 0], 11),
-        (&[0x61cd0003, REPORTER, MEDIA, 0x00010000], &[], 12),
-        (&[0xa1cd0004, REPORTER, MEDIA, 0x00010000], &[], 13),
-        (&[0x81cd0002, REPORTER], &[], 16),
-        // The first packet with a fault decides, and any fault before a want of NACKs.
-        (&[0x81cd0002, REPORTER, MEDIA, 0x40c90000], &[], 17),
-        (&[0x82cd0002, REPORTER, MEDIA, 0x40c90000], &[], 12),
-    ] {
-        let mut octets = octets(words)?;
-        octets
-            .try_extend_from_slice(rest)
-            .map_err(|_| "a datagram holds them")?;
-        let fault = Compound::read(&octets).err().ok_or("it is refused")?;
-        assert_eq!(rt; fault.number(), want);
+    for (words, rest, want) in REFUSED_COMPOUNDS {
+        assert_eq!(rt; refusal_of_compound(words, rest)?, want, "{words:?}");
     }
     Ok(())
 }
@@ -213,7 +230,6 @@ fn compounds(rt: HostRuntime) -> Result<(), Fail> {
         }
         assert!(rt; nacks.next().is_none());
     }
-    compound_is_determined();
     Ok(())
 }
 
@@ -221,4 +237,12 @@ fn compounds(rt: HostRuntime) -> Result<(), Fail> {
 fn faults_of_a_session(rt: HostRuntime) {
     assert_eq!(rt; FeedbackFault::WrongMedia.number(), 18);
     assert_eq!(rt; FeedbackFault::WrongReporter.number(), 19);
+}
+
+/// The laws, which run nothing.
+#[test]
+fn the_laws_of_feedback() {
+    nack_is_determined();
+    packing_is_determined();
+    compound_is_determined();
 }

@@ -76,8 +76,13 @@ fn a_trace_in_single_octets(rt: HostRuntime) -> Result<(), Fail> {
     }
     deframer.finish()?;
     assert!(rt; are_of_trace(&datagrams));
-    framing_is_determined();
     Ok(())
+}
+
+/// The law, which runs nothing.
+#[test]
+fn the_law_of_framing() {
+    framing_is_determined();
 }
 
 /// The refusal number of feeding a piece, or 0 where it is taken.
@@ -96,48 +101,59 @@ fn refusal_at_end(deframer: &Deframer) -> u8 {
     }
 }
 
+/// The refusal numbers of feeding a piece and of ending behind it.
+fn refusals(deframer: &mut Deframer, piece: &[u8]) -> (u8, u8) {
+    (refusal_of(deframer, piece), refusal_at_end(deframer))
+}
+
 #[test]
 fn a_length_too_long(rt: HostRuntime) {
     let mut deframer = Deframer::new();
-    assert_eq!(rt; refusal_of(&mut deframer, b"\x06\x41"), 22);
-    assert_eq!(rt; refusal_of(&mut deframer, b""), 22);
-    assert_eq!(rt; refusal_of(&mut deframer, b"\x00\x00"), 22);
-    assert_eq!(rt; refusal_at_end(&deframer), 22);
-
+    for piece in [b"\x06\x41".as_slice(), b"", b"\x00\x00"] {
+        assert_eq!(rt; refusals(&mut deframer, piece), (22, 22));
+    }
     let mut deframer = Deframer::new();
-    assert_eq!(rt; refusal_of(&mut deframer, b"\x06"), 0);
-    assert_eq!(rt; refusal_at_end(&deframer), 21);
-    assert_eq!(rt; refusal_of(&mut deframer, b"\x41"), 22);
-    assert_eq!(rt; refusal_of(&mut deframer, b"\x00"), 22);
-    assert_eq!(rt; refusal_at_end(&deframer), 22);
+    for (piece, wanted) in [(b"\x06", (0, 21)), (b"\x41", (22, 22)), (b"\x00", (22, 22))] {
+        assert_eq!(rt; refusals(&mut deframer, piece), wanted);
+    }
 }
 
 #[test]
 fn more_after_an_end_in_a_frame(rt: HostRuntime) -> Result<(), Fail> {
     let mut deframer = Deframer::new();
-    assert_eq!(rt; refusal_of(&mut deframer, b"\x00\x02\xaa"), 0);
-    assert_eq!(rt; refusal_at_end(&deframer), 21);
+    assert_eq!(rt; refusals(&mut deframer, b"\x00\x02\xaa"), (0, 21));
     let (taken, datagram) = deframer.feed(b"\xbb\xcc")?;
-    assert_eq!(rt; taken, 1);
     let datagram = datagram.ok_or("a datagram")?;
+    assert_eq!(rt; (taken, refusal_at_end(&deframer)), (1, 0));
     assert_eq!(rt; datagram.as_slice(), b"\xaa\xbb".as_slice());
-    assert_eq!(rt; refusal_at_end(&deframer), 0);
     Ok(())
 }
 
 #[test]
-fn frames_are_written(rt: HostRuntime) -> Result<(), Fail> {
+fn frames_are_written(rt: HostRuntime) {
     assert_eq!(rt; write_frame(b"").as_slice(), b"\x00\x00".as_slice());
     assert_eq!(rt; write_frame(b"\xaa").as_slice(), b"\x00\x01\xaa".as_slice());
     assert_eq!(rt; MEDIA.len(), 13);
     assert_eq!(rt; write_frame(MEDIA).as_slice(), &TRACE[..15]);
+}
 
-    let largest = write_frame(&[0xaa; 1600]);
-    assert_eq!(rt; &largest.as_slice()[..2], b"\x06\x40".as_slice());
+/// The longest datagram, all of one octet.
+fn longest() -> Datagram {
+    let mut octets = Datagram::new();
+    for _ in 0..1600 {
+        let _ = octets.try_push(0xaa);
+    }
+    octets
+}
+
+#[test]
+fn the_longest_frame(rt: HostRuntime) -> Result<(), Fail> {
+    let longest = longest();
+    let frame = write_frame(longest.as_slice());
+    assert!(rt; frame.starts_with(b"\x06\x40"));
     let mut deframer = Deframer::new();
-    let (taken, datagram) = deframer.feed(largest.as_slice())?;
-    assert_eq!(rt; taken, 1602);
-    let datagram = datagram.ok_or("a datagram")?;
-    assert_eq!(rt; datagram.as_slice(), [0xaa; 1600].as_slice());
+    let (taken, datagram) = deframer.feed(frame.as_slice())?;
+    assert_eq!(rt; (longest.len(), taken), (1600, 1602));
+    assert!(rt; datagram == Some(longest));
     Ok(())
 }

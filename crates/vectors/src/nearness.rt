@@ -28,12 +28,32 @@ fn near_places(rt: HostRuntime) -> Result<(), Fail> {
 }
 
 #[test]
-fn places_and_numbers(rt: HostRuntime) -> Result<(), Fail> {
-    assert_eq!(rt; Place::first(0).value(), 65536);
-    assert_eq!(rt; Place::first(65535).value(), 131071);
-    assert_eq!(rt; place(131075)?.number(), 3);
-    assert_eq!(rt; place(65535)?.next(), Place::new(65536));
-    assert_eq!(rt; place(281474976710655)?.next(), None);
+fn first_places(rt: HostRuntime) {
+    for (number, value) in [(0, 65536), (65535, 131071)] {
+        assert_eq!(rt; Place::first(number).value(), value);
+    }
+}
+
+/// The number of a place, and the place after it.
+fn number_and_next(value: u64) -> Result<(u16, Option<Place>), Fail> {
+    let place = place(value)?;
+    Ok((place.number(), place.next()))
+}
+
+#[test]
+fn numbers_and_next_places(rt: HostRuntime) -> Result<(), Fail> {
+    for (value, number, next) in [
+        (131075, 3, Place::new(131076)),
+        (65535, 65535, Place::new(65536)),
+        (281474976710655, 65535, None),
+    ] {
+        assert_eq!(rt; number_and_next(value)?, (number, next));
+    }
+    Ok(())
+}
+
+#[test]
+fn the_order_and_the_end_of_places(rt: HostRuntime) -> Result<(), Fail> {
     assert_eq!(rt; Place::new(281474976710656), None);
     assert!(rt; place(7)? < place(65536)?);
     near_is_determined();

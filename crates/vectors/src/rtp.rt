@@ -1,54 +1,10 @@
 ghost use Rattle.std.specs.Prelude.{◌+◌, ◌≤◌, length};
 
-use arrayvec::ArrayVec;
+use crate::contents::{largest, plain, with_extension};
 use rtpwire::*;
 use std::test::Fail;
 
 const SSRC: u32 = 0x11111111;
-
-/// A content with this payload, marker and timestamp, and nothing else.
-fn plain(payload: &[u8], marker: bool, timestamp: u32) -> Result<Content, Fail> {
-    let payload = ArrayVec::try_from(payload).ok().ok_or("the payload fits")?;
-    Ok(Content {
-        payload,
-        timestamp,
-        marker,
-        sources: ArrayVec::new(),
-        extension: None,
-    })
-}
-
-/// A content with a source and an extension of one word.
-fn with_extension() -> Result<Content, Fail> {
-    let mut content = plain(b"\xaa", true, 100)?;
-    content.sources = ArrayVec::try_from([7].as_slice())
-        .ok()
-        .ok_or("a source fits")?;
-    let words = ArrayVec::try_from([1].as_slice())
-        .ok()
-        .ok_or("a word fits")?;
-    content.extension = Some(Extension {
-        profile: 0xbeef,
-        words,
-    });
-    Ok(content)
-}
-
-/// The largest content.
-fn largest() -> Result<Content, Fail> {
-    let mut content = plain(&[0xaa; 1200], false, 100)?;
-    content.sources = ArrayVec::try_from([7; 15].as_slice())
-        .ok()
-        .ok_or("sources fit")?;
-    let words = ArrayVec::try_from([9; 16].as_slice())
-        .ok()
-        .ok_or("words fit")?;
-    content.extension = Some(Extension {
-        profile: 0xbeef,
-        words,
-    });
-    Ok(content)
-}
 
 /// Twelve header octets that begin with this one, and what follows them.
 fn after_header(first: u8, rest: &[u8]) -> Datagram
@@ -70,172 +26,270 @@ fn refusal_of(octets: &[u8]) -> u8 {
 }
 
 #[test]
+fn less_than_a_header(rt: HostRuntime) {
+    for octets in [
+        b"".as_slice(),
+        b"\x80\x60\x00\x01\x00\x00\x00\x00\x11\x11\x11",
+        // A version that is wrong too.
+        b"\x40\x60\x00\x01\x00\x00\x00\x00\x11\x11\x11",
+    ] {
+        assert_eq!(rt; refusal_of(octets), 1);
+    }
+}
+
+/// The refusal number of twelve header octets that begin with this one, with what follows them.
+fn refusal_after_header(first: u8, rest: &[u8]) -> u8 {
+    if rest.len() <= 100 {
+        refusal_of(after_header(first, rest).as_slice())
+    } else {
+        255
+    }
+}
+
+#[test]
 fn what_is_refused(rt: HostRuntime) {
-    assert_eq!(rt; refusal_of(b""), 1);
-    assert_eq!(rt;
-        refusal_of(b"\x80\x60\x00\x01\x00\x00\x00\x00\x11\x11\x11"),
-        1
-    );
-    // A version that is wrong too.
-    assert_eq!(rt;
-        refusal_of(b"\x40\x60\x00\x01\x00\x00\x00\x00\x11\x11\x11"),
-        1
-    );
     for (first, rest, refusal) in [
         (0x40, b"".as_slice(), 2),
-        (0x82, b"\x00\x00\x00\x07".as_slice(), 3),
-        (0x8f, [0; 59].as_slice(), 3),
-        (0x8f, [0; 60].as_slice(), 0),
-        (0x90, b"\x00".as_slice(), 4),
-        (0x90, b"\x00\x00\x00\x01\x00\x00\x00".as_slice(), 4),
-        (0x90, b"\x00\x00\x00\x00".as_slice(), 0),
-        (0xa0, b"\xaa\x00".as_slice(), 5),
-        (0xa0, b"\xaa\x02".as_slice(), 5),
-        (0xa0, b"".as_slice(), 5),
-        (0xa0, b"\xaa\x01".as_slice(), 0),
+        (0x82, b"\x00\x00\x00\x07", 3),
+        (0x8f, &[0; 59], 3),
+        (0x8f, &[0; 60], 0),
+        (0x90, b"\x00", 4),
+        (0x90, b"\x00\x00\x00\x01\x00\x00\x00", 4),
+        (0x90, b"\x00\x00\x00\x00", 0),
+        (0xa0, b"\xaa\x00", 5),
+        (0xa0, b"\xaa\x02", 5),
+        (0xa0, b"", 5),
+        (0xa0, b"\xaa\x01", 0),
         // Each fails the check after it too.
-        (0x42, b"".as_slice(), 2),
-        (0x91, b"".as_slice(), 3),
-        (0xb0, b"\x00\x00\x00\x01\x00".as_slice(), 4),
+        (0x42, b"", 2),
+        (0x91, b"", 3),
+        (0xb0, b"\x00\x00\x00\x01\x00", 4),
     ] {
-        assert!(rt; rest.len() <= 100);
-        let octets = after_header(first, rest);
-        assert_eq!(rt; refusal_of(octets.as_slice()), refusal, "{octets:?}");
+        let found = refusal_after_header(first, rest);
+        assert_eq!(rt; found, refusal, "{first:02x} {rest:?}");
     }
 }
 
-#[test]
-fn a_plain_packet_is_read(rt: HostRuntime) -> Result<(), Fail> {
-    let view = RtpView::read(b"\x80\x60\x00\x0a\x00\x00\x00\x00\x11\x11\x11\x11\x01\x02")?;
-    assert_eq!(rt; view.payload_type(), 96);
-    assert_eq!(rt; view.sequence(), 10);
-    assert_eq!(rt; view.timestamp(), 0);
-    assert_eq!(rt; view.ssrc(), SSRC);
-    assert!(rt; !view.marker());
-    assert_eq!(rt; view.source_count(), 0);
-    assert!(rt; view.extension().is_none());
-    assert_eq!(rt; view.payload(), b"\x01\x02".as_slice());
-    assert_eq!(rt; view.padding(), 0);
-    Ok(())
+/// What a packet shows.
+#[derive(Clone, Copy, Debug, PartialEq)]
+struct Fields<'a> {
+    marker: bool,
+    payload_type: u8,
+    sequence: u16,
+    timestamp: u32,
+    ssrc: u32,
+    source_count: usize,
+    first_source: u32,
+    extension: Option<(u16, &'a [u8])>,
+    payload: &'a [u8],
+    padding: u8,
 }
 
-#[test]
-fn padding_is_read(rt: HostRuntime) -> Result<(), Fail> {
-    for (rest, payload, padding) in [
-        (b"\xaa\x01".as_slice(), b"\xaa".as_slice(), 1),
-        (b"\xaa\xbb\xff\x02".as_slice(), b"\xaa\xbb".as_slice(), 2),
-    ] {
-        assert!(rt; rest.len() <= 100);
-        let octets = after_header(0xa0, rest);
-        let view = RtpView::read(octets.as_slice())?;
-        assert_eq!(rt; view.payload(), payload);
-        assert_eq!(rt; view.padding(), padding);
-    }
-    Ok(())
-}
+/// What a packet shows that has no more than its header needs, and the number 1.
+const HEADER: Fields<'static> = Fields {
+    marker: false,
+    payload_type: 96,
+    sequence: 1,
+    timestamp: 0,
+    ssrc: SSRC,
+    source_count: 0,
+    first_source: 0,
+    extension: None,
+    payload: b"",
+    padding: 0,
+};
 
-#[test]
-fn sources_and_extension_are_read(rt: HostRuntime) -> Result<(), Fail> {
-    let octets =
-        b"\xa1\x61\x00\x05\x00\x00\x00\x00\x22\x22\x22\x22\x00\x00\x00\x07\x00\x01\xbb\x01";
+/// What the packet of these octets shows.
+fn read<'a>(octets: &'a [u8]) -> Result<Fields<'a>, Fail> {
     let view = RtpView::read(octets)?;
-    assert_eq!(rt; view.source_count(), 1);
-    assert_eq!(rt; view.source(0), 7);
-    assert_eq!(rt; view.payload(), b"\x00\x01\xbb".as_slice());
-    assert_eq!(rt; view.padding(), 1);
+    let source_count = view.source_count();
+    Ok(Fields {
+        marker: view.marker(),
+        payload_type: view.payload_type(),
+        sequence: view.sequence(),
+        timestamp: view.timestamp(),
+        ssrc: view.ssrc(),
+        source_count,
+        first_source: if source_count > 0 { view.source(0) } else { 0 },
+        extension: view.extension(),
+        payload: view.payload(),
+        padding: view.padding(),
+    })
+}
 
-    let empty = after_header(0x90, b"\x00\x00\x00\x00");
-    let view = RtpView::read(empty.as_slice())?;
-    let (profile, words) = view.extension().ok_or("an extension")?;
-    assert_eq!(rt; profile, 0);
-    assert_eq!(rt; words.len(), 0);
-    assert_eq!(rt; view.payload().len(), 0);
+/// Packets, each with what it shows.
+const SHOWN: [(&[u8], Fields<'static>); 5] = [
+    (
+        b"\x80\x60\x00\x0a\x00\x00\x00\x00\x11\x11\x11\x11\x01\x02",
+        Fields {
+            sequence: 10,
+            payload: b"\x01\x02",
+            ..HEADER
+        },
+    ),
+    (
+        b"\xa0\x60\x00\x01\x00\x00\x00\x00\x11\x11\x11\x11\xaa\x01",
+        Fields {
+            payload: b"\xaa",
+            padding: 1,
+            ..HEADER
+        },
+    ),
+    (
+        b"\xa0\x60\x00\x01\x00\x00\x00\x00\x11\x11\x11\x11\xaa\xbb\xff\x02",
+        Fields {
+            payload: b"\xaa\xbb",
+            padding: 2,
+            ..HEADER
+        },
+    ),
+    (
+        b"\xa1\x61\x00\x05\x00\x00\x00\x00\x22\x22\x22\x22\x00\x00\x00\x07\x00\x01\xbb\x01",
+        Fields {
+            payload_type: 97,
+            sequence: 5,
+            ssrc: 0x22222222,
+            source_count: 1,
+            first_source: 7,
+            payload: b"\x00\x01\xbb",
+            padding: 1,
+            ..HEADER
+        },
+    ),
+    (
+        b"\x90\x60\x00\x01\x00\x00\x00\x00\x11\x11\x11\x11\x00\x00\x00\x00",
+        Fields {
+            extension: Some((0, b"")),
+            ..HEADER
+        },
+    ),
+];
+
+#[test]
+fn what_is_read(rt: HostRuntime) -> Result<(), Fail> {
+    for (octets, want) in SHOWN {
+        assert_eq!(rt; read(octets)?, want);
+    }
     Ok(())
+}
+
+/// The media packet of a content under the number 1, or nothing where padding has no payload before it.
+fn written(content: &Content, padding: u8) -> Datagram {
+    if content.payload.is_empty() {
+        Datagram::new()
+    } else {
+        write_media(content, padding, 1, 96, SSRC)
+    }
 }
 
 #[test]
 fn what_is_written(rt: HostRuntime) -> Result<(), Fail> {
-    let media = write_media(&plain(b"\xaa", true, 100)?, 0, 1, 96, SSRC);
-    let row = b"\x80\xe0\x00\x01\x00\x00\x00\x64\x11\x11\x11\x11\xaa";
-    assert_eq!(rt; media.as_slice(), row.as_slice());
-
-    let content = plain(b"\xaa\xbb", false, 0)?;
-    assert_eq!(rt; content.payload.len(), 2);
-    let padded = write_media(&content, 2, 1, 96, SSRC);
-    let row = b"\xa0\x60\x00\x01\x00\x00\x00\x00\x11\x11\x11\x11\xaa\xbb\x00\x02";
-    assert_eq!(rt; padded.as_slice(), row.as_slice());
-
-    let content = with_extension()?;
-    assert_eq!(rt; content.payload.len(), 1);
-    let whole = write_media(&content, 3, 1, 96, SSRC);
-    let row =
-        b"\xb1\xe0\x00\x01\x00\x00\x00\x64\x11\x11\x11\x11\x00\x00\x00\x07\xbe\xef\x00\x01\x00\x00\x00\x01\xaa\x00\x00\x03";
-    assert_eq!(rt; whole.as_slice(), row.as_slice());
+    for (content, padding, row) in [
+        (
+            plain(b"\xaa", true, 100)?,
+            0,
+            b"\x80\xe0\x00\x01\x00\x00\x00\x64\x11\x11\x11\x11\xaa".as_slice(),
+        ),
+        (
+            plain(b"\xaa\xbb", false, 0)?,
+            2,
+            b"\xa0\x60\x00\x01\x00\x00\x00\x00\x11\x11\x11\x11\xaa\xbb\x00\x02",
+        ),
+        (
+            with_extension()?,
+            3,
+            b"\xb1\xe0\x00\x01\x00\x00\x00\x64\x11\x11\x11\x11\x00\x00\x00\x07\xbe\xef\x00\x01\x00\x00\x00\x01\xaa\x00\x00\x03",
+        ),
+    ] {
+        assert_eq!(rt; written(&content, padding).as_slice(), row);
+    }
     Ok(())
 }
 
 #[test]
 fn the_largest_packet_is_read_back(rt: HostRuntime) -> Result<(), Fail> {
-    let content = largest()?;
+    let content = largest(false)?;
     assert_eq!(rt; content.payload.len(), 1200);
     let octets = write_media(&content, 255, 65535, 127, 0xffffffff);
     assert_eq!(rt; octets.len(), 1595);
     let view = RtpView::read(octets.as_slice())?;
-    assert_eq!(rt; view.padding(), 255);
-    assert_eq!(rt; view.sequence(), 65535);
-    assert_eq!(rt; view.payload_type(), 127);
-    assert_eq!(rt; view.ssrc(), 0xffffffff);
+    let numbers = (
+        view.padding(),
+        view.sequence(),
+        view.payload_type(),
+        view.ssrc(),
+    );
+    assert_eq!(rt; numbers, (255, 65535, 127, 0xffffffff));
     let read = Content::of_view(&view)?;
-    assert!(rt; read == content);
-    assert!(rt; content.copy() == read);
-    spelling_is_determined();
-    content_is_determined();
+    assert!(rt; read == content && content.copy() == read);
     content_is_bounded(&read);
     Ok(())
+}
+
+/// The laws, which run nothing.
+#[test]
+fn the_laws_of_packets() {
+    spelling_is_determined();
+    content_is_determined();
+}
+
+/// How long the payload of a packet is, and the refusal number of its content, or 0 where it has one.
+fn content_of(octets: &[u8]) -> Result<(usize, u8), Fail> {
+    let view = RtpView::read(octets)?;
+    let refusal = match Content::of_view(&view) {
+        Ok(_) => 0,
+        Err(fault) => fault.number(),
+    };
+    Ok((view.payload().len(), refusal))
 }
 
 #[test]
 fn what_no_content_holds(rt: HostRuntime) -> Result<(), Fail> {
     let long = after_header(0x80, &[0; 1201]);
-    let view = RtpView::read(long.as_slice())?;
-    assert_eq!(rt; view.payload().len(), 1201);
-    assert_eq!(rt;
-        Content::of_view(&view)
-            .map_err(|fault| fault.number())
-            .err(),
-        Some(37)
-    );
-
+    assert_eq!(rt; content_of(long.as_slice())?, (1201, 37));
     let mut words = [0; 72];
     words[3] = 17;
     let many = after_header(0x90, &words);
-    let view = RtpView::read(many.as_slice())?;
-    assert_eq!(rt; view.payload().len(), 0);
-    assert_eq!(rt;
-        Content::of_view(&view)
-            .map_err(|fault| fault.number())
-            .err(),
-        Some(37)
-    );
+    assert_eq!(rt; content_of(many.as_slice())?, (0, 37));
     Ok(())
 }
 
+/// The refusal number of a session, or 0 where there is one.
+fn refusal_of_session(
+    (media_ssrc, media_type): (u32, u8),
+    (repair_ssrc, repair_type): (u32, u8),
+    receiver: u32,
+) -> u8 {
+    match Session::new(media_ssrc, media_type, repair_ssrc, repair_type, receiver) {
+        Ok(_) => 0,
+        Err(fault) => fault.number(),
+    }
+}
+
 #[test]
-fn sessions(rt: HostRuntime) -> Result<(), Fail> {
-    for (media, repair) in [(96, 96), (95, 97), (96, 128)] {
-        let refused = Session::new(1, media, 2, repair, 3).map_err(|fault| fault.number());
-        assert_eq!(rt; refused.err(), Some(51));
+fn sessions_that_are_refused(rt: HostRuntime) {
+    for (media, repair, receiver, refusal) in [
+        ((1, 96), (2, 96), 3, 51),
+        ((1, 95), (2, 97), 3, 51),
+        ((1, 96), (2, 128), 3, 51),
+        // The types come first.
+        ((1, 96), (1, 96), 3, 51),
+        ((1, 96), (1, 97), 2, 52),
+        ((1, 96), (2, 97), 1, 52),
+        ((1, 96), (2, 97), 2, 52),
+    ] {
+        assert_eq!(rt; refusal_of_session(media, repair, receiver), refusal);
     }
-    // The types come first.
-    let refused = Session::new(1, 96, 1, 96, 3).map_err(|fault| fault.number());
-    assert_eq!(rt; refused.err(), Some(51));
-    for (media, repair, receiver) in [(1, 1, 2), (1, 2, 1), (1, 2, 2)] {
-        let refused = Session::new(media, 96, repair, 97, receiver).map_err(|fault| fault.number());
-        assert_eq!(rt; refused.err(), Some(52));
-    }
+}
+
+#[test]
+fn a_session(rt: HostRuntime) -> Result<(), Fail> {
     let session = Session::new(1, 96, 2, 97, 3)?;
-    assert_eq!(rt; (session.media_ssrc(), session.media_type()), (1, 96));
-    assert_eq!(rt; (session.repair_ssrc(), session.repair_type()), (2, 97));
-    assert_eq!(rt; session.receiver_ssrc(), 3);
+    let media = (session.media_ssrc(), session.media_type());
+    let repair = (session.repair_ssrc(), session.repair_type());
+    assert_eq!(rt;
+        (media, repair, session.receiver_ssrc()),
+        ((1, 96), (2, 97), 3)
+    );
     Ok(())
 }

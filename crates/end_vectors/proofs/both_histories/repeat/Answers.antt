@@ -1,5 +1,5 @@
 use Rattle.std.proofs.Common.{sym, ◌∙◌}
-use Rattle.vectors.proofs.both_histories.repeat.Goals as goal
+use Rattle.end_vectors.proofs.both_histories.repeat.Goals as goal
 
 pub invariant_of-sending : goal.invariant_of-sending
 invariant_of-sending g c =

@@ -2,54 +2,48 @@
 ghost use Rattle.std.specs.Prelude.{◌≡◌, ◌<◌, ◌≤◌, None};
 
 use receiver::*;
-use rtpwire::Session;
+use rtpwire::{Content, RtpView, Session};
 use std::alloc::Global;
 use std::test::Fail;
 use stores::{ListWindow, RingWindow, Window};
 
 /// One call, and what it answers.
-#[derive(Drop)]
-pub(crate) enum Row {
+#[derive(Clone, Copy)]
+pub(crate) enum Row<'a> {
     /// A datagram at a moment: the place and the overrun, or the refusal number.
-    Hear(&'static [u8], u64, Result<(u64, u64), u8>),
+    Hear(&'a [u8], u64, Result<(u64, u64), u8>),
     /// An ask at a moment: the octets of its datagram, or no octets where there is none.
-    Ask(u64, &'static [u8]),
-    /// A play at a moment: the place, and the payload of what is played, or none where it is given up.
-    Play(u64, u64, Option<&'static [u8]>),
+    Ask(u64, &'a [u8]),
+    /// A play at a moment: the place, and a packet that carries what is played.
+    Play(u64, u64, &'a [u8]),
+    /// A play at a moment that gives up this place.
+    Gap(u64, u64),
     /// A play at a moment that waits.
     Wait(u64),
     /// How many places are missing.
     Missing(usize),
+    /// The next place to play, once there is one.
+    Cursor(Option<u64>),
     /// The SSRC of the retransmissions, if it is known.
     Source(Option<u32>),
 }
 
 /// A datagram at the receiver: the place and the overrun, or the refusal number.
-pub(crate) fn heard<W: Window>(
-    receiver: &mut Receiver<W>,
-    octets: &[u8],
-    now: u64,
-) -> Result<(u64, u64), u8> {
+fn heard<W: Window>(receiver: &mut Receiver<W>, octets: &[u8], now: u64) -> Result<(u64, u64), u8> {
     match receiver.on_media(octets, now) {
         Ok(taken) => Ok((taken.place.value(), taken.overrun)),
         Err(fault) => Err(fault.number()),
     }
 }
 
-/// Whether a play gives this place, with this payload, or gives it up where there is none.
-fn plays<W: Window>(
-    receiver: &mut Receiver<W>,
-    now: u64,
-    place: u64,
-    payload: &Option<&[u8]>,
-) -> bool {
-    match receiver.play(now) {
-        Played::Packet(at, content) => {
-            at.value() == place
-                && payload.is_some_and(|octets| content.payload.as_slice() == octets)
-        }
-        Played::Gap(at) => at.value() == place && payload.is_none(),
-        Played::Wait => false,
+/// Whether what is played is the content of this packet, at this place.
+fn is_of_packet(played: &Played, place: u64, octets: &[u8]) -> bool {
+    let Ok(view) = RtpView::read(octets) else {
+        return false;
+    };
+    match (played, Content::of_view(&view)) {
+        (Played::Packet(at, content), Ok(sent)) => at.value() == place && *content == sent,
+        _ => false,
     }
 }
 
@@ -62,24 +56,29 @@ fn asks<W: Window>(receiver: &mut Receiver<W>, now: u64, octets: &[u8]) -> bool 
 }
 
 /// Whether the receiver answers the call so.
-fn meets<W: Window>(receiver: &mut Receiver<W>, row: &Row) -> bool {
+fn meets<W: Window>(receiver: &mut Receiver<W>, row: Row<'_>) -> bool {
     match row {
-        Row::Hear(octets, now, answer) => heard(receiver, octets, *now) == *answer,
-        Row::Ask(now, octets) => asks(receiver, *now, octets),
-        Row::Play(now, place, payload) => plays(receiver, *now, *place, payload),
-        Row::Wait(now) => receiver.play(*now) == Played::Wait,
-        Row::Missing(count) => receiver.missing() == *count,
-        Row::Source(ssrc) => receiver.repair_source() == *ssrc,
+        Row::Hear(octets, now, answer) => heard(receiver, octets, now) == answer,
+        Row::Ask(now, octets) => asks(receiver, now, octets),
+        Row::Play(now, place, octets) => is_of_packet(&receiver.play(now), place, octets),
+        Row::Gap(now, place) => match receiver.play(now) {
+            Played::Gap(at) => at.value() == place,
+            _ => false,
+        },
+        Row::Wait(now) => receiver.play(now) == Played::Wait,
+        Row::Missing(count) => receiver.missing() == count,
+        Row::Cursor(place) => receiver.window().cursor() == place,
+        Row::Source(ssrc) => receiver.repair_source() == ssrc,
     }
 }
 
 /// The index of the first row that a new receiver does not meet.
-fn miss<W: Window>(window: W, config: ReceiverConfig, rows: &[Row]) -> Option<usize>
+fn miss<W: Window>(window: W, config: ReceiverConfig, rows: &[Row<'_>]) -> Option<usize>
     requires { (W.meaning window).cursor ≡ None }
 {
     let mut receiver = Receiver::new(config, window);
     for (index, row) in rows.iter().enumerate() {
-        if !meets(&mut receiver, row) {
+        if !meets(&mut receiver, *row) {
             return Some(index);
         }
     }
@@ -91,7 +90,7 @@ pub(crate) fn first_miss(
     alloc: Global,
     room: usize,
     config: ReceiverConfig,
-    rows: &[Row],
+    rows: &[Row<'_>],
 ) -> Result<Option<usize>, Fail>
     requires nonzero { 0 < room }
     requires limit { room ≤ 8192 }

@@ -1,10 +1,10 @@
 //! Retransmissions at a receiver, and how it learns their SSRC.
 ghost use Rattle.std.specs.Prelude.{◌≡◌, None};
 
-use crate::receiver_rows::{FIRST, Row, SECOND_IS_LOST, THIRD, config, first_miss, heard};
+use crate::receiver_rows::{FIRST, Row, SECOND, SECOND_IS_LOST, THIRD, config, first_miss};
 use places::Place;
 use receiver::*;
-use rtpwire::{Content, RtpView, Session};
+use rtpwire::{Content, Datagram, RtpView, Session};
 use std::test::Fail;
 use stores::{ListWindow, Window};
 
@@ -22,15 +22,16 @@ fn a_loss_across_the_wrap(rt: HostRuntime) -> Result<(), Fail> {
     let before = b"\x80\xe0\xff\xff\x00\x00\x00\x64\x11\x11\x11\x11\xaa";
     let after = b"\x80\x60\x00\x01\x00\x00\x01\x2c\x11\x11\x11\x11\xcc";
     let lost = b"\x81\xcd\x00\x03\x33\x33\x33\x33\x11\x11\x11\x11\x00\x00\x00\x00";
+    let second = b"\x80\x60\x00\x00\x00\x00\x00\xc8\x11\x11\x11\x11\xbb";
     let again = b"\x80\x61\x00\x05\x00\x00\x00\xc8\x22\x22\x22\x22\x00\x00\xbb";
     let rows = [
         Row::Hear(before, 0, Ok((131071, 0))),
         Row::Hear(after, 5, Ok((131073, 0))),
         Row::Ask(5, lost),
         Row::Hear(again, 7, Ok((131072, 0))),
-        Row::Play(7, 131071, Some(b"\xaa")),
-        Row::Play(7, 131072, Some(b"\xbb")),
-        Row::Play(7, 131073, Some(b"\xcc")),
+        Row::Play(7, 131071, before),
+        Row::Play(7, 131072, second),
+        Row::Play(7, 131073, after),
         Row::Wait(7),
     ];
     assert_eq!(rt; first_miss(rt.alloc(), 8, config(3)?, &rows)?, None);
@@ -67,7 +68,7 @@ fn refused_retransmissions(rt: HostRuntime) -> Result<(), Fail> {
         Row::Wait(0),
         Row::Hear(FIRST, 0, Ok((65537, 0))),
         Row::Hear(FIRST_AGAIN, 0, Err(36)),
-        Row::Play(0, 65537, Some(b"\xaa")),
+        Row::Play(0, 65537, FIRST),
         Row::Hear(FIRST_AGAIN, 0, Err(35)),
         // The original is 16384 ahead, whatever the retransmission's own number is.
         Row::Hear(
@@ -87,10 +88,10 @@ fn a_late_retransmission(rt: HostRuntime) -> Result<(), Fail> {
         Row::Hear(FIRST, 0, Ok((65537, 0))),
         Row::Hear(THIRD, 5, Ok((65539, 0))),
         Row::Ask(5, SECOND_IS_LOST),
-        Row::Play(5, 65537, Some(b"\xaa")),
-        Row::Play(105, 65538, None),
+        Row::Play(5, 65537, FIRST),
+        Row::Gap(105, 65538),
         Row::Hear(SECOND_AGAIN, 106, Err(35)),
-        Row::Play(106, 65539, Some(b"\xcc")),
+        Row::Play(106, 65539, THIRD),
     ];
     assert_eq!(rt; first_miss(rt.alloc(), 8, config(3)?, &rows)?, None);
     Ok(())
@@ -104,8 +105,8 @@ fn a_padded_retransmission(rt: HostRuntime) -> Result<(), Fail> {
         Row::Hear(THIRD, 0, Ok((65539, 0))),
         // It was never asked for.
         Row::Hear(padded, 0, Ok((65538, 0))),
-        Row::Play(0, 65537, Some(b"\xaa")),
-        Row::Play(0, 65538, Some(b"\xbb")),
+        Row::Play(0, 65537, FIRST),
+        Row::Play(0, 65538, SECOND),
     ];
     assert_eq!(rt; first_miss(rt.alloc(), 8, config(3)?, &rows)?, None);
     Ok(())
@@ -183,8 +184,8 @@ fn the_source_is_learnt(rt: HostRuntime) -> Result<(), Fail> {
         Row::Hear(SECOND_FROM_ANOTHER, 6, Err(31)),
         // Once it is learnt, the order of checks is that of any receiver.
         Row::Hear(SECOND_AGAIN, 6, Err(36)),
-        Row::Play(6, 65537, Some(b"\xaa")),
-        Row::Play(6, 65538, Some(b"\xbb")),
+        Row::Play(6, 65537, FIRST),
+        Row::Play(6, 65538, SECOND),
         Row::Hear(SECOND_AGAIN, 6, Err(35)),
     ];
     assert_eq!(rt; first_miss(rt.alloc(), 8, learning()?, &rows)?, None);
@@ -211,7 +212,7 @@ fn what_is_not_learnt_from(rt: HostRuntime) -> Result<(), Fail> {
             Err(34),
         ),
         Row::Hear(FIRST_AGAIN, 0, Err(38)),
-        Row::Play(0, 65537, Some(b"\xaa")),
+        Row::Play(0, 65537, FIRST),
         Row::Hear(FIRST_AGAIN, 0, Err(38)),
         Row::Hear(
             b"\x80\x61\x00\x01\x00\x00\x00\x00\x55\x55\x55\x55\x00\x04\xaa",
@@ -229,30 +230,31 @@ fn what_is_not_learnt_from(rt: HostRuntime) -> Result<(), Fail> {
     Ok(())
 }
 
-/// A retransmission of number 2, or 32770, whose original payload is one octet too long.
-fn too_long(is_far: bool) -> [u8; 1215] {
-    let mut octets = [0x22; 1215];
-    octets[0] = 0x80;
-    octets[1] = 0x61;
-    octets[12] = if is_far { 0x80 } else { 0 };
-    octets[13] = 2;
+/// A retransmission of this original number, whose original payload is one octet too long.
+fn too_long(original: u16) -> Datagram {
+    let mut octets = Datagram::new();
+    let _ = octets.try_extend_from_slice(b"\x80\x61\x00\x05\x00\x00\x00\x00\x22\x22\x22\x22");
+    let _ = octets.try_extend_from_slice(&original.to_be_bytes());
+    for _ in 14..1215 {
+        let _ = octets.try_push(0x22);
+    }
     octets
 }
 
 #[test]
 fn a_retransmission_that_is_too_long(rt: HostRuntime) -> Result<(), Fail> {
+    let (missing, far) = (too_long(2), too_long(32770));
+    assert_eq!(rt; (missing.len(), far.len()), (1215, 1215));
     // Before the start; and after it, where its place is missing, and where it has none.
+    let rows = [
+        Row::Hear(&missing, 0, Err(37)),
+        Row::Hear(FIRST, 0, Ok((65537, 0))),
+        Row::Hear(THIRD, 0, Ok((65539, 0))),
+        Row::Hear(&missing, 0, Err(37)),
+        Row::Hear(&far, 0, Err(37)),
+    ];
     for config in [config(3)?, learning()?] {
-        let Ok(window) = ListWindow::new(rt.alloc(), 8) else {
-            return Err(Fail::from("memory is ample"));
-        };
-        let mut receiver = Receiver::new(config, window);
-        assert_eq!(rt; heard(&mut receiver, &too_long(false), 0), Err(37));
-        assert_eq!(rt; heard(&mut receiver, FIRST, 0), Ok((65537, 0)));
-        assert_eq!(rt; heard(&mut receiver, THIRD, 0), Ok((65539, 0)));
-        for is_far in [false, true] {
-            assert_eq!(rt; heard(&mut receiver, &too_long(is_far), 0), Err(37));
-        }
+        assert_eq!(rt; first_miss(rt.alloc(), 8, config, &rows)?, None);
     }
     Ok(())
 }

@@ -131,13 +131,17 @@ fn configurations(rt: HostRuntime) -> Result<(), Fail> {
     assert_eq!(rt; refused.map_err(|fault| fault.number()).err(), Some(53));
     let config = SenderConfig::new(session()?, 65535, 5, 1)?;
     assert_eq!(rt; config.session(), session()?);
-    assert_eq!(rt; config.first(), 65535);
-    assert_eq!(rt; config.repair_first(), 5);
-    assert_eq!(rt; config.repeats(), 1);
+    let numbers = (config.first(), config.repair_first(), config.repeats());
+    assert_eq!(rt; numbers, (65535, 5, 1));
+    Ok(())
+}
+
+/// The laws, which run nothing.
+#[test]
+fn the_laws_of_a_sender() {
     sending_is_determined();
     feedback_is_determined();
     repairing_is_determined();
-    Ok(())
 }
 
 #[test]
@@ -239,69 +243,68 @@ fn the_least_place_first_and_numbers_across_the_wrap(rt: HostRuntime) -> Result<
     Ok(())
 }
 
+/// Datagrams of feedback at a sender of two packets, each with how many it marks or the number of its refusal.
+const FEEDBACK: [(&[u8], Result<u32, u8>); 15] = [
+    (
+        b"\x80\xc9\x00\x01\x33\x33\x33\x33\x81\xcd\x00\x03\x33\x33\x33\x33\x11\x11\x11\x11\x00\x01\x00\x00",
+        Ok(1),
+    ),
+    (
+        b"\x81\xcd\x00\x03\x33\x33\x33\x33\x11\x11\x11\x11\x00\x01\x00\x00\x81\xcd\x00\x03\x33\x33\x33\x33\x11\x11\x11\x11\x00\x02\x00\x00",
+        Ok(2),
+    ),
+    (b"", Err(11)),
+    (
+        b"\x81\xcd\x00\x03\x33\x33\x33\x33\x11\x11\x11\x11\x00\x01\x00\x00\x81\x00\x00",
+        Err(11),
+    ),
+    (
+        b"\x81\xcd\x00\x03\x33\x33\x33\x33\x11\x11\x11\x11\x00\x01\x00\x00\x40\xc9\x00\x00",
+        Err(12),
+    ),
+    (
+        b"\xa1\xcd\x00\x03\x33\x33\x33\x33\x11\x11\x11\x11\x00\x01\x00\x00",
+        Err(13),
+    ),
+    (b"\x80\xc9\x00\x01\x33\x33\x33\x33", Err(14)),
+    (b"\x82\xcd\x00\x02\x33\x33\x33\x33\x11\x11\x11\x11", Err(15)),
+    (b"\x80\xc9\x00\x02\x33\x33\x33\x33", Err(16)),
+    (b"\x81\xcd\x00\x02\x33\x33\x33\x33\x11\x11\x11\x11", Err(17)),
+    (
+        b"\x81\xcd\x00\x03\x33\x33\x33\x33\x11\x11\x11\x11\x00\x01\x00\x00\x81\xcd\x00\x03\x33\x33\x33\x33\x44\x44\x44\x44\x00\x02\x00\x00",
+        Err(18),
+    ),
+    (
+        b"\x81\xcd\x00\x03\x44\x44\x44\x44\x11\x11\x11\x11\x00\x01\x00\x00",
+        Err(19),
+    ),
+    // Two faults at once: another source and another reporter, in one NACK and in two.
+    (
+        b"\x81\xcd\x00\x03\x44\x44\x44\x44\x55\x55\x55\x55\x00\x01\x00\x00",
+        Err(18),
+    ),
+    (
+        b"\x81\xcd\x00\x03\x44\x44\x44\x44\x11\x11\x11\x11\x00\x01\x00\x00\x81\xcd\x00\x03\x33\x33\x33\x33\x44\x44\x44\x44\x00\x02\x00\x00",
+        Err(19),
+    ),
+    // Another source, and then a packet of no version 2.
+    (
+        b"\x81\xcd\x00\x03\x33\x33\x33\x33\x44\x44\x44\x44\x00\x01\x00\x00\x40\xc9\x00\x00",
+        Err(12),
+    ),
+];
+
+/// Whether a sender of two packets answers so to feedback, and a refusal marks nothing.
+fn hears(rt: &HostRuntime, octets: &'static [u8], answer: Result<u32, u8>) -> Result<bool, Fail> {
+    let rows = [AA, BB, Row::Hears(octets, answer), Row::RepairsNothing];
+    let repairs = if answer.is_ok() { Some(3) } else { None };
+    Ok(wrong_row(rt, 8, (1, 5, 3), &rows)? == repairs)
+}
+
 #[test]
 fn several_packets_in_a_datagram(rt: HostRuntime) -> Result<(), Fail> {
-    for (octets, answer) in [
-        (
-            b"\x80\xc9\x00\x01\x33\x33\x33\x33\x81\xcd\x00\x03\x33\x33\x33\x33\x11\x11\x11\x11\x00\x01\x00\x00".as_slice(),
-            Ok(1),
-        ),
-        (
-            b"\x81\xcd\x00\x03\x33\x33\x33\x33\x11\x11\x11\x11\x00\x01\x00\x00\x81\xcd\x00\x03\x33\x33\x33\x33\x11\x11\x11\x11\x00\x02\x00\x00".as_slice(),
-            Ok(2),
-        ),
-        (b"".as_slice(), Err(11)),
-        (
-            b"\x81\xcd\x00\x03\x33\x33\x33\x33\x11\x11\x11\x11\x00\x01\x00\x00\x81\x00\x00".as_slice(),
-            Err(11),
-        ),
-        (
-            b"\x81\xcd\x00\x03\x33\x33\x33\x33\x11\x11\x11\x11\x00\x01\x00\x00\x40\xc9\x00\x00".as_slice(),
-            Err(12),
-        ),
-        (
-            b"\xa1\xcd\x00\x03\x33\x33\x33\x33\x11\x11\x11\x11\x00\x01\x00\x00".as_slice(),
-            Err(13),
-        ),
-        (b"\x80\xc9\x00\x01\x33\x33\x33\x33".as_slice(), Err(14)),
-        (
-            b"\x82\xcd\x00\x02\x33\x33\x33\x33\x11\x11\x11\x11".as_slice(),
-            Err(15),
-        ),
-        (b"\x80\xc9\x00\x02\x33\x33\x33\x33".as_slice(), Err(16)),
-        (
-            b"\x81\xcd\x00\x02\x33\x33\x33\x33\x11\x11\x11\x11".as_slice(),
-            Err(17),
-        ),
-        (
-            b"\x81\xcd\x00\x03\x33\x33\x33\x33\x11\x11\x11\x11\x00\x01\x00\x00\x81\xcd\x00\x03\x33\x33\x33\x33\x44\x44\x44\x44\x00\x02\x00\x00".as_slice(),
-            Err(18),
-        ),
-        (
-            b"\x81\xcd\x00\x03\x44\x44\x44\x44\x11\x11\x11\x11\x00\x01\x00\x00".as_slice(),
-            Err(19),
-        ),
-        // Two faults at once: another source and another reporter, in one NACK and in two.
-        (
-            b"\x81\xcd\x00\x03\x44\x44\x44\x44\x55\x55\x55\x55\x00\x01\x00\x00".as_slice(),
-            Err(18),
-        ),
-        (
-            b"\x81\xcd\x00\x03\x44\x44\x44\x44\x11\x11\x11\x11\x00\x01\x00\x00\x81\xcd\x00\x03\x33\x33\x33\x33\x44\x44\x44\x44\x00\x02\x00\x00".as_slice(),
-            Err(19),
-        ),
-        // Another source, and then a packet of no version 2.
-        (
-            b"\x81\xcd\x00\x03\x33\x33\x33\x33\x44\x44\x44\x44\x00\x01\x00\x00\x40\xc9\x00\x00".as_slice(),
-            Err(12),
-        ),
-    ] {
-        let rows = [AA, BB, Row::Hears(octets, answer)];
-        assert_eq!(rt; wrong_row(&rt, 8, (1, 5, 3), &rows)?, None, "{octets:?}");
-        // A refusal marks nothing.
-        let after = [AA, BB, Row::Hears(octets, answer), Row::RepairsNothing];
-        let wanted = if answer.is_ok() { Some(3) } else { None };
-        assert_eq!(rt; wrong_row(&rt, 8, (1, 5, 3), &after)?, wanted, "{octets:?}");
+    for (octets, answer) in FEEDBACK {
+        assert!(rt; hears(&rt, octets, answer)?, "{octets:?}");
     }
     Ok(())
 }

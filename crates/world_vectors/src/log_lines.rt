@@ -4,6 +4,7 @@ use places::{Place, PlaceFault};
 use receiver::{Played, ReceiveFault, Taken};
 use rtpwire::{Content, ContentFault, Datagram, Extension, RtpFault};
 use sender::SendFault;
+use std::alloc::Global;
 use std::process::Abort;
 use std::test::Fail;
 use stores::PutFault;
@@ -46,7 +47,7 @@ fn wire() -> Result<[(Label, Datagram); 3], Fail> {
     Ok([
         (Label::Media(place(65546)?), octets(packet)?),
         (Label::Media(place(0)?), octets(b"")?),
-        (Label::Media(place(LAST)?), octets(&[0xff; 1600])?),
+        (Label::Media(place(LAST)?), full(0xff)),
     ])
 }
 
@@ -211,22 +212,46 @@ fn repeat(text: &mut Vec<u8>, part: &[u8], count: u32) -> Result<(), Fail> {
     Ok(())
 }
 
+/// An array that this item fills.
+fn full<T: Copy + Default, const N: usize>(item: T) -> ArrayVec<T, N> {
+    let mut items = ArrayVec::new();
+    for _ in 0..N {
+        let _ = items.try_push(item);
+    }
+    items
+}
+
 #[test]
-fn the_longest_lines(rt: HostRuntime) -> Result<(), Fail> {
+fn the_longest_line_of_a_send(rt: HostRuntime) -> Result<(), Fail> {
     let mut want = b"sent 65546 2 ".to_vec(rt.alloc())?;
     repeat(&mut want, b"ff", 1600)?;
     want.extend_from_slice(b"\n")?;
-    has_line(&rt, &sent(65546, 2)?, &want)?;
+    has_line(&rt, &sent(65546, 2)?, &want)
+}
 
-    let mut content = plain(&[0xa5; 1200])?;
-    content.sources = words(&[0x01020304; 15])?;
-    content.extension = extension(65535, &[0xabcdef00; 16])?;
-    let mut want = b"play 65537 0 0 ".to_vec(rt.alloc())?;
+/// The line of the play of the largest content.
+fn longest_line(alloc: Global) -> Result<Vec<u8>, Fail> {
+    let mut want = b"play 65537 0 0 ".to_vec(alloc)?;
     repeat(&mut want, b"a5", 1200)?;
     want.extend_from_slice(b" ")?;
     repeat(&mut want, b"01020304", 15)?;
     want.extend_from_slice(b" ffff")?;
     repeat(&mut want, b"abcdef00", 16)?;
     want.extend_from_slice(b"\n")?;
-    has_line(&rt, &played(65537, content)?, &want)
+    Ok(want)
+}
+
+#[test]
+fn the_longest_line_of_a_play(rt: HostRuntime) -> Result<(), Fail> {
+    let content = Content {
+        payload: full(0xa5),
+        timestamp: 0,
+        marker: false,
+        sources: full(0x01020304),
+        extension: Some(Extension {
+            profile: 65535,
+            words: full(0xabcdef00),
+        }),
+    };
+    has_line(&rt, &played(65537, content)?, &longest_line(rt.alloc())?)
 }

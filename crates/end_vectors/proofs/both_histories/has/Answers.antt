@@ -3,7 +3,7 @@ use Rattle.std.proofs.lemmas.Bool.{eqb-true}
 use Rattle.std.proofs.lemmas.Option.{MatchOption-at_some}
 use Rattle.places.specs.Place.{number}
 use Rattle.stores.specs.Past.{entry_at}
-use Rattle.vectors.proofs.both_histories.has.Goals as goal
+use Rattle.end_vectors.proofs.both_histories.has.Goals as goal
 
 pub returns-in-Some : goal.returns-in-Some
 returns-in-Some g c = λ same.

@@ -2,7 +2,7 @@ use Rattle.std.proofs.Common.{◌≡◌, rules, sym, ◌∙◌, arith}
 use Rattle.std.specs.Option.{ForSome}
 use Rattle.std.proofs.lemmas.Option.{same_Some}
 use Rattle.stores.specs.Past.{next_of}
-use Rattle.vectors.proofs.both_histories.push.Goals as goal
+use Rattle.end_vectors.proofs.both_histories.push.Goals as goal
 
 pub invariant_of-sending : goal.invariant_of-sending
 invariant_of-sending g c =

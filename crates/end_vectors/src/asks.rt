@@ -15,13 +15,13 @@ fn a_lost_packet_is_asked_for(rt: HostRuntime) -> Result<(), Fail> {
         Row::Hear(THIRD, 5, Ok((65539, 0))),
         Row::Missing(1),
         Row::Ask(5, SECOND_IS_LOST),
-        Row::Play(5, 65537, Some(b"\xaa")),
+        Row::Play(5, 65537, FIRST),
         Row::Wait(104),
-        Row::Play(105, 65538, None),
+        Row::Gap(105, 65538),
         Row::Missing(0),
         Row::Ask(105, b""),
         Row::Hear(SECOND, 106, Err(35)),
-        Row::Play(106, 65539, Some(b"\xcc")),
+        Row::Play(106, 65539, THIRD),
     ];
     assert_eq!(rt; first_miss(rt.alloc(), 8, config(3)?, &rows)?, None);
     Ok(())
