@@ -164,7 +164,7 @@ module _ (slots : List Slot) (room : ℕ) (c : Config) (now : ℕ) (learnt : Opt
         each = lists_same _ _ _ (λ q. same_due now c.retry c.asks (slot_at (at (Some k)) q)) lists;
         answers = (
           λ none. some (ap (take 1088) none),
-          record { pairs = pairs; count = count; narrow = narrow; packing = packs; spells = spells; asks = asks_at learnt k slots room new _ now counts },
+          record { pairs = pairs; asked = record { count = count; narrow = narrow; packing = packs; asks = asks_at learnt k slots room new _ now counts }; spells = spells },
         );
       }
 

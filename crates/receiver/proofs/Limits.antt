@@ -35,7 +35,7 @@ keeps_at c now old due count (Some new) each asks keeps =
 pub asks_keep : (c : Config) (now : ℕ) (old : Option Window) (answer : Option (ArrayVec ℕ)) (new : Option Window) → AsksAny c old now answer new → KeepsLimit c.asks old → KeepsLimit c.asks new
 asks_keep c now None answer new (none, is) keeps = subst (λ (s : Option Window). KeepsLimit c.asks s) (sym is) keeps
 asks_keep c now (Some old) None new a keeps = subst (λ (s : Option Window). KeepsLimit c.asks s) (sym a.answers.1) keeps
-asks_keep c now (Some old) (Some datagram) new a keeps = keeps_at c now old a.due a.answers.1.count new a.each.each a.answers.1.asks keeps
+asks_keep c now (Some old) (Some datagram) new a keeps = keeps_at c now old a.due a.answers.1.asked.count new a.each.each a.answers.1.asked.asks keeps
 
 -- one place keeps the limit: it isn't missing, or is as it was, or was only noticed
 abbrev Within : (limit : ℕ) → Option Missed → Type 0

@@ -22,12 +22,14 @@ OnePacking = (places : List ℕ) (a b : List Pair) (m n : ℕ) → IsStrictlyInc
 module _ (one_packing : OnePacking) (c : Config) (now : ℕ) (v w : Option Window) where
   one_ask_for : (old : Window) (due : List ℕ) (x y : ArrayVec ℕ) → IsStrictlyIncreasing due → AsksFor c old due now x v → AsksFor c old due now y w → Same x y v w
   one_ask_for old due x y rising a b =
-      let packing = one_packing (take 1088 due) a.pairs b.pairs a.count b.count (rising_take 1088 due rising) a.narrow a.packing b.packing in
+      let v_asked = a.asked in
+      let w_asked = b.asked in
+      let packing = one_packing (take 1088 due) a.pairs b.pairs v_asked.count w_asked.count (rising_take 1088 due rising) v_asked.narrow v_asked.packing w_asked.packing in
       let nack : List Pair → Nack = λ pairs. record { reporter = c.session.receiver_ssrc; media = c.session.media_ssrc; pairs = pairs } in
       let octets : x.items ≡ y.items = a.spells.spelled ∙ ap (λ pairs. nack_octets (nack pairs)) packing.0 ∙ sym b.spells.spelled in (
         λ i. record { items = octets i },
-        one_such (Asks old (take a.count (take 1088 due)) now) (one_asks old (take a.count (take 1088 due)) now) v w a.asks
-            (subst (λ n. IsSomeAnd w (Asks old (take n (take 1088 due)) now)) (sym packing.1) b.asks),
+        one_such (Asks old (take v_asked.count (take 1088 due)) now) (one_asks old (take v_asked.count (take 1088 due)) now) v w v_asked.asks
+            (subst (λ n. IsSomeAnd w (Asks old (take n (take 1088 due)) now)) (sym packing.1) w_asked.asks),
       )
 
   one_answer : (old : Window) (due : List ℕ) (r s : Option (ArrayVec ℕ)) → IsStrictlyIncreasing due → AnswersAsk c old due now r v → AnswersAsk c old due now s w → Same r s v w

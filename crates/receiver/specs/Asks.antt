@@ -37,17 +37,20 @@ pub record Asks (old : Window) (covered : List ℕ) (now : ℕ) (new : Window) :
   pub missing : (k : ℕ) → new.missing k ≡ (if is_among covered k then option_map (asked_once now) (old.missing k) else old.missing k)
   pub learnt : new.learnt ≡ old.learnt
 
--- An ask for due places. The first 1088 of them, or all, are packed into as few pairs as name them, 64 at
--- most; the datagram is the NACK of the pairs, from the receiver to the media source. A due place that the
--- pairs do not cover stays due.
-pub record AsksFor (c : Config) (old : Window) (due : List ℕ) (now : ℕ) (datagram : ArrayVec ℕ) (new : Option Window) : Type 0 where
-  pub pairs : List Pair
+-- An ask for due places by pairs. The first 1088 of them, or all, are packed into as few pairs as name them, 64
+-- at most. A due place that the pairs do not cover stays due.
+pub record AsksBy (old : Window) (due : List ℕ) (now : ℕ) (pairs : List Pair) (new : Option Window) : Type 0 where
   pub count : ℕ
   -- the places lie within one window, so no two of them have one sequence number
   pub narrow : IsNarrow (take 1088 due)
   pub packing : IsPacking (take 1088 due) pairs count
-  pub spells : NackSpells (record { reporter = c.session.receiver_ssrc; media = c.session.media_ssrc; pairs = pairs }) datagram.items
   pub asks : IsSomeAnd new (Asks old (take count (take 1088 due)) now)
+
+-- An ask as a datagram: the NACK of the pairs, from the receiver to the media source.
+pub record AsksFor (c : Config) (old : Window) (due : List ℕ) (now : ℕ) (datagram : ArrayVec ℕ) (new : Option Window) : Type 0 where
+  pub pairs : List Pair
+  pub asked : AsksBy old due now pairs new
+  pub spells : NackSpells (record { reporter = c.session.receiver_ssrc; media = c.session.media_ssrc; pairs = pairs }) datagram.items
 
 -- where no place is due there is no ask, and nothing changes
 abbrev pub AnswersAsk : Config → Window → (due : List ℕ) → (now : ℕ) → Option (ArrayVec ℕ) → Option Window → Type 0

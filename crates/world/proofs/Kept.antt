@@ -1,10 +1,12 @@
 -- What the receiver's window keeps of the log, in the place world.
-use Rattle.std.proofs.Common.{◌≡◌, ◌⊎◌, ℕ, ◌+◌, ◌-◌, ◌*◌, ◌/◌, ◌<◌, ◌≤◌, List, Option, Some, None, sym, ap, subst, ◌∙◌, ⊎_elim, inl, inr, arith}
+use Rattle.std.proofs.Common.{◌≡◌, ◌⊎◌, ℕ, ◌+◌, ◌-◌, ◌*◌, ◌/◌, ◌<◌, ◌≤◌, Bool, true, false, List, Option, Some, None, if◌then◌else◌, refl, sym, ap, subst, ◌∙◌, ⊎_elim, inl, inr, arith}
+use Rattle.std.specs.Option.{option_map}
 use Rattle.std.proofs.lemmas.Bool.{cases_eq}
 use Rattle.std.proofs.lemmas.Option.{none-some, same_Some}
 use Rattle.places.specs.Place.{number}
 use Rattle.rtpwire.specs.declared.content.Content.{Content}
 use Rattle.receiver.specs.Window.{Missed, Window, cursor_after, Starts, Takes, Passes}
+use Rattle.receiver.specs.Asks.{is_among, asked_once, Asks}
 use Rattle.world.specs.declared.event.Entry.{Entry}
 use Rattle.world.specs.Config.{Config}
 use Rattle.world.specs.Reading.{WasSent, cursor_of, cursor_from, cursor_next}
@@ -158,6 +160,50 @@ module _ (shift : ℕ) (cursor_at highest_at : Option ℕ) (Was : ℕ → Conten
         unnoticed = λ k h. grind (arith, t.highest, kept.unnoticed k);
         seen = λ k h e. grind (arith, t.highest, kept.seen k);
       }
+
+  -- What was learnt says nothing of places.
+  pub learns : (old : Window) (learnt : Option ℕ) → Kept shift cursor_at highest_at Was Reached noticed_at old → Kept shift cursor_at highest_at Was Reached noticed_at (record old { learnt = learnt })
+  learns old learnt kept =
+      record {
+        cycles = kept.cycles;
+        whole = kept.whole;
+        started = kept.started;
+        cursor = kept.cursor;
+        highest = kept.highest;
+        top = kept.top;
+        sent = kept.sent;
+        came = kept.came;
+        reached = kept.reached;
+        noticed = kept.noticed;
+        unnoticed = kept.unnoticed;
+        seen = kept.seen;
+      }
+
+  -- Missing places are asked for.
+  pub asks : (old new : Window) (covered : List ℕ) (now : ℕ) → Kept shift cursor_at highest_at Was Reached noticed_at old → Asks old covered now new → Kept shift cursor_at highest_at Was Reached noticed_at new
+  asks old new covered now kept t =
+      record {
+        cycles = kept.cycles;
+        whole = kept.whole;
+        started = omega (arith, kept.started, t.highest);
+        cursor = kept.cursor ∙ ap (λ k. Some k) (sym t.cursor);
+        highest = kept.highest ∙ ap (λ k. Some (k + shift)) (sym t.highest);
+        top = λ h e. kept.top (omega (arith, t.cursor, t.highest, h)) (sym (t.held old.highest) ∙ ap new.held (sym t.highest) ∙ e);
+        sent = λ k c h. kept.sent k c (sym (t.held k) ∙ h);
+        came = λ k c h. kept.came k c (sym (t.held k) ∙ h);
+        reached = λ k h r e. kept.reached k (omega (arith, t.cursor, h)) r (sym (t.held k) ∙ e);
+        noticed = λ k h e. noticed_after k ∙ kept.noticed k (omega (arith, t.cursor, h)) (sym (t.held k) ∙ e);
+        unnoticed = λ k h. kept.unnoticed k (omega (arith, t.highest, h));
+        seen = λ k h e. kept.seen k (omega (arith, t.highest, h)) e;
+      }
+    where
+      same_noticed : (b : Bool) (m : Option Missed) → noticed_in (if b then option_map (asked_once now) m else m) ≡ noticed_in m
+      same_noticed true None = refl
+      same_noticed true (Some m) = refl
+      same_noticed false m = refl
+
+      noticed_after : (k : ℕ) → noticed_in (new.missing k) ≡ noticed_in (old.missing k)
+      noticed_after k = ap noticed_in (t.missing k) ∙ same_noticed (is_among covered k) (old.missing k)
 
   -- More was sent.
   pub sends : (w : Window) (More : ℕ → Content → Type 0) → ((k : ℕ) (c : Content) → Was k c → More k c) → Kept shift cursor_at highest_at Was Reached noticed_at w → Kept shift cursor_at highest_at More Reached noticed_at w

@@ -9,3 +9,6 @@ pub mod Headline
 pub mod Strictly
 pub mod SameSteps
 pub mod Determined
+mod Marked
+mod Repeats
+mod Learnt

@@ -1,6 +1,9 @@
 -- Every log is rising and final, whatever was injected.
-use Rattle.std.proofs.Common.{◌≡◌, ℕ, ◌+◌, ◌-◌, ◌<◌, List, [], ◌∷◌, Option, Some, None, Result, Ok, Err, refl, sym, ap, subst, ◌∙◌, ⊎_elim, inl, inr, arith}
+use Rattle.std.proofs.Common.{◌≡◌, ℕ, ◌+◌, ◌-◌, ◌<◌, List, [], ◌∷◌, take, Option, Some, None, IsSomeAnd, Result, Ok, Err, refl, sym, ap, subst, ◌∙◌, ⊎_elim, inl, inr, arith}
+use Rattle.arrayvec.specs.ArrayVec.{ArrayVec}
 use Rattle.rtpwire.specs.declared.content.Content.{Content}
+use Rattle.fbwire.specs.declared.fault.FeedbackFault.{FeedbackFault}
+use Rattle.sender.specs.declared.answer.Marked.{Marked as Marking}
 use Rattle.receiver.specs.declared.answer.Taken.{Taken as Took}
 use Rattle.receiver.specs.declared.answer.Played.{Played as Play_answer}
 use Rattle.receiver.specs.declared.answer.Played.TheVariants.{Packet, Gap, Wait}
@@ -10,18 +13,19 @@ use Rattle.receiver.specs.Window.{Window, cursor_after, AnswersPlace, StartsAt, 
 use Rattle.receiver.specs.declared.stream.Stream.{Stream}
 use Rattle.receiver.specs.declared.stream.Stream.TheVariants.{Media, Repair, Candidate}
 use Rattle.receiver.specs.Heard.{AnswersIn, TakesNumber, Hears, TakesOrRefuses}
+use Rattle.receiver.specs.Asks.{Asks, AsksAny, AnswersAsk}
 use Rattle.world.specs.declared.event.Event.{Event}
-use Rattle.world.specs.declared.event.Event.TheVariants.{Send, Deliver, Play, Inject}
+use Rattle.world.specs.declared.event.Event.TheVariants.{Send, Repair as Retransmit, Ask, Deliver, Play, Inject}
 use Rattle.world.specs.declared.event.End.{End}
-use Rattle.world.specs.declared.event.End.TheVariants.{Receiver}
+use Rattle.world.specs.declared.event.End.TheVariants.{Sender, Receiver}
 use Rattle.world.specs.declared.event.Label.{Label}
 use Rattle.world.specs.declared.event.Answer.{Answer}
-use Rattle.world.specs.declared.event.Answer.TheVariants.{Taken, Refused}
+use Rattle.world.specs.declared.event.Answer.TheVariants.{Taken, Refused, Marked, FeedbackRefused}
 use Rattle.world.specs.declared.event.Entry.{Entry}
-use Rattle.world.specs.declared.event.Entry.TheVariants.{Sent, SendRefused, Nothing, Delivered, Injected, Played}
+use Rattle.world.specs.declared.event.Entry.TheVariants.{Sent, SendRefused, Repaired, NoRepair, Asked, NoAsk, Nothing, Delivered, Injected, Played}
 use Rattle.world.specs.Config.{Config}
 use Rattle.world.specs.Labels.{end_of}
-use Rattle.world.specs.Answers.{Stand, new_stand, told, HearsAt, Answers}
+use Rattle.world.specs.Answers.{Stand, new_stand, told, told_marks, HearsAt, Answers}
 use Rattle.world.specs.Reading.{cursor_of, IsGone, OverrunIs, IsRising, IsFinal}
 
 -- the receiver's cursor is the log's, and what is gone lies below it
@@ -111,6 +115,17 @@ as_delivered c past end index now label (Taken taken) r was =
     record { orders = same_orders (Injected end now (Taken taken) ∷ past) (Delivered index label now (Taken taken) ∷ past) refl (λ k g. g) r was.orders; rising = was.rising; final = was.final }
 as_delivered c past end index now label (Refused fault) r was =
     record { orders = same_orders (Injected end now (Refused fault) ∷ past) (Delivered index label now (Refused fault) ∷ past) refl (λ k g. g) r was.orders; rising = was.rising; final = was.final }
+as_delivered c past end index now label (Marked marked) r was =
+    record { orders = same_orders (Injected end now (Marked marked) ∷ past) (Delivered index label now (Marked marked) ∷ past) refl (λ k g. g) r was.orders; rising = was.rising; final = was.final }
+as_delivered c past end index now label (FeedbackRefused fault) r was =
+    record { orders = same_orders (Injected end now (FeedbackRefused fault) ∷ past) (Delivered index label now (FeedbackRefused fault) ∷ past) refl (λ k g. g) r was.orders; rising = was.rising; final = was.final }
+
+-- what the sender answers says nothing of the order
+marked : (c : Config) (past : List Entry) (end : End) (now : ℕ) (heard : Result Marking FeedbackFault) (r : Option Window) → Ordered c past r → Ordered c (Injected end now (told_marks heard) ∷ past) r
+marked c past end now (Ok marking) r was =
+    record { orders = same_orders past (Injected end now (Marked marking) ∷ past) refl (λ k g. g) r was.orders; rising = was.rising; final = was.final }
+marked c past end now (Err fault) r was =
+    record { orders = same_orders past (Injected end now (FeedbackRefused fault) ∷ past) refl (λ k g. g) r was.orders; rising = was.rising; final = was.final }
 
 played : (c : Config) (past : List Entry) (now : ℕ) (answer : Play_answer) (old new : Option Window) →
     PlaysAny c.receiver.patience old now answer new → Ordered c past old → Ordered c (Played now answer ∷ past) new
@@ -140,6 +155,18 @@ played c past now (Gap place) (Some old) (Some w) (at, free, cause, pass) was =
       final = was.final;
     }
 
+-- an ask leaves the cursor
+asked : (c : Config) (past : List Entry) (covered : List ℕ) (now : ℕ) (old : Window) (new : Option Window) → IsSomeAnd new (Asks old covered now) → Ordered c past (Some old) → Ordered c past new
+asked c past covered now old None none was = absurd none
+asked c past covered now old (Some w) asks was =
+    let orders = was.orders in
+    record { orders = (grind (arith, orders.0, asks.cursor), λ k g. let h = orders.1 k g in omega (arith, asks.cursor, h)); rising = was.rising; final = was.final }
+
+asked_any : (c : Config) (past : List Entry) (now : ℕ) (datagram : ArrayVec ℕ) (old new : Option Window) → AsksAny c.receiver old now (Some datagram) new → Ordered c past old → Ordered c past new
+asked_any c past now datagram None new (none, is) was = absurd cc
+asked_any c past now datagram (Some old) new asks was =
+    asked c past (take asks.answers.1.asked.count (take 1088 asks.due)) now old new asks.answers.1.asked.asks was
+
 -- an entry of the sender's, or none, leaves the receiver as it was
 untouched : (c : Config) (past : List Entry) (old new : Option Window) → new ≡ old → Ordered c past old → Ordered c past new
 untouched c past old new is was = subst (λ (x : Option Window). Ordered c past x) (sym is) was
@@ -155,6 +182,9 @@ AnyHearing =
 module _ (any : AnyHearing) where
   heard : (c : Config) (past : List Entry) (end : End) (octets : List ℕ) (now : ℕ) (answer : Answer) (old new : Stand) →
       HearsAt c end old octets now answer new → Ordered c past old.receiver → Ordered c (Injected end now answer ∷ past) new.receiver
+  heard c past Sender octets now answer old new h was =
+      subst (λ (a : Answer). Ordered c (Injected Sender now a ∷ past) new.receiver) (sym h.tells)
+      (marked c past Sender now h.heard new.receiver (untouched c past old.receiver new.receiver h.receiver was))
   heard c past Receiver octets now answer old new h was =
       subst (λ (a : Answer). Ordered c (Injected Receiver now a ∷ past) new.receiver) (sym h.tells)
       (heard_any c past Receiver now octets h.heard old.receiver new.receiver (any c.window c.receiver old.receiver octets now h.heard new.receiver h.hears) was)
@@ -169,6 +199,18 @@ module _ (any : AnyHearing) where
   ordered c (Send content padding ∷ events) (SendRefused fault ∷ past) end (old, before, (why, is)) =
       let rest = untouched c past old.receiver end.receiver (receiver_of end old is) (ordered c events past old before) in
       record { orders = same_orders past (SendRefused fault ∷ past) refl (λ k g. g) end.receiver rest.orders; rising = rest.rising; final = rest.final }
+  ordered c (Retransmit ∷ events) (Repaired place index ∷ past) end (old, before, step) =
+      let rest = untouched c past old.receiver end.receiver step.receiver (ordered c events past old before) in
+      record { orders = same_orders past (Repaired place index ∷ past) refl (λ k g. g) end.receiver rest.orders; rising = rest.rising; final = rest.final }
+  ordered c (Retransmit ∷ events) (NoRepair ∷ past) end (old, before, (why, is)) =
+      let rest = untouched c past old.receiver end.receiver (receiver_of end old is) (ordered c events past old before) in
+      record { orders = same_orders past (NoRepair ∷ past) refl (λ k g. g) end.receiver rest.orders; rising = rest.rising; final = rest.final }
+  ordered c (Ask now ∷ events) (Asked index moment ∷ past) end (old, before, (now_is, step)) =
+      let rest = asked_any c past now step.datagram old.receiver end.receiver step.asks (ordered c events past old before) in
+      record { orders = same_orders past (Asked index moment ∷ past) refl (λ k g. g) end.receiver rest.orders; rising = rest.rising; final = rest.final }
+  ordered c (Ask now ∷ events) (NoAsk moment ∷ past) end (old, before, (now_is, why, is)) =
+      let rest = untouched c past old.receiver end.receiver (receiver_of end old is) (ordered c events past old before) in
+      record { orders = same_orders past (NoAsk moment ∷ past) refl (λ k g. g) end.receiver rest.orders; rising = rest.rising; final = rest.final }
   ordered c (Deliver index now ∷ events) (Nothing ∷ past) end (old, before, (none, is)) =
       let rest = untouched c past old.receiver end.receiver (receiver_of end old is) (ordered c events past old before) in
       record { orders = same_orders past (Nothing ∷ past) refl (λ k g. g) end.receiver rest.orders; rising = rest.rising; final = rest.final }

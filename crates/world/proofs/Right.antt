@@ -1,6 +1,9 @@
 -- A run of the place world is right and justified, and refuses lawfully.
-use Rattle.std.proofs.Common.{◌≡◌, ◌⊎◌, ℕ, ◌+◌, ◌-◌, ◌*◌, ◌≤◌, List, [], ◌∷◌, Option, Some, None, Result, Ok, Err, IsSome, IsSomeAnd, refl, sym, ap, subst, ◌∙◌, inl, inr, arith}
+use Rattle.std.proofs.Common.{◌≡◌, ◌⊎◌, ℕ, ◌+◌, ◌-◌, ◌*◌, ◌≤◌, Bool, true, false, IsTrue, List, [], ◌∷◌, take, Option, Some, None, if◌then◌else◌, Result, Ok, Err, IsSome, IsSomeAnd, ⊎_elim, refl, sym, ap, subst, ◌∙◌, inl, inr, arith}
 use Rattle.std.proofs.lemmas.Option.{none-some, same_Some}
+use Rattle.arrayvec.specs.ArrayVec.{ArrayVec}
+use Rattle.fbwire.specs.declared.nack.Pair.{Pair}
+use Rattle.sender.specs.declared.answer.Marked.{Marked as Marking}
 use Rattle.places.specs.Place.{number}
 use Rattle.places.specs.declared.nearness.PlaceFault.TheVariants.{Far}
 use Rattle.rtpwire.specs.declared.content.Content.{Content}
@@ -11,13 +14,18 @@ use Rattle.receiver.specs.declared.answer.Played.TheVariants.{Packet, Gap, Wait}
 use Rattle.receiver.specs.declared.fault.ReceiveFault.{ReceiveFault}
 use Rattle.receiver.specs.declared.fault.ReceiveFault.TheVariants as refused
 use Rattle.receiver.specs.Window.{Missed, Window, StartsAt, AnswersPlace, HasPassed, PlaysAny}
-use Rattle.world.specs.declared.event.End.TheVariants.{Receiver}
+use Rattle.receiver.specs.declared.stream.Stream.{Stream}
+use Rattle.receiver.specs.declared.stream.Stream.TheVariants as streams
+use Rattle.receiver.specs.Streams.{known_to, learnt_by}
+use Rattle.receiver.specs.Heard.{AnswersIn}
+use Rattle.receiver.specs.Asks.{Asks}
+use Rattle.world.specs.declared.event.End.TheVariants.{Sender, Receiver}
 use Rattle.world.specs.declared.event.Label.{Label}
-use Rattle.world.specs.declared.event.Label.TheVariants.{Media}
+use Rattle.world.specs.declared.event.Label.TheVariants.{Media, Repair, Feedback}
 use Rattle.world.specs.declared.event.Answer.{Answer}
-use Rattle.world.specs.declared.event.Answer.TheVariants.{Taken, Refused}
+use Rattle.world.specs.declared.event.Answer.TheVariants.{Taken, Refused, Marked, FeedbackRefused}
 use Rattle.world.specs.declared.event.Entry.{Entry}
-use Rattle.world.specs.declared.event.Entry.TheVariants.{Sent, SendRefused, Nothing, Delivered, Injected, Played}
+use Rattle.world.specs.declared.event.Entry.TheVariants.{Sent, SendRefused, Repaired, NoRepair, Asked, NoAsk, Nothing, Delivered, Injected, Played}
 use Rattle.world.specs.Config.{Config}
 use Rattle.world.specs.Labels.{place_of}
 use Rattle.world.specs.Answers.{told}
@@ -26,13 +34,13 @@ use Rattle.world.specs.Reach.{highest_taken, shift_of, first_or, or_zero, greate
 use Rattle.world.specs.Right.{IsRight}
 use Rattle.world.specs.Justified.{noticed_of, earlier_or, IsOver, IsWaitFor, IsJustified}
 use Rattle.world.specs.Lawful.{IsRefusedLawfully}
-use Rattle.world.specs.PlaceRun.{PlaceWorld, new_places, ReceivesLabel, HearsPlace, PlaceRun}
+use Rattle.world.specs.PlaceRun.{PlaceWorld, new_places, repair_in, stream_in, ReceivesLabel, HearsFeedbackOf, HearsPlace, MarksAnything, AsksAnyBy, PlaceRun}
 use Rattle.world.proofs.Faithful.{get_front}
-use Rattle.world.proofs.Kept.{noticed_in, Kept, KeptBy, Keeps, starts, takes, refused as refused_one, passes, sends}
+use Rattle.world.proofs.Kept.{noticed_in, Kept, KeptBy, Keeps, starts, takes, refused as refused_one, passes, learns, asks, sends}
 
 -- a product and no record, so that an entry that has no part in it leaves it as it is
 abbrev pub Plays : Config → List Entry → Type 0
-Plays c past = IsRight c past × IsJustified c past × IsRefusedLawfully past
+Plays c past = IsRight c past × IsJustified c past × IsRefusedLawfully c past
 
 -- the window beside the log, and what was played
 abbrev pub Goes : Config → List Entry → Option Window → Type 0
@@ -44,6 +52,22 @@ keeps_as c past old new is kept = subst (λ (r : Option Window). Keeps c past r)
 is_held : (o : Option Content) → IsSome o → o ≡ None → ⊥
 is_held None held e = absurd cc
 is_held (Some content) held e = none-some content (sym e)
+
+-- an SSRC is to be learnt only by a receiver that learns
+abbrev CanLearn : Config → Stream → Type 0
+CanLearn c streams.Media = Unit {0}
+CanLearn c streams.Repair = Unit {0}
+CanLearn c (streams.Candidate ssrc) = IsTrue c.receiver.learns
+
+can_learn_in : (c : Config) (learnt : Option ℕ) (b : Bool) → (IsTrue b → IsTrue c.receiver.learns) → CanLearn c (repair_in c.receiver (if b then learnt else Some c.receiver.session.repair_ssrc))
+can_learn_in c None true so = so refl
+can_learn_in c (Some known) true so = tt
+can_learn_in c learnt false so = tt
+
+can_learn : (c : Config) (r : Option Window) (label : Label) → CanLearn c (stream_in c.receiver r label)
+can_learn c r (Media place) = tt
+can_learn c r (Repair place) = can_learn_in c (learnt_by r) c.receiver.learns (λ x. x)
+can_learn c r (Feedback pairs) = tt
 
 -- A packet of the sender's place p is delivered.
 module _ (c : Config) (past : List Entry) (i : ℕ) (label : Label) (p now : ℕ) (at_place : place_of label ≡ Some p) where
@@ -84,15 +108,38 @@ module _ (c : Config) (past : List Entry) (i : ℕ) (label : Label) (p now : ℕ
       (refuses (refused.Put Late) old new is kept (λ k h here reaches none. omega (arith, here, at, under)), (plays.0, plays.1, (inr (inr (inl refl)), plays.2)))
   placed own (Err (refused.Put Duplicate)) old new content at was (above, held, is) kept plays = (
     refuses (refused.Put Duplicate) old new is kept (λ k h here reaches none. let same : own ≡ k = omega (arith, here, at) in is_held (old.held own) held (rw same none)),
-    (plays.0, plays.1, (inr (inr (inr refl)), plays.2)),
+    (plays.0, plays.1, (inr (inr (inr (inl refl))), plays.2)),
   )
   placed own (Err fault) old new content at was never kept plays = absurd never
+
+  -- in its stream
+  placed_in : (stream : Stream) → CanLearn c stream → (own : ℕ) (heard : Result Took ReceiveFault) (old : Window) (new : Option Window) (content : Content) →
+      own + shift_of past ≡ p → WasSent c past p content → AnswersIn c.window stream old own content now heard new → KeptBy c past old → Plays c past → Goes c (Delivered i label now (told heard) ∷ past) new
+  placed_in streams.Media learning own heard old new content at was step kept plays = placed own heard old new content at was step kept plays
+  placed_in streams.Repair learning own heard old new content at was step kept plays = placed own heard old new content at was step kept plays
+  placed_in (streams.Candidate ssrc) learning own (Ok taken) old new content at was (asked, step) kept plays =
+      placed own (Ok taken) (record old { learnt = Some ssrc }) new content at was step
+      (learns (shift_of past) (cursor_of past) (highest_taken past) (WasSent c past) (IsReached past) (noticed_of past) old (Some ssrc) kept) plays
+  placed_in (streams.Candidate ssrc) learning own (Err refused.Unasked) old new content at was (unasked, is) kept plays = (
+    refuses refused.Unasked old new is kept (λ k h here reaches none. (subst (λ o. Reaches o (Refused refused.Unasked)) kept.highest reaches).1 refl),
+    (plays.0, plays.1, (inr (inr (inr (inr (learning, refl)))), plays.2)),
+  )
+  placed_in (streams.Candidate ssrc) learning own (Err fault) old new content at was never kept plays = absurd never
+
+  -- a retransmission before the start
+  unstarted : (heard : Result Took ReceiveFault) (new : Option Window) → heard ≡ Err refused.NotStarted → new ≡ None → Keeps c past None → Plays c past → Goes c (Delivered i label now (told heard) ∷ past) new
+  unstarted heard new is same fresh plays =
+      subst (λ (x : Result Took ReceiveFault). Goes c (Delivered i label now (told x) ∷ past) new) (sym is) (
+        keeps_as c (Delivered i label now (Refused refused.NotStarted) ∷ past) None new same
+            (record { shift_is = fresh.shift_is; cursor = fresh.cursor; highest = fresh.highest; reached = λ k r. ⊎_elim (λ x. subst (λ o. Reaches o (Refused refused.NotStarted)) fresh.highest x.1) (fresh.reached k) r; noticed = fresh.noticed }),
+        (plays.0, plays.1, (inl refl, plays.2)),
+      )
 
   -- from too far
   far : (heard : Result Took ReceiveFault) (old : Window) (new : Option Window) → heard ≡ Err (refused.Place Far) → new ≡ Some old → KeptBy c past old → Plays c past → Goes c (Delivered i label now (told heard) ∷ past) new
   far heard old new is same kept plays =
       subst (λ (x : Result Took ReceiveFault). Goes c (Delivered i label now (told x) ∷ past) new) (sym is) (
-        refuses (refused.Place Far) old new same kept (λ k h here reaches none. subst (λ o. Reaches o (Refused (refused.Place Far))) kept.highest reaches refl),
+        refuses (refused.Place Far) old new same kept (λ k h here reaches none. (subst (λ o. Reaches o (Refused (refused.Place Far))) kept.highest reaches).0 refl),
         (plays.0, plays.1, (inr (inl refl), plays.2)),
       )
 
@@ -108,19 +155,41 @@ module _ (c : Config) (past : List Entry) (i : ℕ) (label : Label) (p now : ℕ
       )
   started (Err fault) new content big was never fresh plays = absurd never
 
-received : (c : Config) (past : List Entry) (i : ℕ) (label : Label) (p now : ℕ) (heard : Result Took ReceiveFault) (old new : Option Window) (content : Content) → place_of label ≡ Some p → WasSent c past p content →
-    ReceivesLabel c (shift_of past) old label p content now heard new → Goes c past old → Goes c (Delivered i label now (told heard) ∷ past) new
-received c past i (Media q) p now heard None new content at was step (fresh, plays) =
-    started c past i (Media q) p now at heard new content (let place = was.1 in omega (arith, place)) was step fresh plays
-received c past i label p now heard (Some old) new content at was (inl (apart, is, same)) (kept, plays) = far c past i label p now at heard old new is same kept plays
-received c past i label p now heard (Some old) new content at was (inr (own, here, near, step)) (kept, plays) = placed c past i label p now at own heard old new content here was step kept plays
+received : (c : Config) (past : List Entry) (i : ℕ) (label : Label) (p now : ℕ) (heard : Result Took ReceiveFault) (stream : Stream) (old new : Option Window) (content : Content) → CanLearn c stream → place_of label ≡ Some p →
+    WasSent c past p content → ReceivesLabel c (shift_of past) stream old p content now heard new → Goes c past old → Goes c (Delivered i label now (told heard) ∷ past) new
+received c past i label p now heard streams.Media None new content learning at was step (fresh, plays) =
+    started c past i label p now at heard new content (let place = was.1 in omega (arith, place)) was step fresh plays
+received c past i label p now heard streams.Repair None new content learning at was (is, same) (fresh, plays) = unstarted c past i label p now at heard new is same fresh plays
+received c past i label p now heard (streams.Candidate ssrc) None new content learning at was (is, same) (fresh, plays) = unstarted c past i label p now at heard new is same fresh plays
+received c past i label p now heard stream (Some old) new content learning at was (inl (apart, is, same)) (kept, plays) = far c past i label p now at heard old new is same kept plays
+received c past i label p now heard stream (Some old) new content learning at was (inr (own, here, near, step)) (kept, plays) =
+    placed_in c past i label p now at stream learning own heard old new content here was step kept plays
+
+-- feedback is delivered, which the receiver knows nothing of
+fed_back : (c : Config) (past : List Entry) (i now : ℕ) (pairs : ArrayVec Pair) (marking : Marking) (r : Option Window) → Goes c past r → Goes c (Delivered i (Feedback pairs) now (Marked marking) ∷ past) r
+fed_back c past i now pairs marking None (fresh, plays) = (
+  record { shift_is = fresh.shift_is; cursor = fresh.cursor; highest = fresh.highest; reached = λ k r. ⊎_elim (λ x. none-some k x.0) (fresh.reached k) r; noticed = fresh.noticed },
+  (plays.0, plays.1, (tt, plays.2)),
+)
+fed_back c past i now pairs marking (Some w) (kept, plays) = (
+  refused_one (shift_of past) (cursor_of past) (highest_taken past) (WasSent c past) (IsReached past) (noticed_of past) w (λ k. (None ≡ Some k) × Reaches (highest_taken past) (Marked marking)) kept (λ k h x none. none-some (k + shift_of past) x.0),
+  (plays.0, plays.1, (tt, plays.2)),
+)
+
+goes_as : (c : Config) (past : List Entry) (old new : Option Window) → new ≡ old → Goes c past old → Goes c past new
+goes_as c past old new is goes = subst (λ (r : Option Window). Goes c past r) (sym is) goes
+
+fed_back_as : (c : Config) (past : List Entry) (i now : ℕ) (label : Label) (answer : Answer) (old new : PlaceWorld) → HearsFeedbackOf c old label answer new → Goes c past old.receiver → Goes c (Delivered i label now answer ∷ past) new.receiver
+fed_back_as c past i now (Feedback pairs) (Marked marking) old new (marks, is) goes = fed_back c past i now pairs marking new.receiver (goes_as c past old.receiver new.receiver is goes)
+fed_back_as c past i now (Feedback pairs) answer old new never goes = absurd never
+fed_back_as c past i now label answer old new never goes = absurd never
 
 delivered : (c : Config) (past : List Entry) (i now : ℕ) (label : Label) (answer : Answer) (old new : PlaceWorld) (place : Option ℕ) → place_of label ≡ place →
     HearsPlace c past old label place now answer new → Goes c past old.receiver → Goes c (Delivered i label now answer ∷ past) new.receiver
 delivered c past i now label answer old new (Some p) at step goes =
     subst (λ (a : Answer). Goes c (Delivered i label now a ∷ past) new.receiver) (sym step.tells)
-    (received c past i label p now step.heard old.receiver new.receiver step.content at step.was_sent step.receives goes)
-delivered c past i now label answer old new None at never goes = absurd never
+    (received c past i label p now step.heard (stream_in c.receiver old.receiver label) old.receiver new.receiver step.content (can_learn c old.receiver label) at step.was_sent step.receives goes)
+delivered c past i now label answer old new None at step goes = fed_back_as c past i now label answer old new step goes
 
 noticed_some : (o : Option Missed) (t : ℕ) → noticed_in o ≡ Some t → (m : Missed) × (o ≡ Some m) × (m.noticed ≡ t)
 noticed_some None t e = absurd (none-some t e)
@@ -168,6 +237,22 @@ played c past now (Gap place) (Some old) (Some w) (at, free, cause, pass) (kept,
       ),
     )
 
+asked_at : (c : Config) (past : List Entry) (covered : List ℕ) (now : ℕ) (w : Window) (new : Option Window) → IsSomeAnd new (Asks w covered now) → KeptBy c past w → Keeps c past new
+asked_at c past covered now w None none kept = absurd none
+asked_at c past covered now w (Some v) step kept = asks (shift_of past) (cursor_of past) (highest_taken past) (WasSent c past) (IsReached past) (noticed_of past) w v covered now kept step
+
+-- an ask leaves what is held, and when a place was noticed
+asked : (c : Config) (past : List Entry) (now : ℕ) (pairs : List Pair) (old new : Option Window) → AsksAnyBy c.receiver old now pairs new → Keeps c past old → Keeps c past new
+asked c past now pairs None new never kept = absurd never
+asked c past now pairs (Some w) new step kept = asked_at c past (take step.asked.count (take 1088 step.due)) now w new step.asked.asks kept
+
+-- whatever is injected at the sender leaves the receiver
+injected : (c : Config) (past : List Entry) (now : ℕ) (answer : Answer) (old new : PlaceWorld) → MarksAnything c old answer new → Goes c past old.receiver → Goes c (Injected Sender now answer ∷ past) new.receiver
+injected c past now (Marked marking) old new (nacks, (marks, is)) goes = let after = goes_as c past old.receiver new.receiver is goes in (keeps_as c past new.receiver new.receiver refl after.0, after.1)
+injected c past now (FeedbackRefused fault) old new (sender, is) goes = let after = goes_as c past old.receiver new.receiver is goes in (keeps_as c past new.receiver new.receiver refl after.0, after.1)
+injected c past now (Taken taken) old new never goes = absurd never
+injected c past now (Refused fault) old new never goes = absurd never
+
 sent_more : (c : Config) (past : List Entry) (place index : ℕ) (content : Content) (r : Option Window) → Keeps c past r → Keeps c (Sent place index content ∷ past) r
 sent_more c past place index content None fresh = fresh
 sent_more c past place index content (Some w) kept =
@@ -185,10 +270,19 @@ goes c (Sent place index content ∷ past) end (old, run, (at, fits, index_at, s
     let before = goes c past old run in (keeps_as c (Sent place index content ∷ past) old.receiver end.receiver is (sent_more c past place index content old.receiver before.0), before.1)
 goes c (SendRefused fault ∷ past) end (old, run, (why, is)) =
     let before = goes c past old run in (keeps_as c past old.receiver end.receiver (receiver_is end old is) before.0, before.1)
+goes c (Repaired place index ∷ past) end (old, run, (index_at, repairs, labels, is)) =
+    let before = goes c past old run in (keeps_as c past old.receiver end.receiver is before.0, before.1)
+goes c (NoRepair ∷ past) end (old, run, (why, is)) =
+    let before = goes c past old run in (keeps_as c past old.receiver end.receiver (receiver_is end old is) before.0, before.1)
+goes c (Asked index now ∷ past) end (old, run, (index_at, sender, (pairs, step, labels))) =
+    let before = goes c past old run in (asked c past now pairs.items old.receiver end.receiver step before.0, before.1)
+goes c (NoAsk now ∷ past) end (old, run, (why, is)) =
+    let before = goes c past old run in (keeps_as c past old.receiver end.receiver (receiver_is end old is) before.0, before.1)
 goes c (Nothing ∷ past) end (old, run, is) =
     let before = goes c past old run in (keeps_as c past old.receiver end.receiver (receiver_is end old is) before.0, before.1)
 goes c (Delivered index label now answer ∷ past) end (old, run, (at, step, labels)) = delivered c past index now label answer old end (place_of label) refl step (goes c past old run)
 goes c (Injected Receiver now answer ∷ past) end (old, run, never) = absurd never
+goes c (Injected Sender now answer ∷ past) end (old, run, (step, labels)) = injected c past now answer old end step (goes c past old run)
 goes c (Played now answer ∷ past) end (old, run, (step, sender, labels)) = played c past now answer old.receiver end.receiver step (goes c past old run)
 
 -- The shift is a number of whole cycles.

@@ -3,23 +3,31 @@
 use Rattle.std.specs.Prelude.{◌≡◌, ℕ, ◌≤◌, List, [], ◌∷◌, ◌++◌, length, Option, Some, None, Result, Ok, Err, slice_get}
 use Rattle.arrayvec.specs.ArrayVec.{ArrayVec}
 use Rattle.rtpwire.specs.declared.content.Content.{Content}
+use Rattle.rtpwire.specs.Session.{Streams}
+use Rattle.fbwire.specs.declared.fault.FeedbackFault.{FeedbackFault}
+use Rattle.fbwire.specs.declared.nack.Pair.{Pair}
+use Rattle.fbwire.specs.Nack.{Nack, NackSpells}
+use Rattle.sender.specs.declared.answer.Marked.{Marked as Marking}
 use Rattle.sender.specs.History.{History, new_history}
 use Rattle.sender.specs.Sending.{SendsAt, SendsAny}
+use Rattle.sender.specs.Feedback.{HearsFeedback}
+use Rattle.sender.specs.Repairing.{RepairsAt, RepairsAny}
 use Rattle.receiver.specs.declared.answer.Taken.{Taken as Took}
 use Rattle.receiver.specs.declared.fault.ReceiveFault.{ReceiveFault}
 use Rattle.receiver.specs.Window.{Window, PlaysAny}
 use Rattle.receiver.specs.Heard.{Hears}
+use Rattle.receiver.specs.Asks.{AsksAny}
 use Rattle.world.specs.declared.event.Event.{Event}
-use Rattle.world.specs.declared.event.Event.TheVariants.{Send, Deliver, Play, Inject}
+use Rattle.world.specs.declared.event.Event.TheVariants.{Send, Repair as Retransmit, Ask, Deliver, Play, Inject}
 use Rattle.world.specs.declared.event.End.{End}
-use Rattle.world.specs.declared.event.End.TheVariants.{Receiver}
+use Rattle.world.specs.declared.event.End.TheVariants.{Sender, Receiver}
 use Rattle.world.specs.declared.event.Label.{Label}
-use Rattle.world.specs.declared.event.Label.TheVariants.{Media}
+use Rattle.world.specs.declared.event.Label.TheVariants.{Media, Repair, Feedback}
 use Rattle.world.specs.declared.event.Answer.{Answer}
-use Rattle.world.specs.declared.event.Answer.TheVariants.{Taken, Refused}
+use Rattle.world.specs.declared.event.Answer.TheVariants.{Taken, Refused, Marked, FeedbackRefused}
 use Rattle.world.specs.declared.event.Entry.{Entry}
-use Rattle.world.specs.declared.event.Entry.TheVariants.{Sent, SendRefused, Nothing, Delivered, Injected, Played}
-use Rattle.world.specs.Config.{Config}
+use Rattle.world.specs.declared.event.Entry.TheVariants.{Sent, SendRefused, Repaired, NoRepair, Asked, NoAsk, Nothing, Delivered, Injected, Played}
+use Rattle.world.specs.Config.{Config, sending}
 use Rattle.world.specs.Labels.{end_of}
 
 -- a datagram on the wire, under its label
@@ -47,8 +55,21 @@ pub record ReceiverHears (c : Config) (old : Stand) (octets : List ℕ) (now : �
   pub tells : answer ≡ told heard
   pub sender : new.sender ≡ old.sender
 
--- a datagram reaches an end
+-- what the sender answers, as the log tells it
+abbrev pub told_marks : Result Marking FeedbackFault → Answer
+told_marks (Ok marked) = Marked marked
+told_marks (Err fault) = FeedbackRefused fault
+
+-- a datagram reaches the sender, and leaves the receiver as it was
+pub record SenderHears (c : Config) (old : Stand) (octets : List ℕ) (answer : Answer) (new : Stand) : Type 0 where
+  pub heard : Result Marking FeedbackFault
+  pub hears : HearsFeedback (sending c) old.sender octets heard new.sender
+  pub tells : answer ≡ told_marks heard
+  pub receiver : new.receiver ≡ old.receiver
+
+-- a datagram reaches an end (its moment says nothing to the sender)
 abbrev pub HearsAt : Config → End → Stand → (octets : List ℕ) → (now : ℕ) → Answer → Stand → Type 0
+HearsAt c Sender old octets now answer new = SenderHears c old octets answer new
 HearsAt c Receiver old octets now answer new = ReceiverHears c old octets now answer new
 
 -- a content is sent, and lies on the wire
@@ -58,6 +79,28 @@ pub record SendsTo (c : Config) (old : Stand) (content : Content) (padding place
   pub index_is : index ≡ length old.wire
   pub wire : new.wire ≡ old.wire ++ (Media place, datagram) ∷ []
   pub receiver : new.receiver ≡ old.receiver
+
+-- a place is retransmitted, and its datagram lies on the wire
+pub record RepairsTo (c : Config) (old : Stand) (place index : ℕ) (new : Stand) : Type 0 where
+  pub datagram : ArrayVec ℕ
+  pub repairs : RepairsAt c.receiver.session old.sender place datagram.items new.sender
+  pub index_is : index ≡ length old.wire
+  pub wire : new.wire ≡ old.wire ++ (Repair place, datagram) ∷ []
+  pub receiver : new.receiver ≡ old.receiver
+
+-- the NACK of these pairs, from the session's receiver to its media source
+abbrev pub nack_of : Streams → List Pair → Nack
+nack_of s pairs = record { reporter = s.receiver_ssrc; media = s.media_ssrc; pairs = pairs }
+
+-- missing places are asked for, and the ask lies on the wire, under the pairs that it spells
+pub record AsksTo (c : Config) (old : Stand) (now index : ℕ) (new : Stand) : Type 0 where
+  pub datagram : ArrayVec ℕ
+  pub pairs : ArrayVec Pair
+  pub asks : AsksAny c.receiver old.receiver now (Some datagram) new.receiver
+  pub spells : NackSpells (nack_of c.receiver.session pairs.items) datagram.items
+  pub index_is : index ≡ length old.wire
+  pub wire : new.wire ≡ old.wire ++ (Feedback pairs, datagram) ∷ []
+  pub sender : new.sender ≡ old.sender
 
 -- the datagram at an index reaches the end that its label names
 pub record DeliversAt (c : Config) (old : Stand) (index : ℕ) (label : Label) (now : ℕ) (answer : Answer) (new : Stand) : Type 0 where
@@ -70,6 +113,10 @@ pub record DeliversAt (c : Config) (old : Stand) (index : ℕ) (label : Label) (
 abbrev pub Step : Config → Stand → Event → Entry → Stand → Type 0
 Step c old (Send content padding) (Sent place index sent) new = (sent ≡ content) × SendsTo c old content padding place index new
 Step c old (Send content padding) (SendRefused fault) new = SendsAny c.receiver.session c.history old.sender content padding (Err fault) new.sender × (new ≡ old)
+Step c old Retransmit (Repaired place index) new = RepairsTo c old place index new
+Step c old Retransmit NoRepair new = RepairsAny c.receiver.session old.sender None new.sender × (new ≡ old)
+Step c old (Ask now) (Asked index moment) new = (moment ≡ now) × AsksTo c old now index new
+Step c old (Ask now) (NoAsk moment) new = (moment ≡ now) × AsksAny c.receiver old.receiver now None new.receiver × (new ≡ old)
 Step c old (Deliver index now) Nothing new = (length old.wire ≤ index) × (new ≡ old)
 Step c old (Deliver index now) (Delivered at label moment answer) new = (at ≡ index) × (moment ≡ now) × DeliversAt c old index label now answer new
 Step c old (Play now) (Played moment played) new =

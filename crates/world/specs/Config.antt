@@ -1,5 +1,6 @@
 -- How a world is configured.
 use Rattle.std.specs.Prelude.{ℕ, ◌^◌, ◌<◌, ◌≤◌}
+use Rattle.rtpwire.specs.Session.{HasSsrcs}
 use Rattle.sender.specs.Config.{Config as Sending, config as sender_config}
 use Rattle.receiver.specs.Config.{Config as Receiving, IsConfig as IsReceiving}
 
@@ -29,7 +30,9 @@ sending c = sender_config c.receiver.session c.first c.repair_first c.repeats
 -- the limits of a world
 pub record IsConfig (c : Config) : Type 0 where
   pub receiver : IsReceiving c.receiver
+  pub apart : HasSsrcs c.receiver.session
   pub first : c.first < 2 ^ 16
+  pub repair_first : c.repair_first < 2 ^ 16
   pub some_history : 1 ≤ c.history
   pub history : c.history ≤ 8192
   pub some_window : 1 ≤ c.window

@@ -20,7 +20,7 @@ pub record IsGood (c : Config) (past : List Entry) (end : Stand) : Type 0 where
   pub final : IsFinal past
   pub right : IsRight c past
   pub justified : IsJustified c past
-  pub refusals : IsRefusedLawfully past
+  pub refusals : IsRefusedLawfully c past
 
 -- Each beginning of the log, the oldest entry first, is good if it is close and honest: so no entry makes an
 -- earlier one wrong. What such a beginning left is what it leaves as the answer to the events up to there.

@@ -2,7 +2,7 @@
 use Rattle.std.specs.Prelude.{◌≡◌, ◌≢◌, ◌⊎◌, ℕ, ◌-◌, max, List, [], ◌∷◌, Option, Some, None}
 use Rattle.receiver.specs.Fault.{receive_number}
 use Rattle.world.specs.declared.event.Answer.{Answer}
-use Rattle.world.specs.declared.event.Answer.TheVariants.{Taken, Refused}
+use Rattle.world.specs.declared.event.Answer.TheVariants.{Taken, Refused, Marked, FeedbackRefused}
 use Rattle.world.specs.declared.event.Entry.{Entry}
 use Rattle.world.specs.declared.event.Entry.TheVariants.{Delivered}
 use Rattle.world.specs.Labels.{place_of}
@@ -34,11 +34,13 @@ shift_of (Delivered index label now (Taken taken) ∷ before) = first_or (highes
 shift_of (entry ∷ before) = shift_of before
 
 -- A delivery reaches the started receiver, the highest place before it being this: it is taken, or refused
--- by any number but 34.
+-- by any number but 34, from too far, and 38, which was not asked for.
 abbrev pub Reaches : (highest : Option ℕ) → Answer → Type 0
 Reaches highest (Taken taken) = Unit {0}
 Reaches None (Refused fault) = ⊥
-Reaches (Some highest) (Refused fault) = receive_number fault ≢ 34
+Reaches (Some highest) (Refused fault) = (receive_number fault ≢ 34) × (receive_number fault ≢ 38)
+Reaches highest (Marked marked) = ⊥
+Reaches highest (FeedbackRefused fault) = ⊥
 
 -- A packet of this place of the sender's had reached the started receiver.
 abbrev pub IsReached : List Entry → (place : ℕ) → Type 0

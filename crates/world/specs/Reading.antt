@@ -1,11 +1,11 @@
 -- What a log says, read from the log alone. A log is newest first here, so a list's tail is what came
 -- before its head.
-use Rattle.std.specs.Prelude.{◌≡◌, ◌⊎◌, ℕ, ◌+◌, ◌-◌, ◌<◌, ◌≤◌, List, [], ◌∷◌, ◌++◌, Option, Some, None, slice_get}
+use Rattle.std.specs.Prelude.{◌≡◌, ◌⊎◌, ℕ, ◌+◌, ◌-◌, ◌<◌, ◌≤◌, ◌==◌, List, [], ◌∷◌, ◌++◌, Option, Some, None, slice_get, if◌then◌else◌}
 use Rattle.rtpwire.specs.declared.content.Content.{Content}
 use Rattle.receiver.specs.declared.answer.Played.TheVariants.{Packet, Gap}
 use Rattle.world.specs.declared.event.Answer.TheVariants.{Taken}
 use Rattle.world.specs.declared.event.Entry.{Entry}
-use Rattle.world.specs.declared.event.Entry.TheVariants.{Sent, Delivered, Injected, Played}
+use Rattle.world.specs.declared.event.Entry.TheVariants.{Sent, Repaired, Delivered, Injected, Played}
 use Rattle.world.specs.Config.{Config}
 
 -- the contents that were sent, the first one first
@@ -13,6 +13,18 @@ abbrev pub contents : List Entry → List Content
 contents [] = []
 contents (Sent place index content ∷ before) = contents before ++ content ∷ []
 contents (entry ∷ before) = contents before
+
+-- how many retransmissions were made
+abbrev pub repairs_in : List Entry → ℕ
+repairs_in [] = 0
+repairs_in (Repaired place index ∷ before) = repairs_in before + 1
+repairs_in (entry ∷ before) = repairs_in before
+
+-- how often this place was retransmitted
+abbrev pub repairs_of : (place : ℕ) → List Entry → ℕ
+repairs_of place [] = 0
+repairs_of place (Repaired repaired index ∷ before) = (if repaired == place then 1 else 0) + repairs_of place before
+repairs_of place (entry ∷ before) = repairs_of place before
 
 -- the content that was sent at this place of the sender's
 abbrev pub WasSent : Config → List Entry → (place : ℕ) → Content → Type 0

@@ -42,7 +42,7 @@ impl Closeness {
                     highest: higher(self.highest, label.place()),
                     holds: self.stays(label),
                 },
-                Answer::Refused(_) => Closeness {
+                Answer::Refused(_) | Answer::Marked(_) | Answer::FeedbackRefused(_) => Closeness {
                     highest: self.highest,
                     holds: self.stays(label),
                 },
@@ -53,6 +53,10 @@ impl Closeness {
             },
             Entry::Sent { .. } => self,
             Entry::SendRefused(_) => self,
+            Entry::Repaired { .. } => self,
+            Entry::NoRepair => self,
+            Entry::Asked { .. } => self,
+            Entry::NoAsk { .. } => self,
             Entry::Nothing => self,
             Entry::Played { .. } => self,
         }

@@ -1,5 +1,5 @@
 ghost use Rattle.std.specs.Prelude.{◌≡◌, ◌↔◌, ◌≤◌, IsTrue, IsOk, IfOk, OnErr};
-ghost use Rattle.receiver.specs.Config.{config as receiving};
+ghost use Rattle.receiver.specs.Config.{config as receiving, learning};
 ghost use Rattle.world.specs.Config.{IsConfig, config, sending};
 
 use receiver::ReceiverConfig;
@@ -55,8 +55,48 @@ impl Config {
             ↔ IsConfig (config (receiving session patience retry asks) first repair_first history window repeats) }
         ensures err { OnErr result (result ≡ Err ConfigFault.BadLimit) }
     {
-        let sender = SenderConfig::new(session, first, repair_first, repeats)?;
         let receiver = ReceiverConfig::new(session, patience, retry, asks)?;
+        Config::checked(receiver, first, repair_first, history, window, repeats)
+    }
+
+    /// The same, but for a receiver that does not use the session's SSRC of the retransmissions: it learns it from
+    /// the first retransmission of a place that it asked for.
+    #[allow(clippy::too_many_arguments)]
+    pub fn learning(
+        session: Session,
+        first: u16,
+        repair_first: u16,
+        history: usize,
+        window: usize,
+        patience: u64,
+        retry: u64,
+        asks: u8,
+        repeats: u8,
+    ) -> Result<Config, ConfigFault>
+        ensures ok { IfOk result (λ made.
+            made ≡ config (learning session patience retry asks) first repair_first history window repeats) }
+        ensures succeeds { IsOk result
+            ↔ IsConfig (config (learning session patience retry asks) first repair_first history window repeats) }
+        ensures err { OnErr result (result ≡ Err ConfigFault.BadLimit) }
+    {
+        let receiver = ReceiverConfig::learning(session, patience, retry, asks)?;
+        Config::checked(receiver, first, repair_first, history, window, repeats)
+    }
+
+    /// Two ends with this receiver, if the limits are met.
+    fn checked(
+        receiver: ReceiverConfig,
+        first: u16,
+        repair_first: u16,
+        history: usize,
+        window: usize,
+        repeats: u8,
+    ) -> Result<Config, ConfigFault>
+        ensures ok { IfOk result (λ made. made ≡ config receiver first repair_first history window repeats) }
+        ensures succeeds { IsOk result ↔ IsConfig (config receiver first repair_first history window repeats) }
+        ensures err { OnErr result (result ≡ Err ConfigFault.BadLimit) }
+    {
+        let sender = SenderConfig::new(receiver.session(), first, repair_first, repeats)?;
         if !is_capacity(history) || !is_capacity(window) {
             return Err(ConfigFault::BadLimit);
         }
@@ -67,6 +107,11 @@ impl Config {
             window,
         })
     }
+
+    /// It is within the limits of a world. This computes nothing.
+    pub(crate) fn limits(&self)
+        ensures { IsConfig self.now }
+    {}
 
     /// How its sender works.
     pub(crate) fn sender(&self) -> SenderConfig

@@ -2,14 +2,21 @@
 ghost use Rattle.std.specs.Prelude.{◌≡◌};
 ghost use Rattle.world.specs.Labels.{end_of, place_of};
 
+use arrayvec::ArrayVec;
+use fbwire::{FeedbackFault, Pair};
 use places::Place;
 use receiver::{Played, ReceiveFault, Taken};
 use rtpwire::{Content, Datagram};
-use sender::SendFault;
+use sender::{Marked, SendFault};
+
+/// How many pairs an ask has at most.
+pub(crate) const MAX_PAIRS: usize = 64;
 
 /// Which end.
 #[derive(Clone, Copy, Debug, PartialEq, Eq)]
 pub enum End {
+    /// The sending end.
+    Sender,
     /// The receiving end.
     Receiver,
 }
@@ -19,6 +26,10 @@ pub enum End {
 pub enum Event {
     /// The sender sends a content with so many octets of padding.
     Send(Content, u8),
+    /// The sender retransmits the least of the places that are marked.
+    Repair,
+    /// The receiver asks for missing places at a moment.
+    Ask(u64),
     /// The wire's datagram at an index, counted from 0, reaches its end at a moment.
     Deliver(u64, u64),
     /// The receiver plays at a moment.
@@ -32,6 +43,10 @@ pub enum Event {
 pub enum Label {
     /// The media packet of this place of the sender's.
     Media(Place),
+    /// A retransmission of this place of the sender's.
+    Repair(Place),
+    /// An ask with these pairs.
+    Feedback(ArrayVec<Pair, MAX_PAIRS>),
 }
 
 impl Label {
@@ -41,6 +56,8 @@ impl Label {
     {
         match self {
             Label::Media(place) => Label::Media(*place),
+            Label::Repair(place) => Label::Repair(*place),
+            Label::Feedback(pairs) => Label::Feedback(copy_of_pairs(pairs)),
         }
     }
 
@@ -49,7 +66,8 @@ impl Label {
         ensures { result ≡ end_of self.now }
     {
         match self {
-            Label::Media(_) => End::Receiver,
+            Label::Media(_) | Label::Repair(_) => End::Receiver,
+            Label::Feedback(_) => End::Sender,
         }
     }
 
@@ -58,7 +76,8 @@ impl Label {
         ensures { result ≡ place_of self.now }
     {
         match self {
-            Label::Media(place) => Some(*place),
+            Label::Media(place) | Label::Repair(place) => Some(*place),
+            Label::Feedback(_) => None,
         }
     }
 }
@@ -70,6 +89,10 @@ pub enum Answer {
     Taken(Taken),
     /// The receiver refused it.
     Refused(ReceiveFault),
+    /// The sender marked places to be retransmitted.
+    Marked(Marked),
+    /// The sender refused it.
+    FeedbackRefused(FeedbackFault),
 }
 
 /// What the log tells of an event.
@@ -83,6 +106,14 @@ pub enum Entry {
     },
     /// A send was refused.
     SendRefused(SendFault),
+    /// This place of the sender's was retransmitted, as the wire's datagram at `index`.
+    Repaired { place: Place, index: u64 },
+    /// There was nothing to retransmit.
+    NoRepair,
+    /// Missing places were asked for, in the wire's datagram at `index`.
+    Asked { index: u64, now: u64 },
+    /// There was nothing to ask for.
+    NoAsk { now: u64 },
     /// Nothing is on the wire at the index.
     Nothing,
     /// The wire's datagram at `index`, which has this label, reached its end.
@@ -121,6 +152,16 @@ impl Entry {
                 content: content.copy(),
             },
             Entry::SendRefused(fault) => Entry::SendRefused(*fault),
+            Entry::Repaired { place, index } => Entry::Repaired {
+                place: *place,
+                index: *index,
+            },
+            Entry::NoRepair => Entry::NoRepair,
+            Entry::Asked { index, now } => Entry::Asked {
+                index: *index,
+                now: *now,
+            },
+            Entry::NoAsk { now } => Entry::NoAsk { now: *now },
             Entry::Nothing => Entry::Nothing,
             Entry::Delivered {
                 index,
@@ -140,13 +181,21 @@ impl Entry {
             },
             Entry::Played { now, played } => Entry::Played {
                 now: *now,
-                played: copy_of(played),
+                played: copy_of_played(played),
             },
         }
     }
 }
 
-fn copy_of(played: &Played) -> Played
+fn copy_of_pairs(pairs: &ArrayVec<Pair, MAX_PAIRS>) -> ArrayVec<Pair, MAX_PAIRS>
+    ensures { result ≡ pairs.now }
+{
+    let mut copy = ArrayVec::new();
+    copy.try_extend_from_slice(pairs.as_slice()).unwrap();
+    copy
+}
+
+fn copy_of_played(played: &Played) -> Played
     ensures { result ≡ played.now }
 {
     match played {

@@ -1,16 +1,17 @@
 //! Laws on logs. These functions compute nothing: their contracts are the laws.
-ghost use Rattle.std.specs.Prelude.{◌≡◌, ℕ, List, Some, reverse, slice_get};
+ghost use Rattle.std.specs.Prelude.{◌≡◌, ◌≤◌, ℕ, List, Some, reverse, slice_get};
 ghost use Rattle.world.specs.declared.event.Event.{Event};
 ghost use Rattle.world.specs.declared.event.Entry.{Entry};
-ghost use Rattle.world.specs.Config.{Config};
+ghost use Rattle.world.specs.Config.{Config, IsConfig};
 ghost use Rattle.world.specs.Answers.{Item, Stand, Answers};
-ghost use Rattle.world.specs.Reading.{IsRising, IsFinal, IsStrictlyRising};
+ghost use Rattle.world.specs.Reading.{repairs_of, IsRising, IsFinal, IsStrictlyRising};
 ghost use Rattle.world.specs.Wire.{IsFaithful, SpellsLabel};
 ghost use Rattle.world.specs.Close.{IsClose, IsHonest};
 ghost use Rattle.world.specs.Good.{IsGood, PlaysRightly};
 
-use receiver::{hearing_is_determined, playing_is_determined};
-use sender::sending_is_determined;
+use fbwire::{compound_is_determined, nack_is_determined};
+use receiver::{asking_is_determined, hearing_is_determined, playing_is_determined};
+use sender::{feedback_is_determined, repairing_is_determined, sending_is_determined};
 
 /// Whatever events a log answers, and whatever octets a peer injected: what is played or given up rises place
 /// by place, no place is played twice, and a place that was given up or overrun is never played later.
@@ -22,24 +23,42 @@ pub fn logs_are_in_order()
     hearing_is_determined();
 }
 
-/// Whatever events a log answers: each datagram on the wire has the label and the index that the log tells, and
-/// spells what its label says was sent.
+/// Whatever events a log answers, and whatever octets a peer injected: each datagram on the wire has the label and the
+/// index that the log tells, and spells what its label says. A media packet is what was sent at its place, and so is
+/// each retransmission, of one of the last places; feedback asks for places that were due.
 pub fn wires_are_faithful()
-    ensures faithful { (c : Config) (events : List Event) (past : List Entry) (end : Stand) → Answers c events past end → IsFaithful c past end.wire }
+    ensures faithful { (c : Config) → IsConfig c → (events : List Event) (past : List Entry) (end : Stand) → Answers c events past end → IsFaithful c past end.wire }
     // The same for one datagram: its octets spell what its label says.
     ensures spelled { (c : Config) (past : List Entry) (wire : List Item) (i : ℕ) (item : Item)
         → IsFaithful c past wire → slice_get wire i ≡ Some item → SpellsLabel c past item.0 item.1.items }
-{}
+{
+    compound_is_determined();
+    nack_is_determined();
+    feedback_is_determined();
+}
+
+/// Whatever events a log answers, and whatever octets a peer injected: no place is retransmitted more often than the
+/// configuration allows.
+pub fn repeats_are_limited()
+    ensures { (c : Config) (events : List Event) (past : List Entry) (end : Stand) → Answers c events past end → (place : ℕ) → repairs_of place past ≤ c.repeats }
+{
+    compound_is_determined();
+    feedback_is_determined();
+}
 
 /// Whatever events a log answers, if it is close and honest it is good, and so is each beginning of it that is. It
 /// is a run over places that leaves both ends as they are; each packet played is what was sent at its place, and had
-/// come; each gap and each wait has its cause; and nothing is refused but for coming before the start, from too far,
-/// too late or twice.
+/// come; each gap and each wait has its cause; no packet is refused but for coming before the start, from too far,
+/// too late, twice, or where its SSRC is to be learnt unasked, and no feedback is refused. What is injected at the
+/// sender makes no difference.
 pub fn logs_are_good()
-    ensures good { (c : Config) (events : List Event) (past : List Entry) (end : Stand) → Answers c events past end → IsClose past → IsHonest past → IsGood c past end }
-    ensures beginnings { (c : Config) (events : List Event) (log : List Entry) (end : Stand) → Answers c events (reverse log) end → PlaysRightly c log end }
+    ensures good { (c : Config) → IsConfig c → (events : List Event) (past : List Entry) (end : Stand) → Answers c events past end → IsClose past → IsHonest past → IsGood c past end }
+    ensures beginnings { (c : Config) → IsConfig c → (events : List Event) (log : List Entry) (end : Stand) → Answers c events (reverse log) end → PlaysRightly c log end }
 {
+    compound_is_determined();
+    nack_is_determined();
     hearing_is_determined();
+    feedback_is_determined();
 }
 
 /// A configuration and a list of events determine the rest: at most one log answers them, with one wire and one
@@ -49,7 +68,11 @@ pub fn answers_are_determined()
     ensures wire { (c : Config) (events : List Event) (one other : List Entry) (end stop : Stand) → Answers c events one end → Answers c events other stop → end.wire ≡ stop.wire }
     ensures end { (c : Config) (events : List Event) (one other : List Entry) (end stop : Stand) → Answers c events one end → Answers c events other stop → end ≡ stop }
 {
+    nack_is_determined();
     sending_is_determined();
+    repairing_is_determined();
+    feedback_is_determined();
     hearing_is_determined();
+    asking_is_determined();
     playing_is_determined();
 }

@@ -1,23 +1,19 @@
 //! The world: two ends, the wire and the log.
-ghost use Rattle.std.specs.Prelude.{◌≡◌, ◌↔◌, ◌<◌, ◌++◌, [], ◌∷◌, List, reverse, vec_len, IsTrue, IfOk, OnOk, OnErr};
-ghost use Rattle.std.specs.Vec.{vec_capacity};
-ghost use Rattle.receiver.specs.Receiver.{Receiving};
-ghost use Rattle.sender.specs.Sender.{Sending};
-ghost use Rattle.world.specs.Config.{Config as Setup, sending};
-ghost use Rattle.world.specs.Labels.{end_of};
-ghost use Rattle.world.specs.Answers.{Item, HearsAt, Step, Answers};
-ghost use Rattle.world.specs.Reading.{IsRising, IsFinal};
+ghost use Rattle.std.specs.Prelude.{◌≡◌, ◌↔◌, ◌≤◌, ℕ, ◌++◌, [], ◌∷◌, reverse, IsTrue, IfOk, OnOk, OnErr};
+ghost use Rattle.world.specs.Answers.{Step, Answers};
+ghost use Rattle.world.specs.Reading.{repairs_of, IsRising, IsFinal};
 ghost use Rattle.world.specs.Wire.{IsFaithful};
 ghost use Rattle.world.specs.Close.{IsClose, IsUninjected};
 ghost use Rattle.world.specs.Good.{IsGood, PlaysRightly};
-ghost use Rattle.world.specs.World.{IsLogged, stand_at, stand_of, empty};
+ghost use Rattle.world.specs.World.{IsLogged, stand_of, empty};
 
 use crate::closeness::Closeness;
 use crate::config::Config;
-use crate::event::{Answer, End, Entry, Event, Label};
-use crate::laws::{logs_are_good, logs_are_in_order, wires_are_faithful};
+use crate::ends::answered;
+use crate::event::{Entry, Event, Label};
+use crate::laws::{logs_are_good, logs_are_in_order, repeats_are_limited, wires_are_faithful};
 use receiver::Receiver;
-use rtpwire::{Content, Datagram};
+use rtpwire::Datagram;
 use sender::Sender;
 use std::alloc::Global;
 use std::marker::Model;
@@ -85,12 +81,16 @@ impl<H: History, W: Window> World<H, W> {
         ensures rising { OnOk result (IsRising self.new.config (reverse self.new.log)) }
         ensures finals { OnOk result (IsFinal (reverse self.new.log)) }
         ensures faithful { OnOk result (IsFaithful self.new.config (reverse self.new.log) self.new.wire) }
+        // No place is retransmitted more often than the configuration allows.
+        ensures repeats { OnOk result ((place : ℕ) → repairs_of place (reverse self.new.log) ≤ self.new.config.repeats) }
         // Each beginning of the log that is close and honest is good.
         ensures good { OnOk result (PlaysRightly self.new.config self.new.log (stand_of self.new)) }
     {
         logs_are_in_order();
         wires_are_faithful();
+        repeats_are_limited();
         logs_are_good();
+        self.config.limits();
         self.log.reserve(1)?;
         self.wire.reserve(1)?;
         let entry = answered(
@@ -128,6 +128,7 @@ impl<H: History, W: Window> World<H, W> {
         ensures good { IsTrue result → IsGood self.now.config (reverse self.now.log) (stand_of self.now) }
     {
         logs_are_good();
+        self.config.limits();
         self.closeness.holds()
     }
 
@@ -165,117 +166,20 @@ pub fn run<H: History, W: Window>(
     ensures finals { IfOk result (λ world. IsFinal (reverse world.log)) }
     // What lies on the wire was sent.
     ensures faithful { IfOk result (λ world. IsFaithful config.now (reverse world.log) world.wire) }
+    // No place is retransmitted more often than the configuration allows.
+    ensures repeats { IfOk result (λ world. (place : ℕ) → repairs_of place (reverse world.log) ≤ config.now.repeats) }
     // The headline: each beginning of the log that is close and honest is good. The receiver plays what was
     // sent at each place, gives up and waits for cause alone, and refuses lawfully.
     ensures good { IfOk result (λ world. PlaysRightly config.now world.log (stand_of world)) }
 {
     logs_are_in_order();
     wires_are_faithful();
+    repeats_are_limited();
     logs_are_good();
+    config.limits();
     let mut world = World::new(alloc, config)?;
     for event in events {
         world.step(event)?;
     }
     Ok(world)
-}
-
-/// What the ends do with an event. There is room on the wire.
-fn answered<H: History, W: Window>(
-    config: &Config,
-    sender: &mut Sender<H>,
-    wire: &mut Vec<(Label, Datagram)>,
-    receiver: &mut Receiver<W>,
-    event: &Event,
-) -> Entry
-    requires room { vec_len wire.old < vec_capacity wire.old }
-    requires sender { sender.old.config ≡ sending config.now }
-    requires history { sender.old.past.capacity ≡ config.now.history }
-    requires receiver { receiver.old.config ≡ config.now.receiver }
-    requires window { receiver.old.span.capacity ≡ config.now.window }
-    ensures step { Step config.now (stand_at sender.old wire.old.items receiver.old) event.now result
-        (stand_at sender.new wire.new.items receiver.new) }
-    ensures sender { sender.new.config ≡ sender.old.config }
-    ensures history { sender.new.past.capacity ≡ sender.old.past.capacity }
-    ensures receiver { receiver.new.config ≡ receiver.old.config }
-    ensures window { receiver.new.span.capacity ≡ receiver.old.span.capacity }
-{
-    match event {
-        Event::Send(content, padding) => sent(sender, wire, content, *padding),
-        Event::Deliver(index, now) => delivered(wire.as_slice(), receiver, *index, *now),
-        Event::Play(now) => Entry::Played {
-            now: *now,
-            played: receiver.play(*now),
-        },
-        Event::Inject(end, datagram, now) => Entry::Injected {
-            end: *end,
-            now: *now,
-            answer: heard(*end, receiver, datagram.as_slice(), *now),
-        },
-    }
-}
-
-/// Sends a content. There is room on the wire.
-fn sent<H: History>(
-    sender: &mut Sender<H>,
-    wire: &mut Vec<(Label, Datagram)>,
-    content: &Content,
-    padding: u8,
-) -> Entry
-    requires room { vec_len wire.old < vec_capacity wire.old }
-    ensures step { (c : Setup) (receiver : Receiving) → sender.old.config ≡ sending c → sender.old.past.capacity ≡ c.history
-        → Step c (stand_at sender.old wire.old.items receiver) (Event.Send content.now padding) result
-        (stand_at sender.new wire.new.items receiver) }
-    ensures sender { sender.new.config ≡ sender.old.config }
-    ensures history { sender.new.past.capacity ≡ sender.old.past.capacity }
-{
-    let index = wire.len() as u64;
-    match sender.send(content.copy(), padding) {
-        Err(fault) => Entry::SendRefused(fault),
-        Ok((place, datagram)) => {
-            wire.push_reserved((Label::Media(place), datagram));
-            Entry::Sent {
-                place,
-                index,
-                content: content.copy(),
-            }
-        }
-    }
-}
-
-/// Hands the datagram at an index to the end that its label names.
-fn delivered<W: Window>(
-    wire: &[(Label, Datagram)],
-    receiver: &mut Receiver<W>,
-    index: u64,
-    now: u64,
-) -> Entry
-    ensures step { (c : Setup) (sender : Sending) → c.receiver ≡ receiver.old.config → c.window ≡ receiver.old.span.capacity
-        → Step c (stand_at sender wire.now receiver.old) (Event.Deliver index now) result (stand_at sender wire.now receiver.new) }
-    ensures receiver { receiver.new.config ≡ receiver.old.config }
-    ensures window { receiver.new.span.capacity ≡ receiver.old.span.capacity }
-{
-    match wire.get(index as usize) {
-        None => Entry::Nothing,
-        Some((label, datagram)) => Entry::Delivered {
-            index,
-            label: label.copy(),
-            now,
-            answer: heard(label.end(), receiver, datagram.as_slice(), now),
-        },
-    }
-}
-
-/// Hands octets to an end.
-fn heard<W: Window>(end: End, receiver: &mut Receiver<W>, octets: &[u8], now: u64) -> Answer
-    ensures hears { (c : Setup) (sender : Sending) (wire : List Item) → c.receiver ≡ receiver.old.config → c.window ≡ receiver.old.span.capacity
-        → HearsAt c end (stand_at sender wire receiver.old) octets.now now result (stand_at sender wire receiver.new) }
-    ensures receiver { receiver.new.config ≡ receiver.old.config }
-    ensures window { receiver.new.span.capacity ≡ receiver.old.span.capacity }
-{
-    match end {
-        End::Receiver => match receiver.on_media(octets, now) {
-            Ok(taken) => Answer::Taken(taken),
-            Err(fault) => Answer::Refused(fault),
-        },
-    }
 }

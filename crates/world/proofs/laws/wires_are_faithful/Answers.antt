@@ -2,4 +2,6 @@ use Rattle.world.proofs.Faithful.{wired, spelled}
 use Rattle.world.proofs.laws.wires_are_faithful.Goals as goal
 
 pub returns : goal.returns
-returns c = record { faithful = λ config events past end answers. (wired config events past end answers).faithful; spelled = spelled }
+returns c =
+    let wire = wired c.feedback_is_determined.ensures.any c.compound_is_determined.ensures.decided c.nack_is_determined.ensures.one_nack in
+    record { faithful = λ config met events past end answers. (wire config met events past end answers).faithful; spelled = spelled }

@@ -33,7 +33,10 @@ pub returns-clause-finals : goal.returns-clause-finals
 returns-clause-finals g c = c.logs_are_in_order.ensures.finals _ _ _ _ (returns-clause-logged g c).answers
 
 pub returns-clause-faithful : goal.returns-clause-faithful
-returns-clause-faithful g c = c.wires_are_faithful.ensures.faithful _ _ _ _ (returns-clause-logged g c).answers
+returns-clause-faithful g c = c.wires_are_faithful.ensures.faithful _ c.limits.ensures _ _ _ (returns-clause-logged g c).answers
+
+pub returns-clause-repeats : goal.returns-clause-repeats
+returns-clause-repeats g c = c.repeats_are_limited.ensures _ _ _ _ (returns-clause-logged g c).answers
 
 pub returns-clause-good : goal.returns-clause-good
-returns-clause-good g c = c.logs_are_good.ensures.beginnings _ _ _ _ (returns-clause-logged g c).answers
+returns-clause-good g c = c.logs_are_good.ensures.beginnings _ c.limits.ensures _ _ _ (returns-clause-logged g c).answers
