@@ -9,10 +9,11 @@ use Rattle.receiver.specs.declared.answer.Played as receiver
 use Rattle.receiver.specs.declared.answer.Played.TheVariants.{Packet, Gap, Wait}
 use Rattle.receiver.specs.Fault.{receive_number}
 use Rattle.world.specs.declared.event.Answer.{Answer}
-use Rattle.world.specs.declared.event.Answer.TheVariants.{Taken, Refused}
+use Rattle.world.specs.declared.event.Answer.TheVariants.{Taken, Refused, Marked, FeedbackRefused}
 use Rattle.world.specs.declared.event.Entry.{Entry}
-use Rattle.world.specs.declared.event.Entry.TheVariants.{Sent, SendRefused, Nothing, Delivered, Injected, Played}
+use Rattle.world.specs.declared.event.Entry.TheVariants.{Sent, SendRefused, Repaired, NoRepair, Asked, NoAsk, Nothing, Delivered, Injected, Played}
 use Rattle.world.specs.Answers.{Item}
+use Rattle.fbwire.specs.Fault.{feedback_number}
 use Rattle.sender.specs.Fault.{send_number}
 use Rattle.lines.specs.ContentText.{octets_text, sources_text, extension_text, marker_text}
 
@@ -34,10 +35,12 @@ octets_at wire index = octets_in (slice_get wire index)
 abbrev pub refused_line : (number : ℕ) → List ℕ
 refused_line number = line_of (codes "refused" ∷ decimal number ∷ [])
 
--- what the receiver answered to a datagram
+-- what an end answered to a datagram
 abbrev pub answer_line : Answer → List ℕ
 answer_line (Taken taken) = line_of (codes "taken" ∷ decimal taken.place ∷ decimal taken.overrun ∷ [])
 answer_line (Refused fault) = refused_line (receive_number fault)
+answer_line (Marked marked) = line_of (codes "marked" ∷ decimal marked.places ∷ [])
+answer_line (FeedbackRefused fault) = refused_line (feedback_number fault)
 
 -- a content, as words
 abbrev pub content_words : Content → List (List ℕ)
@@ -55,11 +58,18 @@ played_line (Packet place content) = line_of (codes "play" ∷ decimal place ∷
 played_line (Gap place) = line_of (codes "gap" ∷ decimal place ∷ [])
 played_line Wait = line_of (codes "wait" ∷ [])
 
+-- the words of a datagram: its index, and its octets
+abbrev pub datagram_words : List Item → (index : ℕ) → List (List ℕ)
+datagram_words wire index = decimal index ∷ octets_text (octets_at wire index) ∷ []
+
 -- the line of an entry, where this is the wire
 abbrev pub entry_line : List Item → Entry → List ℕ
-entry_line wire (Sent place index content) =
-    line_of (codes "sent" ∷ decimal place ∷ decimal index ∷ octets_text (octets_at wire index) ∷ [])
+entry_line wire (Sent place index content) = line_of (codes "sent" ∷ decimal place ∷ datagram_words wire index)
 entry_line wire (SendRefused fault) = refused_line (send_number fault)
+entry_line wire (Repaired place index) = line_of (codes "repair" ∷ decimal place ∷ datagram_words wire index)
+entry_line wire NoRepair = line_of (codes "repair" ∷ codes "none" ∷ [])
+entry_line wire (Asked index now) = line_of (codes "ask" ∷ datagram_words wire index)
+entry_line wire (NoAsk now) = line_of (codes "ask" ∷ codes "none" ∷ [])
 entry_line wire Nothing = line_of (codes "nothing" ∷ [])
 entry_line wire (Delivered index label now answer) = answer_line answer
 entry_line wire (Injected end now answer) = answer_line answer

@@ -4,7 +4,7 @@ ghost use Rattle.std.specs.Fmt.{decimal};
 ghost use Rattle.std.specs.Option.{option_map};
 ghost use Rattle.rtpwire.specs.Content.{extension_of};
 ghost use Rattle.lines.specs.ContentText.{octets_text, sources_text, extension_text};
-ghost use Rattle.lines.specs.LogText.{line_of, refused_line, answer_line, content_words, played_line, entry_line, octets_at};
+ghost use Rattle.lines.specs.LogText.{line_of, refused_line, answer_line, content_words, played_line, datagram_words, entry_line, octets_at};
 
 use crate::content_text::{
     push_decimal, push_extension, push_marker, push_octets_text, push_sources, push_text,
@@ -12,6 +12,7 @@ use crate::content_text::{
 use places::Place;
 use receiver::{Played, Taken};
 use rtpwire::{Content, Datagram};
+use sender::Marked;
 use stores::OutOfMemory;
 use world::{Answer, Entry, Label};
 
@@ -28,6 +29,10 @@ pub fn push_entry(
     match entry {
         Entry::Sent { place, index, .. } => push_sent(line, *place, *index, wire),
         Entry::SendRefused(fault) => push_refused(line, fault.number()),
+        Entry::Repaired { place, index } => push_repaired(line, *place, *index, wire),
+        Entry::NoRepair => push_text(line, b"repair none\n"),
+        Entry::Asked { index, .. } => push_asked(line, *index, wire),
+        Entry::NoAsk { .. } => push_text(line, b"ask none\n"),
         Entry::Nothing => push_text(line, b"nothing\n"),
         Entry::Delivered { answer, .. } => push_answer(line, answer),
         Entry::Injected { answer, .. } => push_answer(line, answer),
@@ -41,12 +46,47 @@ fn push_sent(
     index: u64,
     wire: &[(Label, Datagram)],
 ) -> Result<(), OutOfMemory>
-    ensures { OnOk result (line.new.items ≡ line.old.items
-        ++ line_of (codes "sent" ∷ decimal place ∷ decimal index ∷ octets_text (octets_at wire.now index) ∷ [])) }
+    ensures { OnOk result (line.new.items ≡ line.old.items ++ line_of (codes "sent" ∷ decimal place ∷ datagram_words wire.now index)) }
 {
     push_text(line, b"sent ")?;
     push_decimal(line, place.value())?;
     push_text(line, b" ")?;
+    push_datagram(line, index, wire)
+}
+
+fn push_repaired(
+    line: &mut Vec<u8>,
+    place: Place,
+    index: u64,
+    wire: &[(Label, Datagram)],
+) -> Result<(), OutOfMemory>
+    ensures { OnOk result (line.new.items ≡ line.old.items ++ line_of (codes "repair" ∷ decimal place ∷ datagram_words wire.now index)) }
+{
+    push_text(line, b"repair ")?;
+    push_decimal(line, place.value())?;
+    push_text(line, b" ")?;
+    push_datagram(line, index, wire)
+}
+
+fn push_asked(
+    line: &mut Vec<u8>,
+    index: u64,
+    wire: &[(Label, Datagram)],
+) -> Result<(), OutOfMemory>
+    ensures { OnOk result (line.new.items ≡ line.old.items ++ line_of (codes "ask" ∷ datagram_words wire.now index)) }
+{
+    push_text(line, b"ask ")?;
+    push_datagram(line, index, wire)
+}
+
+/// Appends a datagram of the wire as the last words of a line, with its line feed.
+fn push_datagram(
+    line: &mut Vec<u8>,
+    index: u64,
+    wire: &[(Label, Datagram)],
+) -> Result<(), OutOfMemory>
+    ensures { OnOk result (line.new.items ≡ line.old.items ++ line_of (datagram_words wire.now index)) }
+{
     push_decimal(line, index)?;
     push_text(line, b" ")?;
     push_octets_text(line, octets_at(wire, index))?;
@@ -77,6 +117,8 @@ fn push_answer(line: &mut Vec<u8>, answer: &Answer) -> Result<(), OutOfMemory>
     match answer {
         Answer::Taken(taken) => push_taken(line, taken),
         Answer::Refused(fault) => push_refused(line, fault.number()),
+        Answer::Marked(marked) => push_marked(line, *marked),
+        Answer::FeedbackRefused(fault) => push_refused(line, fault.number()),
     }
 }
 
@@ -88,6 +130,14 @@ fn push_taken(line: &mut Vec<u8>, taken: &Taken) -> Result<(), OutOfMemory>
     push_decimal(line, taken.place.value())?;
     push_text(line, b" ")?;
     push_decimal(line, taken.overrun)?;
+    push_text(line, b"\n")
+}
+
+fn push_marked(line: &mut Vec<u8>, marked: Marked) -> Result<(), OutOfMemory>
+    ensures { OnOk result (line.new.items ≡ line.old.items ++ line_of (codes "marked" ∷ decimal marked.places ∷ [])) }
+{
+    push_text(line, b"marked ")?;
+    push_decimal(line, u64::from(marked.places))?;
     push_text(line, b"\n")
 }
 

@@ -4,14 +4,13 @@ use Rattle.std.proofs.lemmas.Grind.{flat_map-append}
 use Rattle.std.proofs.lemmas.List.{reverse-append}
 use Rattle.std.specs.Fmt.{decimal}
 use Rattle.world.specs.declared.event.Event.{Event}
-use Rattle.world.specs.declared.event.Event.TheVariants.{Send, Deliver, Play, Inject}
-use Rattle.world.specs.declared.event.End.TheVariants.{Receiver}
+use Rattle.world.specs.declared.event.Event.TheVariants.{Send, Repair, Ask, Deliver, Play, Inject}
 use Rattle.world.specs.declared.event.Entry.{Entry}
-use Rattle.world.specs.declared.event.Entry.TheVariants.{Sent, SendRefused, Nothing, Delivered, Injected, Played}
+use Rattle.world.specs.declared.event.Entry.TheVariants.{Sent, SendRefused, Repaired, NoRepair, Asked, NoAsk, Nothing, Delivered, Injected, Played}
 use Rattle.world.specs.Config.{Config}
 use Rattle.world.specs.Answers.{Item, Stand, Step, Answers}
 use Rattle.lines.specs.ContentText.{octets_text}
-use Rattle.lines.specs.LogText.{line_of, octets_in, entry_line, log_text}
+use Rattle.lines.specs.LogText.{line_of, octets_in, octets_at, entry_line, log_text}
 
 -- one entry more, behind those before it
 pub log_text-append : (log : List Entry) (entry : Entry) (wire : List Item) → log_text (log ++ entry ∷ []) wire ≡ log_text log wire ++ entry_line wire entry
@@ -26,6 +25,8 @@ slice_get-front (x ∷ xs) ys (suc i) h = slice_get-front xs ys i (omega arith)
 -- the wire has the datagram that the entry tells
 abbrev pub IsOnWire : Entry → List Item → Type 0
 IsOnWire (Sent place index content) wire = index < length wire
+IsOnWire (Repaired place index) wire = index < length wire
+IsOnWire (Asked index now) wire = index < length wire
 IsOnWire entry wire = Unit {0}
 
 -- it has each datagram that the log tells
@@ -33,11 +34,20 @@ abbrev pub AreOnWire : List Entry → List Item → Type 0
 AreOnWire [] wire = Unit {0}
 AreOnWire (entry ∷ log) wire = IsOnWire entry wire × AreOnWire log wire
 
+octets_at-append : (wire more : List Item) (index : ℕ) → index < length wire → octets_at (wire ++ more) index ≡ octets_at wire index
+octets_at-append wire more index within = ap octets_in (slice_get-front wire more index within)
+
 -- a wire that grows changes no line
 pub entry_line-append : (entry : Entry) (wire more : List Item) → IsOnWire entry wire → entry_line (wire ++ more) entry ≡ entry_line wire entry
 entry_line-append (Sent place index content) wire more within =
-    ap (λ (item : Option Item). line_of (codes "sent" ∷ decimal place ∷ decimal index ∷ octets_text (octets_in item) ∷ [])) (slice_get-front wire more index within)
+    ap (λ (octets : List ℕ). line_of (codes "sent" ∷ decimal place ∷ decimal index ∷ octets_text octets ∷ [])) (octets_at-append wire more index within)
 entry_line-append (SendRefused fault) wire more within = refl
+entry_line-append (Repaired place index) wire more within =
+    ap (λ (octets : List ℕ). line_of (codes "repair" ∷ decimal place ∷ decimal index ∷ octets_text octets ∷ [])) (octets_at-append wire more index within)
+entry_line-append NoRepair wire more within = refl
+entry_line-append (Asked index now) wire more within =
+    ap (λ (octets : List ℕ). line_of (codes "ask" ∷ decimal index ∷ octets_text octets ∷ [])) (octets_at-append wire more index within)
+entry_line-append (NoAsk now) wire more within = refl
 entry_line-append Nothing wire more within = refl
 entry_line-append (Delivered index label now answer) wire more within = refl
 entry_line-append (Injected end now answer) wire more within = refl
@@ -54,6 +64,10 @@ log_text-grows (entry ∷ log) wire more on =
 pub IsOnWire-grows : (entry : Entry) (wire more : List Item) → IsOnWire entry wire → IsOnWire entry (wire ++ more)
 IsOnWire-grows (Sent place index content) wire more within = omega (arith, length-append wire more)
 IsOnWire-grows (SendRefused fault) wire more within = tt
+IsOnWire-grows (Repaired place index) wire more within = omega (arith, length-append wire more)
+IsOnWire-grows NoRepair wire more within = tt
+IsOnWire-grows (Asked index now) wire more within = omega (arith, length-append wire more)
+IsOnWire-grows (NoAsk now) wire more within = tt
 IsOnWire-grows Nothing wire more within = tt
 IsOnWire-grows (Delivered index label now answer) wire more within = tt
 IsOnWire-grows (Injected end now answer) wire more within = tt
@@ -82,10 +96,18 @@ step-wire c old (Send content padding) (Sent place index sent) new step =
     let longer : length new.wire ≡ length old.wire + 1 = ap length step.1.wire ∙ length-append old.wire _ in
     record { more = _; wire = step.1.wire; on = omega (arith, step.1.index_is) }
 step-wire c old (Send content padding) (SendRefused fault) new step = same_wire _ _ _ (ap (λ (s : Stand). s.wire) step.1) tt
+step-wire c old Repair (Repaired place index) new step =
+    let longer : length new.wire ≡ length old.wire + 1 = ap length step.wire ∙ length-append old.wire _ in
+    record { more = _; wire = step.wire; on = omega (arith, step.index_is) }
+step-wire c old Repair NoRepair new step = same_wire _ _ _ (ap (λ (s : Stand). s.wire) step.1) tt
+step-wire c old (Ask now) (Asked index moment) new step =
+    let longer : length new.wire ≡ length old.wire + 1 = ap length step.1.wire ∙ length-append old.wire _ in
+    record { more = _; wire = step.1.wire; on = omega (arith, step.1.index_is) }
+step-wire c old (Ask now) (NoAsk moment) new step = same_wire _ _ _ (ap (λ (s : Stand). s.wire) step.2) tt
 step-wire c old (Deliver index now) Nothing new step = same_wire _ _ _ (ap (λ (s : Stand). s.wire) step.1) tt
 step-wire c old (Deliver index now) (Delivered at label moment answer) new step = same_wire _ _ _ step.2.wire tt
 step-wire c old (Play now) (Played moment played) new step = same_wire _ _ _ step.3 tt
-step-wire c old (Inject Receiver datagram now) (Injected Receiver moment answer) new step = same_wire _ _ _ step.3 tt
+step-wire c old (Inject end datagram now) (Injected at moment answer) new step = same_wire _ _ _ step.3 tt
 step-wire c old event entry new step = absurd step
 
 -- a log's text after one step of its world: the line of the step's entry stands behind the text so far

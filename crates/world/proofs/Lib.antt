@@ -12,3 +12,4 @@ pub mod Determined
 mod Marked
 mod Repeats
 mod Learnt
+mod Spelled

@@ -111,7 +111,9 @@ impl Config {
     /// It is within the limits of a world. This computes nothing.
     pub(crate) fn limits(&self)
         ensures { IsConfig self.now }
-    {}
+    {
+        let _ = &self.sender;
+    }
 
     /// How its sender works.
     pub(crate) fn sender(&self) -> SenderConfig

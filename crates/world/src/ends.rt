@@ -102,6 +102,7 @@ fn repaired<H: History>(sender: &mut Sender<H>, wire: &mut Vec<(Label, Datagram)
 }
 
 /// Asks. There is room on the wire.
+#[tactic(auto, using(crate::proofs::Spelled::spelled_by))]
 fn asked<W: Window>(
     wire: &mut Vec<(Label, Datagram)>,
     receiver: &mut Receiver<W>,
