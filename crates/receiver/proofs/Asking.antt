@@ -153,18 +153,18 @@ module _ (slots : List Slot) (room : ℕ) (c : Config) (now : ℕ) (learnt : Opt
 
   pub asks_some : (cursor : Option ℕ) (pairs : List Pair) (count : ℕ) (datagram : ArrayVec ℕ) (new : Span) →
       Lists (due cursor) (λ q. is_due_slot now c.retry c.asks (slot_at (at cursor) q)) → IsNarrow (take 1088 (due cursor)) →
-      take 1088 (due cursor) ≢ [] → IsPacking (take 1088 (due cursor)) pairs count →
+      take 1088 (due cursor) ≢ [] → 0 < count → IsPacking (take 1088 (due cursor)) pairs count →
       NackSpells (record { reporter = c.session.receiver_ssrc; media = c.session.media_ssrc; pairs = pairs }) datagram.items →
       CountsAsks (at cursor) new (take count (take 1088 (due cursor))) now →
       AsksAny c (window_of learnt (at cursor)) now (Some datagram) (window_of learnt new)
-  asks_some None pairs count datagram new lists narrow some packs spells counts = absurd (some refl)
-  asks_some (Some k) pairs count datagram new lists narrow some packs spells counts =
+  asks_some None pairs count datagram new lists narrow some covers packs spells counts = absurd (some refl)
+  asks_some (Some k) pairs count datagram new lists narrow some covers packs spells counts =
       record {
         due = due (Some k);
         each = lists_same _ _ _ (λ q. same_due now c.retry c.asks (slot_at (at (Some k)) q)) lists;
         answers = (
           λ none. some (ap (take 1088) none),
-          record { pairs = pairs; asked = record { count = count; narrow = narrow; packing = packs; asks = asks_at learnt k slots room new _ now counts }; spells = spells },
+          record { pairs = pairs; asked = record { count = count; covers = covers; narrow = narrow; packing = packs; asks = asks_at learnt k slots room new _ now counts }; spells = spells },
         );
       }
 
@@ -194,6 +194,10 @@ counts_missed slots room learnt (Some k) count lists is =
 pub none_due : (items places : List ℕ) → items ≡ take 1088 places → (length items == 0) ≡ true → places ≡ []
 none_due items [] is none = refl
 none_due items (x ∷ xs) is none = let count = ap length is in let e = eqb-true _ _ none in absurd (omega arith)
+
+pub positive : (xs : List ℕ) → xs ≢ [] → 0 < length xs
+positive [] some = absurd (some refl)
+positive (x ∷ xs) some = omega arith
 
 pub some_due : (items places : List ℕ) → items ≡ places → (length items == 0) ≡ false → places ≢ []
 some_due items places is some none = true≢false (sym (ap (λ (xs : List ℕ). length xs == 0) (is ∙ none)) ∙ some)

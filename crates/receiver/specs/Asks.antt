@@ -1,6 +1,6 @@
 -- What a receiver asks for: which missing places are due, how they are packed into a generic NACK (RFC 4585,
 -- section 6.2.1), and what an ask leaves. When to ask is a choice of this project.
-use Rattle.std.specs.Prelude.{◌≡◌, ◌≢◌, ℕ, ◌+◌, ◌-◌, ◌≤◌, ◌==◌, ◌||◌, ◌&&◌, Bool, true, false, List, [], length, take, Option, Some, None, IsSomeAnd, IfSome, if◌then◌else◌, nat_lt, nat_le}
+use Rattle.std.specs.Prelude.{◌≡◌, ◌≢◌, ℕ, ◌+◌, ◌-◌, ◌<◌, ◌≤◌, ◌==◌, ◌||◌, ◌&&◌, Bool, true, false, List, [], length, take, Option, Some, None, IsSomeAnd, IfSome, if◌then◌else◌, nat_lt, nat_le}
 use Rattle.std.specs.List.{list_any}
 use Rattle.std.specs.Option.{option_map}
 use Rattle.arrayvec.specs.ArrayVec.{ArrayVec}
@@ -41,6 +41,7 @@ pub record Asks (old : Window) (covered : List ℕ) (now : ℕ) (new : Window) :
 -- at most. A due place that the pairs do not cover stays due.
 pub record AsksBy (old : Window) (due : List ℕ) (now : ℕ) (pairs : List Pair) (new : Option Window) : Type 0 where
   pub count : ℕ
+  pub covers : 0 < count
   -- the places lie within one window, so no two of them have one sequence number
   pub narrow : IsNarrow (take 1088 due)
   pub packing : IsPacking (take 1088 due) pairs count

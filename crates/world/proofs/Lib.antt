@@ -13,3 +13,6 @@ mod Marked
 mod Repeats
 mod Learnt
 mod Spelled
+mod Spans
+mod Among
+mod Totals

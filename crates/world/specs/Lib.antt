@@ -11,3 +11,4 @@ pub mod Lawful
 pub mod PlaceRun
 pub mod Good
 pub mod World
+pub mod Round

@@ -1,11 +1,11 @@
-use Rattle.std.proofs.Common.{◌≡◌, ℕ, sym, subst, ap, take, ◌∙◌, List}
+use Rattle.std.proofs.Common.{◌≡◌, ◌<◌, length, refl, ℕ, sym, subst, ap, take, ◌∙◌, List}
 use Rattle.rtpwire.specs.Session.{Streams}
 use Rattle.fbwire.specs.Nack.{Nack, NackSpells}
 use Rattle.fbwire.specs.Packing.{IsPacking}
 use Rattle.stores.specs.Asking.{due_places}
 use Rattle.receiver.specs.Counted.{CountsAsks}
 use Rattle.receiver.proofs.Rising.{rising_take}
-use Rattle.receiver.proofs.Asking.{due_narrow, due_askable, asks_some, asks_none, none_due, some_due}
+use Rattle.receiver.proofs.Asking.{due_narrow, due_askable, asks_some, asks_none, none_due, some_due, positive}
 use Rattle.receiver.proofs.receiver.ask_from.Goals as goal
 
 pub pack-pairs-requires : goal.pack-pairs-requires
@@ -59,6 +59,7 @@ returns-clause-asks g c =
     lists
     (due_narrow s is (λ q some. (law.inside s q is).0 some) c.args.now retry asks lists 1088)
     (some_due c.due-due.result.items _ due (sym c.is_empty.ensures ∙ c.if-is_empty.false))
+    (c.pack-pairs.ensures.some (subst (λ (places : List ℕ). 0 < length places) (sym c.as_slice.ensures.value) (positive c.due-due.result.items (some_due c.due-due.result.items _ refl (sym c.is_empty.ensures ∙ c.if-is_empty.false))))).1
     (subst (λ (places : List ℕ). IsPacking places c.pack-pairs.result.0.items c.pack-pairs.result.1) (c.as_slice.ensures.value ∙ due) c.pack-pairs.ensures.packing)
     (subst (λ (n : Nack). NackSpells n c.write_nack.result.items) (λ i. record { reporter = reporter i; media = media i; pairs = c.as_slice-3.ensures.value i }) c.write_nack.ensures)
     (subst (λ (places : List ℕ). CountsAsks s (g.W.Window.meaning c.count_asks.new.window) (take c.pack-pairs.result.1 places) c.args.now) (c.as_slice-2.ensures.value ∙ due) c.count_asks.ensures)

@@ -1,0 +1,86 @@
+-- One round that settles a world: the receiver asks until nothing is due, and each ask reaches the sender at once; then
+-- the sender retransmits until nothing is marked, and each retransmission reaches the receiver at once. Entries are newest
+-- first here.
+use Rattle.std.specs.Prelude.{◌≡◌, ℕ, ◌+◌, ◌<◌, ◌≤◌, true, IsSome, List, [], ◌∷◌, ◌++◌, reverse, Option, Some, None}
+use Rattle.stores.specs.declared.entry.HistoryEntry.{HistoryEntry}
+use Rattle.sender.specs.History.{History}
+use Rattle.receiver.specs.Window.{Window}
+use Rattle.receiver.specs.Asks.{is_due}
+use Rattle.world.specs.declared.event.Event.{Event}
+use Rattle.world.specs.declared.event.Entry.{Entry}
+use Rattle.world.specs.declared.event.Entry.TheVariants.{Repaired, NoRepair, Asked, NoAsk, Delivered}
+use Rattle.world.specs.Config.{Config}
+use Rattle.world.specs.Answers.{Stand, Step}
+
+-- The entries answer these events, and lead from one stand to another.
+abbrev pub Adds : Config → Stand → List Event → List Entry → Stand → Type 0
+Adds c start [] [] end = end ≡ start
+Adds c start (event ∷ events) (entry ∷ added) end = (mid : Stand) × Adds c start events added mid × Step c mid event entry end
+Adds c start [] (entry ∷ added) end = ⊥
+Adds c start (event ∷ events) [] end = ⊥
+
+-- asks, and after each the delivery of its datagram
+abbrev pub IsAsking : (now : ℕ) → List Entry → Type 0
+IsAsking now [] = Unit {0}
+IsAsking now (Delivered index label moment answer ∷ Asked at asked ∷ added) = (index ≡ at) × (moment ≡ now) × (asked ≡ now) × IsAsking now added
+IsAsking now added = ⊥
+
+-- the asks, then the one that finds nothing due, then retransmissions, and after each the delivery of its datagram
+abbrev pub IsRepairing : (now : ℕ) → List Entry → Type 0
+IsRepairing now (NoAsk asked ∷ added) = (asked ≡ now) × IsAsking now added
+IsRepairing now (Delivered index label moment answer ∷ Repaired place at ∷ added) = (index ≡ at) × (moment ≡ now) × IsRepairing now added
+IsRepairing now added = ⊥
+
+-- the whole round, which ends where nothing is marked
+abbrev pub IsRound : (now : ℕ) → List Entry → Type 0
+IsRound now (NoRepair ∷ added) = IsRepairing now added
+IsRound now added = ⊥
+
+-- a beginning of a round
+abbrev pub IsBegun : (now : ℕ) → List Entry → Type 0
+IsBegun now [] = Unit {0}
+IsBegun now (Asked at asked ∷ added) = (asked ≡ now) × IsAsking now added
+IsBegun now (NoAsk asked ∷ added) = IsRepairing now (NoAsk asked ∷ added)
+IsBegun now (Repaired place at ∷ added) = IsRepairing now added
+IsBegun now (NoRepair ∷ added) = IsRepairing now added
+IsBegun now (Delivered index label moment answer ∷ Asked at asked ∷ added) = IsAsking now (Delivered index label moment answer ∷ Asked at asked ∷ added)
+IsBegun now (Delivered index label moment answer ∷ Repaired place at ∷ added) = IsRepairing now (Delivered index label moment answer ∷ Repaired place at ∷ added)
+IsBegun now added = ⊥
+
+-- A world went on, and what was added to its log is of a kind. Logs are oldest first here, as a world keeps them.
+pub record GoesOn (c : Config) (IsKind : List Entry → Type 0) (old new : Stand) (log grown : List Entry) : Type 0 where
+  pub events : List Event
+  pub added : List Entry
+  pub kind : IsKind added
+  pub adds : Adds c old events added new
+  pub log_is : grown ≡ log ++ reverse added
+
+-- the place is not above the highest one
+abbrev pub IsUpTo : (highest : Option ℕ) → (place : ℕ) → Type 0
+IsUpTo None place = Unit {0}
+IsUpTo (Some highest) place = place ≤ highest
+
+-- No place that is marked lies above the greatest one taken. (Feedback for a packet that the history lost meanwhile may mark
+-- such a place: its number is that of a later packet. Its retransmission could overrun what a round mended.)
+abbrev pub IsMarkedUpTo : (highest : Option ℕ) → History → Type 0
+IsMarkedUpTo highest sender = (place : ℕ) (entry : HistoryEntry) → sender.entries place ≡ Some entry → entry.marked ≡ true → IsUpTo highest place
+
+-- The sender's place is missing at the receiver, where it is the shift below, and due; the history has it, and it may be
+-- retransmitted once more.
+pub record IsMendable (c : Config) (shift : ℕ) (s : Stand) (place now : ℕ) : Type 0 where
+  pub window : Window
+  pub started : s.receiver ≡ Some window
+  pub own : ℕ
+  pub at : own + shift ≡ place
+  pub due : is_due c.receiver.retry c.receiver.asks now (window.missing own) ≡ true
+  pub entry : HistoryEntry
+  pub kept : s.sender.entries place ≡ Some entry
+  pub allowed : entry.repeats < c.repeats
+
+-- the receiver holds the sender's place
+pub record IsMended (shift : ℕ) (s : Stand) (place : ℕ) : Type 0 where
+  pub window : Window
+  pub started : s.receiver ≡ Some window
+  pub own : ℕ
+  pub at : own + shift ≡ place
+  pub held : IsSome (window.held own)
