@@ -16,3 +16,7 @@ mod Spelled
 mod Spans
 mod Among
 mod Totals
+mod Ready
+mod Steps
+mod Mends
+mod Rounds

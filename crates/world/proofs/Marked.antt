@@ -1,12 +1,12 @@
 -- What feedback leaves of an entry: its content and its repeats. Only an entry below the limit gets a mark.
-use Rattle.std.proofs.Common.{◌≡◌, ◌⊎◌, ℕ, ◌<◌, true, List, Option, Some, None, Result, Ok, Err, refl, sym, ap, subst, ◌∙◌, ⊎_elim, inl, inr, arith}
+use Rattle.std.proofs.Common.{◌≡◌, ◌⊎◌, ℕ, ◌<◌, true, List, [], ◌∷◌, Option, Some, None, Result, Ok, Err, refl, sym, ap, subst, ◌∙◌, ⊎_elim, inl, inr, arith}
 use Rattle.std.specs.Option.{option_map}
 use Rattle.std.proofs.lemmas.Bool.{cases_lt}
 use Rattle.std.proofs.lemmas.Option.{none-some, same_Some}
 use Rattle.places.specs.Place.{number}
 use Rattle.rtpwire.specs.declared.content.Content.{Content}
 use Rattle.fbwire.specs.declared.fault.FeedbackFault.{FeedbackFault}
-use Rattle.fbwire.specs.Nack.{Nack}
+use Rattle.fbwire.specs.Nack.{Nack, Names}
 use Rattle.fbwire.specs.Compound.{NacksName}
 use Rattle.stores.specs.declared.entry.HistoryEntry.{HistoryEntry}
 use Rattle.stores.specs.Past.{marked}
@@ -53,6 +53,35 @@ module _ (repeats : ℕ) (old new : History) (q : ℕ) (e : HistoryEntry) where
       (λ can. changed (old.entries q) refl can (sym (marks.marks q here can) ∙ is))
       (λ cannot. unchanged (marks.others q (λ again can. cannot can)) is)
       (can_be_marked repeats (old.entries q))
+
+-- what an entry becomes
+pub record Stays (repeats : ℕ) (named : Type 0) (new : History) (q : ℕ) (e : HistoryEntry) : Type 0 where
+  pub after : HistoryEntry
+  pub there : new.entries q ≡ Some after
+  pub counted : after.repeats ≡ e.repeats
+  pub still : e.marked ≡ true → after.marked ≡ true
+  pub now : named → e.repeats < repeats → after.marked ≡ true
+
+module _ (repeats count : ℕ) (named : ℕ → Type 0) (old new : History) (marks : Marks repeats named old count new) (q : ℕ) where
+  -- a mark stood before, or the number was named
+  pub named_or_was : (e : HistoryEntry) → named (number q) ⊎ (named (number q) → ⊥) → new.entries q ≡ Some e → (old.entries q ≡ Some e) ⊎ named (number q)
+  named_or_was e (inl here) is = inr here
+  named_or_was e (inr other) is = inl (sym (marks.others q (λ here can. other here)) ∙ is)
+
+  same_entry : (e : HistoryEntry) → old.entries q ≡ Some e → new.entries q ≡ old.entries q → (named (number q) → e.repeats < repeats → ⊥) → Stays repeats (named (number q)) new q e
+  same_entry e at same never = record { after = e; there = same ∙ at; counted = refl; still = λ m. m; now = λ here less. absurd (never here less) }
+
+  pub stays : (e : HistoryEntry) → named (number q) ⊎ (named (number q) → ⊥) → old.entries q ≡ Some e → Stays repeats (named (number q)) new q e
+  stays e (inr other) at = same_entry e at (marks.others q (λ here can. other here)) (λ here less. other here)
+  stays e (inl here) at =
+      ⊎_elim
+      (λ can. record { after = marked e; there = marks.marks q here can ∙ ap (λ (o : Option HistoryEntry). option_map marked o) at; counted = refl; still = λ m. refl; now = λ named less. refl })
+      (λ cannot. same_entry e at (marks.others q (λ again can. cannot can)) (λ named less. cannot (subst (λ (o : Option HistoryEntry). CanBeMarked repeats o) (sym at) less)))
+      (can_be_marked repeats (old.entries q))
+
+-- whether one NACK names a number can be told
+pub decided_alone : Decided → (nack : Nack) (n : ℕ) → Names nack.pairs n ⊎ (Names nack.pairs n → ⊥)
+decided_alone decided nack n = ⊎_elim (λ some. ⊎_elim (λ here. inl here) (λ never. absurd never) some) (λ other. inr (λ here. other (inl here))) (decided (nack ∷ []) n)
 
 -- whatever feedback came
 pub was_found : Decided → (c : Config) (old : History) (answer : Result Marking FeedbackFault) (new : History) → MarksOrRefuses c old answer new →

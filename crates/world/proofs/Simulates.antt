@@ -128,14 +128,14 @@ marked_as c old new pairs (Ok marking) marks is = (marks, is)
 marked_as c old new pairs (Err fault) never is = absurd never
 
 -- an ask by the pairs of its label
-asked_by : OneNack → (c : Config) (now index : ℕ) (old new : Stand) (step : AsksTo c old now index new) (r : Option Window) → AsksAny c.receiver r now (Some step.datagram) new.receiver → AsksAnyBy c.receiver r now step.pairs.items new.receiver
+pub asked_by : OneNack → (c : Config) (now index : ℕ) (old new : Stand) (step : AsksTo c old now index new) (r : Option Window) → AsksAny c.receiver r now (Some step.datagram) new.receiver → AsksAnyBy c.receiver r now step.pairs.items new.receiver
 asked_by one c now index old new step None (none, is) = absurd cc
 asked_by one c now index old new step (Some w) asks =
     let answer = asks.answers.1 in
     let same : answer.pairs ≡ step.pairs.items = ap (λ (n : Nack). n.pairs) (one step.datagram.items (nack_of c.receiver.session answer.pairs) (nack_of c.receiver.session step.pairs.items) answer.spells step.spells) in
     record { due = asks.due; each = asks.each; some = asks.answers.0; asked = subst (λ (pairs : List Pair). AsksBy w asks.due now pairs new.receiver) same answer.asked }
 
-none_due : (c : Receiving) (now : ℕ) (r new : Option Window) → AsksAny c r now None new → NoneDue c r now
+pub none_due : (c : Receiving) (now : ℕ) (r new : Option Window) → AsksAny c r now None new → NoneDue c r now
 none_due c now None new step = tt
 none_due c now (Some w) new asks = λ k. sym (asks.each.each k) ∙ ap (λ (due : List ℕ). is_among due k) asks.answers.0
 
@@ -146,7 +146,7 @@ injected_as c old new (Err fault) same is = (same, is)
 
 module _ (laws : Laws) where
   -- a datagram reaches its end as its label does
-  heard_as : (c : Config) → IsConfig c → (past : List Entry) (old new : Stand) (index : ℕ) (label : Label) (now : ℕ) (answer : Answer) →
+  pub heard_as : (c : Config) → IsConfig c → (past : List Entry) (old new : Stand) (index : ℕ) (label : Label) (now : ℕ) (answer : Answer) →
       Keeps c past old.receiver → LearntIs c old.receiver → IsCloseTo (highest_taken past) (place_of label) → Wired c past old → DeliversAt c old index label now answer new → HearsLabel c past (places_of old) label now answer (places_of new)
   heard_as c met past old new index (Media p) now answer keeps own close is delivers =
       let spells = spelled c past old.wire index (Media p, delivers.datagram) is.faithful delivers.there in

@@ -77,7 +77,7 @@ spans_asks room now covered old new t spans =
     }
 
 -- what was learnt says nothing of the span
-spans_learns : (room : ℕ) (old : Window) (learnt : Option ℕ) → Spans room old → Spans room (record old { learnt = learnt })
+pub spans_learns : (room : ℕ) (old : Window) (learnt : Option ℕ) → Spans room old → Spans room (record old { learnt = learnt })
 spans_learns room old learnt spans = record { short = spans.short; above = spans.above; missing = spans.missing }
 
 same_spans : (room : ℕ) (old new : Option Window) → new ≡ old → SpansAny room old → SpansAny room new
