@@ -20,3 +20,4 @@ mod Ready
 mod Steps
 mod Mends
 mod Rounds
+mod RoundSteps

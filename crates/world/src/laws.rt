@@ -1,5 +1,5 @@
 //! Laws on logs. These functions compute nothing: their contracts are the laws.
-ghost use Rattle.std.specs.Prelude.{◌≡◌, ◌≤◌, ℕ, List, Some, reverse, slice_get};
+ghost use Rattle.std.specs.Prelude.{◌≡◌, ◌≤◌, ◌++◌, ℕ, List, Some, reverse, slice_get};
 ghost use Rattle.world.specs.declared.event.Event.{Event};
 ghost use Rattle.world.specs.declared.event.Entry.{Entry};
 ghost use Rattle.world.specs.Config.{Config, IsConfig};
@@ -7,7 +7,9 @@ ghost use Rattle.world.specs.Answers.{Item, Stand, Answers};
 ghost use Rattle.world.specs.Reading.{repairs_of, IsRising, IsFinal, IsStrictlyRising};
 ghost use Rattle.world.specs.Wire.{IsFaithful, SpellsLabel};
 ghost use Rattle.world.specs.Close.{IsClose, IsHonest};
+ghost use Rattle.world.specs.Reach.{highest_taken, shift_of};
 ghost use Rattle.world.specs.Good.{IsGood, PlaysRightly};
+ghost use Rattle.world.specs.Round.{Adds, IsRound, IsMarkedUpTo, IsMendable, IsMended};
 
 use fbwire::{compound_is_determined, nack_is_determined};
 use receiver::{asking_is_determined, hearing_is_determined, playing_is_determined};
@@ -54,6 +56,20 @@ pub fn repeats_are_limited()
 pub fn logs_are_good()
     ensures good { (c : Config) → IsConfig c → (events : List Event) (past : List Entry) (end : Stand) → Answers c events past end → IsClose past → IsHonest past → IsGood c past end }
     ensures beginnings { (c : Config) → IsConfig c → (events : List Event) (log : List Entry) (end : Stand) → Answers c events (reverse log) end → PlaysRightly c log end }
+{
+    compound_is_determined();
+    nack_is_determined();
+    hearing_is_determined();
+    feedback_is_determined();
+}
+
+/// One undisturbed round mends: where a log is close and honest, and no place is marked above the greatest one taken,
+/// each place of the sender's is held afterwards that was missing and due, that the history has, and that may be
+/// retransmitted once more. The log stays close. A receiver that learns its SSRC is no exception.
+pub fn rounds_mend()
+    ensures { (c : Config) → IsConfig c → (before : List Event) (past : List Entry) (old : Stand) → Answers c before past old → IsClose past → IsHonest past
+        → IsMarkedUpTo (highest_taken past) old.sender → (now : ℕ) (events : List Event) (added : List Entry) (new : Stand) → IsRound now added → Adds c old events added new
+        → (place : ℕ) → IsMendable c (shift_of past) old place now → IsMended (shift_of (added ++ past)) new place × IsClose (added ++ past) }
 {
     compound_is_determined();
     nack_is_determined();

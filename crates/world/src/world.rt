@@ -1,5 +1,6 @@
 //! The world: two ends, the wire and the log.
 ghost use Rattle.std.specs.Prelude.{◌≡◌, ◌↔◌, ◌≤◌, ℕ, ◌++◌, [], ◌∷◌, reverse, IsTrue, IfOk, OnOk, OnErr};
+ghost use Rattle.world.specs.Config.{IsConfig};
 ghost use Rattle.world.specs.Answers.{Step, Answers};
 ghost use Rattle.world.specs.Reading.{repairs_of, IsRising, IsFinal};
 ghost use Rattle.world.specs.Wire.{IsFaithful};
@@ -103,6 +104,17 @@ impl<H: History, W: Window> World<H, W> {
         self.closeness = self.closeness.after(&entry);
         self.log.push_reserved(entry.copy());
         Ok(entry)
+    }
+
+    /// Its configuration is within the limits, its stores have the room that this says, and its log answers some events.
+    /// This computes nothing.
+    pub(crate) fn keeps_log(&self)
+        ensures limits { IsConfig self.now.config }
+        ensures logged { IsLogged self.now.config self.now.log (stand_of self.now) }
+        ensures capacity { self.now.receiver.span.capacity ≡ self.now.config.window }
+        ensures kept { self.now.sender.past.capacity ≡ self.now.config.history }
+    {
+        self.config.limits();
     }
 
     /// The wire: each datagram that was put on it, under its label.
