@@ -21,3 +21,4 @@ mod Steps
 mod Mends
 mod Rounds
 mod RoundSteps
+pub mod ScheduleSteps

@@ -12,3 +12,4 @@ pub mod PlaceRun
 pub mod Good
 pub mod World
 pub mod Round
+pub mod Schedule

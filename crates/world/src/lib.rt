@@ -6,12 +6,15 @@ mod config;
 mod ends;
 mod event;
 mod laws;
+mod scheduling;
 mod settling;
 mod world;
 
 pub use config::Config;
 pub use event::{Answer, End, Entry, Event, Label};
 pub use laws::{
-    answers_are_determined, logs_are_good, logs_are_in_order, repeats_are_limited, rounds_mend, wires_are_faithful,
+    answers_are_determined, logs_are_good, logs_are_in_order, repeats_are_limited, rounds_mend,
+    wires_are_faithful,
 };
+pub use scheduling::{numbered_content, schedule};
 pub use world::{World, run};
