@@ -9,11 +9,14 @@ ghost use Rattle.world.specs.Wire.{IsFaithful, SpellsLabel};
 ghost use Rattle.world.specs.Close.{IsClose, IsHonest};
 ghost use Rattle.world.specs.Reach.{highest_taken, shift_of};
 ghost use Rattle.world.specs.Good.{IsGood, PlaysRightly};
+ghost use Rattle.world.specs.World.{stand_of};
 ghost use Rattle.world.specs.Round.{Adds, IsRound, IsMarkedUpTo, IsMendable, IsMended};
 
+use crate::world::World;
 use fbwire::{compound_is_determined, nack_is_determined};
 use receiver::{asking_is_determined, hearing_is_determined, playing_is_determined};
 use sender::{feedback_is_determined, repairing_is_determined, sending_is_determined};
+use stores::{History, Window};
 
 /// Whatever events a log answers, and whatever octets a peer injected: what is played or given up rises place
 /// by place, no place is played twice, and a place that was given up or overrun is never played later.
@@ -91,4 +94,16 @@ pub fn answers_are_determined()
     hearing_is_determined();
     asking_is_determined();
     playing_is_determined();
+}
+
+/// Over whatever stores two worlds keep their contents: with one configuration and the same events they have one log and
+/// one wire.
+pub fn stores_make_no_difference<H: History, W: Window, I: History, V: Window>(
+    one: &World<H, W>,
+    other: &World<I, V>,
+)
+    ensures { one.now.config ≡ other.now.config → (events : List Event) → Answers one.now.config events (reverse one.now.log) (stand_of one.now)
+        → Answers other.now.config events (reverse other.now.log) (stand_of other.now) → (one.now.log ≡ other.now.log) × (one.now.wire ≡ other.now.wire) }
+{
+    answers_are_determined();
 }

@@ -14,7 +14,7 @@ pub use config::Config;
 pub use event::{Answer, End, Entry, Event, Label};
 pub use laws::{
     answers_are_determined, logs_are_good, logs_are_in_order, repeats_are_limited, rounds_mend,
-    wires_are_faithful,
+    stores_make_no_difference, wires_are_faithful,
 };
 pub use scheduling::{numbered_content, schedule};
 pub use world::{World, run};

@@ -1,5 +1,8 @@
 //! The world: two ends, the wire and the log.
 ghost use Rattle.std.specs.Prelude.{◌≡◌, ◌↔◌, ◌≤◌, ℕ, ◌++◌, [], ◌∷◌, reverse, IsTrue, IfOk, OnOk, OnErr};
+ghost use Rattle.sender.specs.Sender.{KeepsLimit as KeepsRepeats};
+ghost use Rattle.receiver.specs.Asks.{KeepsLimit as KeepsAsks};
+ghost use Rattle.receiver.specs.Receiver.{state_of};
 ghost use Rattle.world.specs.Config.{IsConfig};
 ghost use Rattle.world.specs.Answers.{Step, Answers};
 ghost use Rattle.world.specs.Reading.{repairs_of, IsRising, IsFinal};
@@ -144,16 +147,20 @@ impl<H: History, W: Window> World<H, W> {
         self.closeness.holds()
     }
 
-    /// The sender's history.
+    /// The sender's history. It has no more entries than the configuration says, and none that was retransmitted more often.
     pub fn history(&self) -> &H
-        ensures { H.meaning result.now ≡ self.now.sender.past }
+        ensures past { H.meaning result.now ≡ self.now.sender.past }
+        ensures capacity { self.now.sender.past.capacity ≡ self.now.config.history }
+        ensures limit { KeepsRepeats self.now.config.repeats self.now.sender.past }
     {
         self.sender.history()
     }
 
-    /// The receiver's window.
+    /// The receiver's window. It has no more slots than the configuration says, and no place that was asked for more often.
     pub fn window(&self) -> &W
-        ensures { W.meaning result.now ≡ self.now.receiver.span }
+        ensures span { W.meaning result.now ≡ self.now.receiver.span }
+        ensures capacity { self.now.receiver.span.capacity ≡ self.now.config.window }
+        ensures limit { KeepsAsks self.now.config.receiver.asks (state_of self.now.receiver) }
     {
         self.receiver.window()
     }
