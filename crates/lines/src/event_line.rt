@@ -1,6 +1,6 @@
 //! The lines of a script that follow the first: an event each.
 ghost use Rattle.std.specs.Prelude.{◌≡◌};
-ghost use Rattle.lines.specs.EventLine.{delivery_of, event_of, injection_of, play_of, send_of};
+ghost use Rattle.lines.specs.EventLine.{ask_of, delivery_of, end_of_word, event_of, injection_of, play_of, repair_of, send_of};
 ghost use Rattle.lines.specs.Words.{words_left};
 
 use crate::decimal::parse_decimal;
@@ -20,6 +20,12 @@ pub fn parse_event(line: &[u8]) -> Option<Event>
     let (kind, rest) = cut(line);
     if kind == b"S".as_slice() {
         return send(rest);
+    }
+    if kind == b"R".as_slice() {
+        return repair(rest);
+    }
+    if kind == b"A".as_slice() {
+        return ask(rest);
     }
     if kind == b"D".as_slice() {
         return delivery(rest);
@@ -63,8 +69,31 @@ fn send(rest: Option<&[u8]>) -> Option<Event>
     Some(Event::Send(content, padding as u8))
 }
 
+/// No word.
+#[tactic(auto, using(crate::proofs::EventLemmas::more_than_a_repair))]
+fn repair(rest: Option<&[u8]>) -> Option<Event>
+    ensures { result ≡ repair_of (words_left rest.entry) }
+{
+    if rest.is_some() {
+        return None;
+    }
+    Some(Event::Repair)
+}
+
 /// The least and the most of an index, and of a moment.
 const ANY: (u64, u64) = (0, u64::MAX);
+
+/// `NOW`.
+fn ask(rest: Option<&[u8]>) -> Option<Event>
+    ensures { result ≡ ask_of (words_left rest.entry) }
+{
+    let mut numbers = [0];
+    if !read_numbers(rest, &[ANY], &mut numbers) {
+        return None;
+    }
+    let [moment] = numbers;
+    Some(Event::Ask(moment))
+}
 
 /// `INDEX NOW`.
 fn delivery(rest: Option<&[u8]>) -> Option<Event>
@@ -90,7 +119,7 @@ fn play(rest: Option<&[u8]>) -> Option<Event>
     Some(Event::Play(moment))
 }
 
-/// `r OCTETS NOW`.
+/// `END OCTETS NOW`.
 #[tactic(auto, using(crate::proofs::EventLemmas::more_than_an_injection))]
 fn injection(rest: Option<&[u8]>) -> Option<Event>
     ensures { result ≡ injection_of (words_left rest.entry) }
@@ -101,10 +130,21 @@ fn injection(rest: Option<&[u8]>) -> Option<Event>
     if rest.is_some() {
         return None;
     }
-    if end != b"r".as_slice() {
-        return None;
-    }
+    let end = end_of(end)?;
     let datagram = parse_octets(octets)?;
     let moment = parse_decimal(now, u64::MAX)?;
-    Some(Event::Inject(End::Receiver, datagram, moment))
+    Some(Event::Inject(end, datagram, moment))
+}
+
+/// An end, by its letter.
+fn end_of(word: &[u8]) -> Option<End>
+    ensures { result ≡ end_of_word word.now }
+{
+    if word == b"r".as_slice() {
+        return Some(End::Receiver);
+    }
+    if word == b"s".as_slice() {
+        return Some(End::Sender);
+    }
+    None
 }

@@ -1,9 +1,10 @@
 use arrayvec::ArrayVec;
+use fbwire::FeedbackFault;
 use lines::push_entry;
 use places::{Place, PlaceFault};
 use receiver::{Played, ReceiveFault, Taken};
 use rtpwire::{Content, ContentFault, Datagram, Extension, RtpFault};
-use sender::SendFault;
+use sender::{Marked, SendFault};
 use std::alloc::Global;
 use std::process::Abort;
 use std::test::Fail;
@@ -114,6 +115,50 @@ fn what_the_sender_did(rt: HostRuntime) -> Result<(), Fail> {
         (Entry::SendRefused(SendFault::Exhausted), b"refused 45\n"),
     ] {
         has_line(&rt, &entry, want)?;
+    }
+    Ok(())
+}
+
+/// A place's retransmission, and an ask, as the wire's datagrams at these indexes; and where there was none.
+#[test]
+fn what_was_repaired_and_asked(rt: HostRuntime) -> Result<(), Fail> {
+    let place = place(65546)?;
+    for (entry, want) in [
+        (
+            Entry::Repaired { place, index: 0 },
+            b"repair 65546 0 8060000a00000000111111110102\n".as_slice(),
+        ),
+        (Entry::NoRepair, b"repair none\n"),
+        (
+            Entry::Asked { index: 0, now: 3 },
+            b"ask 0 8060000a00000000111111110102\n",
+        ),
+        (Entry::NoAsk { now: 3 }, b"ask none\n"),
+    ] {
+        has_line(&rt, &entry, want)?;
+    }
+    Ok(())
+}
+
+/// What the sender answered to feedback.
+#[test]
+fn what_was_marked(rt: HostRuntime) -> Result<(), Fail> {
+    for (answer, want) in [
+        (Answer::Marked(Marked { places: 0 }), b"marked 0\n".as_slice()),
+        (
+            Answer::Marked(Marked { places: u32::MAX }),
+            b"marked 4294967295\n",
+        ),
+        (
+            Answer::FeedbackRefused(FeedbackFault::Short),
+            b"refused 11\n",
+        ),
+        (
+            Answer::FeedbackRefused(FeedbackFault::WrongReporter),
+            b"refused 19\n",
+        ),
+    ] {
+        has_line(&rt, &injected(answer), want)?;
     }
     Ok(())
 }

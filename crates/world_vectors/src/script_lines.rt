@@ -124,9 +124,9 @@ fn content(
     })
 }
 
-fn inject(octets: &[u8], now: u64) -> Result<Event, Fail> {
+fn inject(end: End, octets: &[u8], now: u64) -> Result<Event, Fail> {
     let datagram = Datagram::try_from(octets).ok().ok_or("the datagram fits")?;
-    Ok(Event::Inject(End::Receiver, datagram, now))
+    Ok(Event::Inject(end, datagram, now))
 }
 
 /// The parts of a content: payload, timestamp, marker, sources, and the profile and words of its extension.
@@ -201,8 +201,11 @@ fn sends(rt: HostRuntime) -> Result<(), Fail> {
 }
 
 #[test]
-fn deliveries_and_plays(rt: HostRuntime) {
-    let cases: [(&[u8], Event); 5] = [
+fn what_is_said_by_numbers(rt: HostRuntime) {
+    let cases: [(&[u8], Event); 8] = [
+        (b"R", Event::Repair),
+        (b"A 0", Event::Ask(0)),
+        (b"A 18446744073709551615", Event::Ask(u64::MAX)),
         (b"D 0 0", Event::Deliver(0, 0)),
         (b"D 3 20", Event::Deliver(3, 20)),
         (
@@ -219,18 +222,24 @@ fn deliveries_and_plays(rt: HostRuntime) {
 
 #[test]
 fn injections(rt: HostRuntime) -> Result<(), Fail> {
-    let cases: [(&[u8], &[u8], u64); 2] = [
-        (b"I r - 5", b"", 5),
-        (b"I r 80Ff 18446744073709551615", b"\x80\xff", u64::MAX),
+    let cases: [(&[u8], End, &[u8], u64); 3] = [
+        (b"I r - 5", End::Receiver, b"", 5),
+        (b"I s 81CD 0", End::Sender, b"\x81\xcd", 0),
+        (
+            b"I r 80Ff 18446744073709551615",
+            End::Receiver,
+            b"\x80\xff",
+            u64::MAX,
+        ),
     ];
-    for (line, octets, now) in cases {
-        assert_eq!(rt; parse_event(line), Some(inject(octets, now)?));
+    for (line, end, octets, now) in cases {
+        assert_eq!(rt; parse_event(line), Some(inject(end, octets, now)?));
     }
     Ok(())
 }
 
 /// Lines that are no event.
-const NO_EVENTS: [&[u8]; 62] = [
+const NO_EVENTS: [&[u8]; 66] = [
     b"",
     b" ",
     b"S",
@@ -288,11 +297,15 @@ const NO_EVENTS: [&[u8]; 62] = [
     b"I r - ",
     b"I r -",
     b"I r - 0 0",
-    b"I s - 0",
+    b"I S - 0",
     b"I x - 0",
     b"I r a 0",
-    b"R",
-    b"A 0",
+    b"R ",
+    b"R 0",
+    b"r",
+    b"A",
+    b"A 0 0",
+    b"a 0",
 ];
 
 #[test]

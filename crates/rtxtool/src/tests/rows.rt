@@ -260,9 +260,9 @@ fn bad_lines(rt: HostRuntime) -> Result<(), Fail> {
         (b"config 1 5 8 8 100 20 3 2\nP 0\nP  0\n", 3, b"wait\n"),
         (b"config 1 5 8 8 100 20 3 2\nP 0\nP 00\nQ\n", 3, b"wait\n"),
         (b"config 1 5 8 8 100 20 3 2\nP 0\nP 0 \n", 3, b"wait\n"),
-        (b"config 1 5 8 8 100 20 3 2\nR\n", 2, b""),
-        (b"config 1 5 8 8 100 20 3 2\nA 0\n", 2, b""),
-        (b"config 1 5 8 8 100 20 3 2\nI s - 0\n", 2, b""),
+        (b"config 1 5 8 8 100 20 3 2\nR 0\n", 2, b""),
+        (b"config 1 5 8 8 100 20 3 2\nA\n", 2, b""),
+        (b"config 1 5 8 8 100 20 3 2\nI S - 0\n", 2, b""),
     ];
     for (script, line, prints) in scripts {
         let (told, printed) = refused(rt.alloc(), script)?;
