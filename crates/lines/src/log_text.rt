@@ -68,11 +68,7 @@ fn push_repaired(
     push_datagram(line, index, wire)
 }
 
-fn push_asked(
-    line: &mut Vec<u8>,
-    index: u64,
-    wire: &[(Label, Datagram)],
-) -> Result<(), OutOfMemory>
+fn push_asked(line: &mut Vec<u8>, index: u64, wire: &[(Label, Datagram)]) -> Result<(), OutOfMemory>
     ensures { OnOk result (line.new.items ≡ line.old.items ++ line_of (codes "ask" ∷ datagram_words wire.now index)) }
 {
     push_text(line, b"ask ")?;

@@ -1,5 +1,5 @@
 -- What a receiver learns over places is the session's own SSRC of the retransmissions.
-use Rattle.std.proofs.Common.{◌≡◌, ℕ, ◌+◌, Bool, true, false, List, [], ◌∷◌, take, Option, Some, None, if◌then◌else◌, IsSomeAnd, Result, Ok, Err, sym, ap, subst, ◌∙◌, refl, inl, inr}
+use Rattle.std.proofs.Common.{◌≡◌, ℕ, ◌+◌, List, [], ◌∷◌, take, Option, Some, None, IsSomeAnd, Result, Ok, Err, sym, ap, subst, ◌∙◌, refl, inl, inr}
 use Rattle.std.proofs.lemmas.Option.{none-some, same_Some}
 use Rattle.places.specs.Place.{number}
 use Rattle.rtpwire.specs.declared.content.Content.{Content}
@@ -11,9 +11,9 @@ use Rattle.receiver.specs.declared.fault.ReceiveFault.{ReceiveFault}
 use Rattle.receiver.specs.declared.fault.ReceiveFault.TheVariants as refused
 use Rattle.receiver.specs.declared.stream.Stream.{Stream}
 use Rattle.receiver.specs.declared.stream.Stream.TheVariants as streams
-use Rattle.receiver.specs.Window.{Window, Starts, Takes, Passes, AnswersPlace, StartsAt, PlaysAny}
+use Rattle.receiver.specs.Window.{Window, Passes, AnswersPlace, StartsAt, PlaysAny}
 use Rattle.receiver.specs.Streams.{known_to, learnt_by}
-use Rattle.receiver.specs.Heard.{AnswersIn, StartsIn}
+use Rattle.receiver.specs.Heard.{AnswersIn}
 use Rattle.receiver.specs.Asks.{Asks}
 use Rattle.fbwire.specs.declared.nack.Pair.{Pair}
 use Rattle.world.specs.declared.event.End.TheVariants.{Sender, Receiver}

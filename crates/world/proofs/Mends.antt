@@ -1,32 +1,31 @@
 -- One undisturbed round holds each place that it can mend, and keeps the log close.
-use Rattle.std.proofs.Common.{◌≡◌, ◌⊎◌, ℕ, ◌+◌, ◌-◌, ◌≤◌, Bool, true, false, List, [], ◌∷◌, ◌++◌, take, max, Option, Some, None, IsSomeAnd, Result, Ok, Err, refl, sym, ap, subst, ◌∙◌, ⊎_elim, inl, inr, arith}
-use Rattle.std.proofs.lemmas.Option.{same_Some}
+use Rattle.std.proofs.Common.{◌≡◌, ◌⊎◌, ℕ, ◌-◌, ◌≤◌, Bool, true, false, List, [], ◌∷◌, ◌++◌, take, max, Option, Some, None, IsSomeAnd, Result, Ok, Err, refl, sym, ap, subst, ◌∙◌, ⊎_elim, inl, inr, arith}
 use Rattle.arrayvec.specs.ArrayVec.{ArrayVec}
-use Rattle.places.specs.Place.{number, reach, IsWithin}
+use Rattle.places.specs.Place.{reach, IsWithin}
 use Rattle.rtpwire.specs.declared.content.Content.{Content}
 use Rattle.stores.specs.declared.entry.HistoryEntry.{HistoryEntry}
 use Rattle.stores.specs.PastByPlace.{is_marked}
 use Rattle.fbwire.specs.declared.nack.Pair.{Pair}
 use Rattle.fbwire.specs.Nack.{Names}
 use Rattle.sender.specs.declared.answer.Marked.{Marked as Marking}
-use Rattle.sender.specs.History.{History, Marks, Repairs, NoneMarked}
+use Rattle.sender.specs.History.{History, Marks, Repairs}
 use Rattle.receiver.specs.declared.answer.Taken.{Taken as Took}
 use Rattle.receiver.specs.declared.fault.ReceiveFault.{ReceiveFault}
 use Rattle.receiver.specs.Window.{Window}
 use Rattle.receiver.specs.Heard.{WasAsked}
-use Rattle.receiver.specs.Asks.{is_due, Asks, AsksAny}
+use Rattle.receiver.specs.Asks.{is_due, Asks}
 use Rattle.world.specs.declared.event.Event.{Event}
 use Rattle.world.specs.declared.event.Label.{Label}
-use Rattle.world.specs.declared.event.Label.TheVariants.{Media, Repair, Feedback}
+use Rattle.world.specs.declared.event.Label.TheVariants.{Repair, Feedback}
 use Rattle.world.specs.declared.event.Answer.{Answer}
 use Rattle.world.specs.declared.event.Answer.TheVariants.{Taken, Refused, Marked, FeedbackRefused}
 use Rattle.world.specs.declared.event.Entry.{Entry}
 use Rattle.world.specs.declared.event.Entry.TheVariants.{Repaired, NoRepair, Asked, NoAsk, Delivered}
 use Rattle.world.specs.Config.{Config, IsConfig}
 use Rattle.world.specs.Labels.{place_of}
-use Rattle.world.specs.Answers.{Item, Stand, told, nack_of, RepairsTo, AsksTo, DeliversAt, Step, Answers}
+use Rattle.world.specs.Answers.{Item, Stand, told, nack_of, DeliversAt, Step, Answers}
 use Rattle.world.specs.Reach.{highest_taken, shift_of, greater, first_or}
-use Rattle.world.specs.Close.{close_distance, IsCloseTo, IsClose, IsHonest}
+use Rattle.world.specs.Close.{IsCloseTo, IsClose, IsHonest}
 use Rattle.world.specs.PlaceRun.{PlaceWorld, stream_in, places_of, ReceivesLabel, AnswersLabel, HearsFeedbackOf, HearsLabel, AsksDueBy, AsksAnyBy, NoneDue, ReceivesSent}
 use Rattle.world.specs.Round.{Adds, IsAsking, IsRepairing, IsRound}
 use Rattle.world.proofs.Marked.{decided_alone}

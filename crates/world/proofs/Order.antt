@@ -13,7 +13,7 @@ use Rattle.receiver.specs.Window.{Window, cursor_after, AnswersPlace, StartsAt, 
 use Rattle.receiver.specs.declared.stream.Stream.{Stream}
 use Rattle.receiver.specs.declared.stream.Stream.TheVariants.{Media, Repair, Candidate}
 use Rattle.receiver.specs.Heard.{AnswersIn, TakesNumber, Hears, TakesOrRefuses}
-use Rattle.receiver.specs.Asks.{Asks, AsksAny, AnswersAsk}
+use Rattle.receiver.specs.Asks.{Asks, AsksAny}
 use Rattle.world.specs.declared.event.Event.{Event}
 use Rattle.world.specs.declared.event.Event.TheVariants.{Send, Repair as Retransmit, Ask, Deliver, Play, Inject}
 use Rattle.world.specs.declared.event.End.{End}

@@ -1,5 +1,5 @@
 -- What each pair of entries of a round does, for one place that can be mended.
-use Rattle.std.proofs.Common.{◌≡◌, ◌≢◌, ◌⊎◌, ℕ, ◌+◌, ◌*◌, ◌<◌, ◌≤◌, Bool, true, false, List, take, Option, Some, None, if◌then◌else◌, IsSome, IsSomeAnd, Result, Ok, Err, refl, sym, ap, subst, ◌∙◌, ⊎_elim, inl, inr, arith}
+use Rattle.std.proofs.Common.{◌≡◌, ◌⊎◌, ℕ, ◌+◌, ◌*◌, ◌<◌, ◌≤◌, Bool, true, false, List, take, Option, Some, None, if◌then◌else◌, IsSome, Result, Ok, Err, refl, sym, ap, subst, ◌∙◌, ⊎_elim, inl, inr, arith}
 use Rattle.std.specs.Option.{option_map}
 use Rattle.std.proofs.lemmas.Bool.{cases_eq, cases_Bool}
 use Rattle.std.proofs.lemmas.Option.{same_Some}
@@ -20,9 +20,9 @@ use Rattle.receiver.specs.Window.{Missed, Window, Takes, AnswersPlace}
 use Rattle.receiver.specs.Heard.{WasAsked, AnswersIn}
 use Rattle.receiver.specs.Asks.{is_due, is_among, asked_once, Asks, AsksBy}
 use Rattle.world.specs.Config.{Config, IsConfig}
-use Rattle.world.specs.PlaceRun.{AsksDueBy, AnswersLabel}
+use Rattle.world.specs.PlaceRun.{AnswersLabel}
 use Rattle.world.proofs.Among.{among_take, number_among, among_number}
-use Rattle.world.proofs.Marked.{Stays, stays, named_or_was, found}
+use Rattle.world.proofs.Marked.{stays, named_or_was, found}
 use Rattle.world.proofs.Spans.{Spans, spans_asks, spans_takes, spans_learns}
 
 -- What stands all through a round. The sender's place p is the receiver's q, and top is the greatest sender's place taken.

@@ -16,7 +16,7 @@ use Rattle.receiver.specs.declared.fault.ReceiveFault.TheVariants as refused
 use Rattle.receiver.specs.Window.{Missed, Window, StartsAt, AnswersPlace, HasPassed, PlaysAny}
 use Rattle.receiver.specs.declared.stream.Stream.{Stream}
 use Rattle.receiver.specs.declared.stream.Stream.TheVariants as streams
-use Rattle.receiver.specs.Streams.{known_to, learnt_by}
+use Rattle.receiver.specs.Streams.{learnt_by}
 use Rattle.receiver.specs.Heard.{AnswersIn}
 use Rattle.receiver.specs.Asks.{Asks}
 use Rattle.world.specs.declared.event.End.TheVariants.{Sender, Receiver}

@@ -1,6 +1,6 @@
 -- What the loops of a round cite: how it grows, entry by entry, that what was done is a beginning of it, and what each pair
 -- of entries counts down.
-use Rattle.std.proofs.Common.{◌≡◌, ℕ, ◌+◌, ◌<◌, ◌≤◌, List, [], ◌∷◌, ◌++◌, length, reverse, Option, Some, None, Result, Ok, Err, OnErr, refl, sym, ap, subst, ◌∙◌, arith, append_assoc, append-nil, length-append}
+use Rattle.std.proofs.Common.{◌≡◌, ℕ, ◌+◌, ◌<◌, List, [], ◌∷◌, ◌++◌, length, reverse, Option, Some, None, Result, Ok, Err, OnErr, refl, sym, ap, subst, ◌∙◌, arith, append_assoc, append-nil, length-append}
 use Rattle.std.specs.Prelude.{MatchOption}
 use Rattle.std.proofs.lemmas.List.{reverse-append, reverse-reverse}
 use Rattle.sender.specs.History.{History}
@@ -8,19 +8,19 @@ use Rattle.receiver.specs.Window.{Window}
 use Rattle.world.specs.declared.event.Event.{Event}
 use Rattle.world.specs.declared.event.Event.TheVariants.{Repair as Retransmit, Ask, Deliver}
 use Rattle.world.specs.declared.event.Label.{Label}
-use Rattle.world.specs.declared.event.Label.TheVariants.{Media, Repair, Feedback}
+use Rattle.world.specs.declared.event.Label.TheVariants.{Repair, Feedback}
 use Rattle.world.specs.declared.event.Answer.{Answer}
 use Rattle.world.specs.declared.event.Entry.{Entry}
 use Rattle.world.specs.declared.event.Entry.TheVariants.{Repaired, NoRepair, Asked, NoAsk, Nothing, Delivered}
 use Rattle.world.specs.Config.{Config, IsConfig}
-use Rattle.world.specs.Answers.{Item, Stand, RepairsTo, AsksTo, DeliversAt, Step, Answers}
+use Rattle.world.specs.Answers.{Item, Stand, AsksTo, DeliversAt, Step, Answers}
 use Rattle.world.specs.Round.{IsAsking, IsRepairing, IsRound, IsBegun, GoesOn}
 use Rattle.world.proofs.Order.{AnyHearing}
 use Rattle.world.proofs.Faithful.{wired}
 use Rattle.world.proofs.Repeats.{counted}
 use Rattle.world.proofs.Simulates.{Laws, asked_by}
 use Rattle.world.proofs.Spans.{spans_all}
-use Rattle.world.proofs.Steps.{adds_answer, asked_step, repaired_step, delivered_step, delivered_last}
+use Rattle.world.proofs.Steps.{adds_answer, asked_step, delivered_step, delivered_last}
 use Rattle.world.proofs.Totals.{asks_left, asks_fall, marks_left, repairs_fall}
 
 -- nothing was done

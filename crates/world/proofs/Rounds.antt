@@ -1,7 +1,6 @@
 -- The law of a round, put together.
-use Rattle.std.proofs.Common.{◌≡◌, ℕ, ◌+◌, ◌≤◌, true, List, ◌++◌, Option, Some, ap, refl, sym, subst, ◌∙◌, inl, inr}
-use Rattle.stores.specs.declared.entry.HistoryEntry.{HistoryEntry}
-use Rattle.receiver.specs.Window.{Missed, Window}
+use Rattle.std.proofs.Common.{ℕ, ◌+◌, List, ◌++◌, Option, Some, ap, refl, subst, ◌∙◌, inl, inr}
+use Rattle.receiver.specs.Window.{Window}
 use Rattle.world.specs.declared.event.Event.{Event}
 use Rattle.world.specs.declared.event.Entry.{Entry}
 use Rattle.world.specs.Config.{Config, IsConfig}

@@ -1,12 +1,11 @@
 -- A step is a function: an event has one entry, and leaves one stand.
-use Rattle.std.proofs.Common.{◌≡◌, ℕ, ◌≤◌, List, [], ◌∷◌, ◌++◌, length, Option, Some, None, Result, Ok, Err, refl, sym, ap, subst, ◌∙◌, arith}
+use Rattle.std.proofs.Common.{◌≡◌, ℕ, ◌≤◌, List, [], ◌∷◌, ◌++◌, length, Option, Some, None, Result, Ok, Err, refl, sym, ap, subst, ◌∙◌}
 use Rattle.std.proofs.lemmas.Option.{none-some, same_Some, slice_get_past}
 use Rattle.arrayvec.specs.ArrayVec.{ArrayVec}
 use Rattle.rtpwire.specs.declared.content.Content.{Content}
 use Rattle.rtpwire.specs.Session.{Streams}
 use Rattle.fbwire.specs.declared.fault.FeedbackFault.{FeedbackFault}
-use Rattle.fbwire.specs.declared.nack.Pair.{Pair}
-use Rattle.fbwire.specs.Nack.{Nack, NackSpells}
+use Rattle.fbwire.specs.Nack.{NackSpells}
 use Rattle.sender.specs.declared.fault.SendFault.{SendFault}
 use Rattle.sender.specs.History.{History}
 use Rattle.sender.specs.Sending.{SendsAny}

@@ -29,7 +29,7 @@ use Rattle.receiver.specs.declared.stream.Stream.{Stream}
 use Rattle.receiver.specs.declared.stream.Stream.TheVariants as streams
 use Rattle.receiver.specs.Streams.{learnt_by, source_of, stream_of}
 use Rattle.receiver.specs.Heard.{AnswersNumber, TakesNumber, Hears}
-use Rattle.receiver.specs.Asks.{is_due, is_among, AsksBy, AsksAny, AsksDue, AnswersAsk}
+use Rattle.receiver.specs.Asks.{is_among, AsksBy, AsksAny}
 use Rattle.world.specs.declared.event.Event.{Event}
 use Rattle.world.specs.declared.event.Event.TheVariants.{Send, Repair as Retransmit, Ask, Deliver, Play, Inject}
 use Rattle.world.specs.declared.event.End.{End}

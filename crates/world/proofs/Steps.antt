@@ -1,11 +1,11 @@
 -- What an entry says of the step that it tells, and what is added to a log.
-use Rattle.std.proofs.Common.{◌≡◌, ℕ, List, [], ◌∷◌, ◌++◌, length, Option, Some, None, refl, sym, ap, subst, ◌∙◌}
+use Rattle.std.proofs.Common.{◌≡◌, ℕ, List, [], ◌∷◌, ◌++◌, length, Some, None, refl, sym, ap, subst, ◌∙◌}
 use Rattle.std.specs.Prelude.{slice_get}
 use Rattle.std.proofs.lemmas.Option.{same_Some}
 use Rattle.sender.specs.History.{NoneMarked}
 use Rattle.receiver.specs.Asks.{AsksAny}
 use Rattle.world.specs.declared.event.Event.{Event}
-use Rattle.world.specs.declared.event.Event.TheVariants.{Send, Repair as Retransmit, Ask, Deliver, Play, Inject}
+use Rattle.world.specs.declared.event.Event.TheVariants.{Repair as Retransmit, Ask, Deliver}
 use Rattle.world.specs.declared.event.Label.{Label}
 use Rattle.world.specs.declared.event.Answer.{Answer}
 use Rattle.world.specs.declared.event.Entry.{Entry}

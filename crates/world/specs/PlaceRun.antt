@@ -27,7 +27,7 @@ use Rattle.receiver.specs.Asks.{is_due, AsksBy}
 use Rattle.world.specs.declared.event.Label.{Label}
 use Rattle.world.specs.declared.event.Label.TheVariants.{Media, Repair, Feedback}
 use Rattle.world.specs.declared.event.Answer.{Answer}
-use Rattle.world.specs.declared.event.Answer.TheVariants.{Taken, Refused, Marked, FeedbackRefused}
+use Rattle.world.specs.declared.event.Answer.TheVariants.{Marked, FeedbackRefused}
 use Rattle.world.specs.declared.event.End.TheVariants.{Sender, Receiver}
 use Rattle.world.specs.declared.event.Entry.{Entry}
 use Rattle.world.specs.declared.event.Entry.TheVariants.{Sent, SendRefused, Repaired, NoRepair, Asked, NoAsk, Nothing, Delivered, Injected, Played}

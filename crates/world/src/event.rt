@@ -107,13 +107,21 @@ pub enum Entry {
     /// A send was refused.
     SendRefused(SendFault),
     /// This place of the sender's was retransmitted, as the wire's datagram at `index`.
-    Repaired { place: Place, index: u64 },
+    Repaired {
+        place: Place,
+        index: u64,
+    },
     /// There was nothing to retransmit.
     NoRepair,
     /// Missing places were asked for, in the wire's datagram at `index`.
-    Asked { index: u64, now: u64 },
+    Asked {
+        index: u64,
+        now: u64,
+    },
     /// There was nothing to ask for.
-    NoAsk { now: u64 },
+    NoAsk {
+        now: u64,
+    },
     /// Nothing is on the wire at the index.
     Nothing,
     /// The wire's datagram at `index`, which has this label, reached its end.

@@ -14,4 +14,4 @@ returns c =
       one_nack = c.nack_is_determined.ensures.one_nack;
     } in
     λ config met before past old answers close honest marks now events added new round adds place m.
-        mends c.hearing_is_determined.ensures.any laws config met before past old answers close honest marks place now m events added new round adds
+    mends c.hearing_is_determined.ensures.any laws config met before past old answers close honest marks place now m events added new round adds

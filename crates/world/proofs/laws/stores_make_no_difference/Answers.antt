@@ -1,4 +1,4 @@
-use Rattle.std.proofs.Common.{◌≡◌, ◌∙◌, List, reverse, sym, ap, subst}
+use Rattle.std.proofs.Common.{◌∙◌, reverse, sym, ap, subst}
 use Rattle.std.proofs.lemmas.List.{reverse-reverse}
 use Rattle.world.specs.World.{stand_of}
 use Rattle.world.specs.Answers.{Answers}

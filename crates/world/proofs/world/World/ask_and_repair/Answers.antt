@@ -1,4 +1,4 @@
-use Rattle.std.proofs.Common.{◌≡◌, ◌∙◌, List, reverse, refl, sym, ap, subst, arith}
+use Rattle.std.proofs.Common.{◌∙◌, List, reverse, refl, sym, ap, subst, arith}
 use Rattle.world.specs.declared.event.Event.TheVariants.{Repair as Retransmit, Ask, Deliver}
 use Rattle.world.specs.declared.event.Entry.{Entry}
 use Rattle.world.specs.declared.event.Entry.TheVariants.{Asked, NoAsk, Repaired, NoRepair}
@@ -6,7 +6,7 @@ use Rattle.world.specs.Answers.{Step}
 use Rattle.world.specs.Config.{Config}
 use Rattle.world.specs.Reach.{shift_of}
 use Rattle.world.specs.Close.{IsClose}
-use Rattle.world.specs.Round.{IsAsking, IsRepairing, IsRound, IsBegun, GoesOn, IsMended}
+use Rattle.world.specs.Round.{IsAsking, IsRepairing, IsBegun, IsMended}
 use Rattle.world.specs.World.{Recorded, stand_of}
 use Rattle.world.proofs.Simulates.{Laws}
 use Rattle.world.proofs.Totals.{asks_left_most, marks_left_most}
