@@ -7,6 +7,18 @@ mod headline;
 #[cfg(test)]
 mod log_lines;
 #[cfg(test)]
+mod missing;
+#[cfg(test)]
+mod peers;
+#[cfg(test)]
+mod schedules;
+#[cfg(test)]
 mod script_lines;
+#[cfg(test)]
+mod scripts;
+#[cfg(test)]
+mod sessions;
+#[cfg(test)]
+mod settles;
 #[cfg(test)]
 mod worlds;

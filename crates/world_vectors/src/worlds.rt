@@ -87,10 +87,16 @@ fn told(entry: &Entry) -> Told {
     match entry {
         Entry::Sent { place, index, .. } => ("sent", place.value(), *index),
         Entry::SendRefused(fault) => ("refused", u64::from(fault.number()), 0),
+        Entry::Repaired { place, index } => ("repair", place.value(), *index),
+        Entry::NoRepair => ("repair none", 0, 0),
+        Entry::Asked { index, .. } => ("ask", *index, 0),
+        Entry::NoAsk { .. } => ("ask none", 0, 0),
         Entry::Nothing => ("nothing", 0, 0),
         Entry::Delivered { answer, .. } | Entry::Injected { answer, .. } => match answer {
             Answer::Taken(taken) => ("taken", taken.place.value(), taken.overrun),
             Answer::Refused(fault) => ("refused", u64::from(fault.number()), 0),
+            Answer::Marked(marked) => ("marked", u64::from(marked.places), 0),
+            Answer::FeedbackRefused(fault) => ("refused", u64::from(fault.number()), 0),
         },
         Entry::Played { played, .. } => match played {
             Played::Packet(place, _) => ("play", place.value(), 0),
@@ -155,42 +161,6 @@ fn the_laws_of_worlds() {
     wires_are_faithful();
 }
 
-#[test]
-fn the_fixed_difference(rt: HostRuntime) -> Result<(), Fail> {
-    let mut world = world(rt.alloc(), 65534, 8)?;
-    shows(
-        &mut world,
-        &[
-            (Row::Send(b"\xaa"), ("sent", 131070, 0)),
-            (Row::Send(b"\xaa"), ("sent", 131071, 1)),
-            (Row::Send(b"\xaa"), ("sent", 131072, 2)),
-            (Row::Deliver(2, 0), ("taken", 65536, 0)),
-            (Row::Deliver(1, 0), ("refused", 35, 0)),
-            (Row::Play(0), ("play", 65536, 0)),
-        ],
-    )
-}
-
-#[test]
-fn an_overrun(rt: HostRuntime) -> Result<(), Fail> {
-    let mut world = world(rt.alloc(), 1, 2)?;
-    shows(
-        &mut world,
-        &[
-            (Row::Send(b"\xaa"), ("sent", 65537, 0)),
-            (Row::Send(b"\xaa"), ("sent", 65538, 1)),
-            (Row::Send(b"\xaa"), ("sent", 65539, 2)),
-            (Row::Send(b"\xaa"), ("sent", 65540, 3)),
-            (Row::Deliver(0, 0), ("taken", 65537, 0)),
-            (Row::Deliver(1, 0), ("taken", 65538, 0)),
-            (Row::Deliver(3, 0), ("taken", 65540, 2)),
-            (Row::Play(0), ("wait", 0, 0)),
-            (Row::Play(100), ("gap", 65539, 0)),
-            (Row::Play(100), ("play", 65540, 0)),
-        ],
-    )
-}
-
 /// With no patience a missing place is given up from the moment on at which it was noticed, and not before.
 #[test]
 fn a_patience_of_nothing(rt: HostRuntime) -> Result<(), Fail> {
@@ -229,36 +199,6 @@ fn nothing_there_and_a_refused_send(rt: HostRuntime) -> Result<(), Fail> {
     assert_eq!(rt; world.wire().len(), 0);
     assert_eq!(rt; world.log().len(), 4);
     Ok(())
-}
-
-#[test]
-fn a_peer_that_invents(rt: HostRuntime) -> Result<(), Fail> {
-    let mut world = world(rt.alloc(), 1, 8)?;
-    shows(
-        &mut world,
-        &[
-            (Row::Inject(b""), ("refused", 1, 0)),
-            (
-                Row::Inject(b"\x80\x60\x00\x01\x00\x00\x00\x00\x44\x44\x44\x44"),
-                ("refused", 31, 0),
-            ),
-            (
-                Row::Inject(b"\x80\x62\x00\x01\x00\x00\x00\x00\x11\x11\x11\x11"),
-                ("refused", 32, 0),
-            ),
-            (
-                Row::Inject(b"\x80\x60\x00\x09\x00\x00\x00\x00\x11\x11\x11\x11\xee"),
-                ("taken", 65545, 0),
-            ),
-            (Row::Send(b"\xaa"), ("sent", 65537, 0)),
-            (Row::Deliver(0, 0), ("refused", 35, 0)),
-            (Row::Play(0), ("play", 65545, 0)),
-            (
-                Row::Inject(b"\x80\x60\xff\xff\x00\x00\x00\x00\x11\x11\x11\x11"),
-                ("refused", 35, 0),
-            ),
-        ],
-    )
 }
 
 #[test]
