@@ -144,7 +144,10 @@ fn what_was_repaired_and_asked(rt: HostRuntime) -> Result<(), Fail> {
 #[test]
 fn what_was_marked(rt: HostRuntime) -> Result<(), Fail> {
     for (answer, want) in [
-        (Answer::Marked(Marked { places: 0 }), b"marked 0\n".as_slice()),
+        (
+            Answer::Marked(Marked { places: 0 }),
+            b"marked 0\n".as_slice(),
+        ),
         (
             Answer::Marked(Marked { places: u32::MAX }),
             b"marked 4294967295\n",
