@@ -3,7 +3,11 @@
 #![tactic(auto)]
 
 #[cfg(test)]
+mod growths;
+#[cfg(test)]
 mod headline;
+#[cfg(test)]
+mod hostile;
 #[cfg(test)]
 mod log_lines;
 #[cfg(test)]

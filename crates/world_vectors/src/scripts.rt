@@ -22,10 +22,14 @@ pub(crate) fn event(alloc: Global, line: &str) -> Result<Event, Fail> {
     }
     let mut text = line.as_bytes().to_vec(alloc)?;
     if line.starts_with("I s ") {
-        text[2] = b'r';
+        if let Some(end) = text.as_mut_slice().get_mut(2) {
+            *end = b'r';
+        }
     }
     if line.starts_with("A ") {
-        text[0] = b'P';
+        if let Some(kind) = text.as_mut_slice().get_mut(0) {
+            *kind = b'P';
+        }
     }
     let read = parse_event(&text).ok_or("an event line")?;
     Ok(match read {

@@ -5,7 +5,7 @@ use rtpwire::{Content, Datagram, Session};
 use sender::SendFault;
 use std::alloc::Global;
 use std::test::Fail;
-use stores::{ListHistory, ListWindow};
+use stores::{History, ListHistory, ListWindow, Window};
 use world::*;
 
 /// Both ends under the session of the rows.
@@ -38,41 +38,52 @@ pub(crate) fn send(payload: &[u8]) -> Result<Event, Fail> {
     Ok(Event::Send(content(payload, 0, false)?, 0))
 }
 
-pub(crate) fn inject(octets: &[u8]) -> Result<Event, Fail> {
+fn inject(end: End, octets: &[u8]) -> Result<Event, Fail> {
     let datagram = Datagram::try_from(octets).ok().ok_or("the datagram fits")?;
-    Ok(Event::Inject(End::Receiver, datagram, 0))
+    Ok(Event::Inject(end, datagram, 0))
 }
 
 /// An event of a table, as data that costs a proof nothing to drop.
 #[derive(Clone, Copy)]
 pub(crate) enum Row {
     Send(&'static [u8]),
+    Repair,
+    Ask(u64),
     Deliver(u64, u64),
     Play(u64),
     Inject(&'static [u8]),
+    /// An injection at the sender.
+    Feedback(&'static [u8]),
 }
 
-fn event_of(row: Row) -> Result<Event, Fail> {
+pub(crate) fn event_of(row: Row) -> Result<Event, Fail> {
     match row {
         Row::Send(payload) => send(payload),
+        Row::Repair => Ok(Event::Repair),
+        Row::Ask(now) => Ok(Event::Ask(now)),
         Row::Deliver(index, now) => Ok(Event::Deliver(index, now)),
         Row::Play(now) => Ok(Event::Play(now)),
-        Row::Inject(octets) => inject(octets),
+        Row::Inject(octets) => inject(End::Receiver, octets),
+        Row::Feedback(octets) => inject(End::Sender, octets),
     }
 }
 
 /// What an entry tells, in short: a name and up to two numbers.
-type Told = (&'static str, u64, u64);
+pub(crate) type Told = (&'static str, u64, u64);
 
 /// Whether the event of a row gives this entry.
-fn gives(world: &mut World<ListHistory, ListWindow>, row: Row, want: Told) -> Result<bool, Fail> {
+fn gives<H: History, W: Window>(
+    world: &mut World<H, W>,
+    row: Row,
+    want: Told,
+) -> Result<bool, Fail> {
     let event = event_of(row)?;
     Ok(does(world, &event)? == want)
 }
 
 /// Does the events of a table, each of which is to give the entry beside it.
-pub(crate) fn shows(
-    world: &mut World<ListHistory, ListWindow>,
+pub(crate) fn shows<H: History, W: Window>(
+    world: &mut World<H, W>,
     rows: &[(Row, Told)],
 ) -> Result<(), Fail> {
     for &(row, want) in rows {
@@ -83,7 +94,7 @@ pub(crate) fn shows(
     Ok(())
 }
 
-fn told(entry: &Entry) -> Told {
+pub(crate) fn told(entry: &Entry) -> Told {
     match entry {
         Entry::Sent { place, index, .. } => ("sent", place.value(), *index),
         Entry::SendRefused(fault) => ("refused", u64::from(fault.number()), 0),
@@ -106,11 +117,19 @@ fn told(entry: &Entry) -> Told {
     }
 }
 
-/// Does an event, and tells its entry.
-pub(crate) fn does(
-    world: &mut World<ListHistory, ListWindow>,
+/// Does an event, and tells its entry. A step whose growth is refused leaves the log and the wire as they were, and is
+/// done again.
+pub(crate) fn does<H: History, W: Window>(
+    world: &mut World<H, W>,
     event: &Event,
 ) -> Result<Told, Fail> {
+    let before = (world.log().len(), world.wire().len());
+    if let Ok(entry) = world.step(event) {
+        return Ok(told(&entry));
+    }
+    if (world.log().len(), world.wire().len()) != before {
+        return Err("a refused step left something")?;
+    }
     let entry = world.step(event).map_err(|_| "memory is ample")?;
     Ok(told(&entry))
 }
@@ -217,61 +236,5 @@ fn limits(rt: HostRuntime) -> Result<(), Fail> {
         assert_eq!(rt; refused.map_err(|fault| fault.number()).err(), Some(53));
     }
     assert!(rt; Config::new(session, 0, 0, 8192, 1, 0, 1, 1, 1).is_ok());
-    Ok(())
-}
-
-/// With memory back, a step that met a want of it gives the entry that it would have given:
-/// `rt try --test --fail-alloc N` refuses the Nth allocation.
-#[test]
-fn a_refused_growth(rt: HostRuntime) -> Result<(), Fail> {
-    let made = match World::<ListHistory, ListWindow>::new(rt.alloc(), &config(1, 8)?) {
-        Ok(made) => Ok(made),
-        Err(_) => World::<ListHistory, ListWindow>::new(rt.alloc(), &config(1, 8)?),
-    };
-    let mut world = made.map_err(|_| "memory is back")?;
-    for (row, want) in [
-        (Row::Send(b"\xaa"), ("sent", 65537, 0)),
-        (Row::Deliver(0, 0), ("taken", 65537, 0)),
-        (Row::Play(0), ("play", 65537, 0)),
-        (Row::Inject(b""), ("refused", 1, 0)),
-    ] {
-        let event = event_of(row)?;
-        let (before, wire) = (world.log().len(), world.wire().len());
-        let entry = match world.step(&event) {
-            Ok(entry) => entry,
-            Err(_) => {
-                assert_eq!(rt; (world.log().len(), world.wire().len()), (before, wire));
-                world.step(&event).map_err(|_| "memory is back")?
-            }
-        };
-        assert_eq!(rt; told(&entry), want);
-    }
-    Ok(())
-}
-
-/// A run that met a want of memory is the same run with memory back.
-#[test]
-fn a_run_with_a_refused_growth(rt: HostRuntime) -> Result<(), Fail> {
-    let events = [
-        send(b"\xaa")?,
-        Event::Deliver(0, 0),
-        Event::Play(0),
-        inject(b"")?,
-    ];
-    let made = match run::<ListHistory, ListWindow>(rt.alloc(), &config(1, 8)?, &events) {
-        Ok(made) => Ok(made),
-        Err(_) => run::<ListHistory, ListWindow>(rt.alloc(), &config(1, 8)?, &events),
-    };
-    let world = made.map_err(|_| "memory is back")?;
-    let wanted = [
-        ("sent", 65537, 0),
-        ("taken", 65537, 0),
-        ("play", 65537, 0),
-        ("refused", 1, 0),
-    ];
-    assert_eq!(rt; world.log().len(), wanted.len());
-    for (entry, want) in world.log().iter().zip(wanted) {
-        assert_eq!(rt; told(entry), want);
-    }
     Ok(())
 }
