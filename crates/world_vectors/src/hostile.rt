@@ -66,7 +66,7 @@ struct Session {
     twin: Attacked,
 }
 
-fn session(alloc: Global) -> Result<Session, Fail> {
+fn started(alloc: Global) -> Result<Session, Fail> {
     let config = config("config 65535 5 16 8 100 20 3 2")?;
     let mut events = Vec::new(alloc);
     for (line, _) in LOSS_ACROSS_THE_WRAP {
@@ -133,7 +133,7 @@ fn refuses(alloc: Global, session: &Session, end: End, octets: &[u8]) -> Result<
 /// A packet of media has at least 12 octets, and feedback that asks for something 16.
 #[test]
 fn each_beginning(rt: HostRuntime) -> Result<(), Fail> {
-    let session = session(rt.alloc())?;
+    let session = started(rt.alloc())?;
     for digits in DATAGRAMS {
         let datagram = octets_of(rt.alloc(), digits)?;
         let octets = datagram.as_slice();
@@ -160,7 +160,7 @@ fn changed(octets: &[u8], at: usize, bits: u8) -> Result<Datagram, Fail> {
 /// None of these is both a packet of media and feedback.
 #[test]
 fn each_bit(rt: HostRuntime) -> Result<(), Fail> {
-    let session = session(rt.alloc())?;
+    let session = started(rt.alloc())?;
     for digits in DATAGRAMS {
         let datagram = octets_of(rt.alloc(), digits)?;
         for at in 0..datagram.len() {
