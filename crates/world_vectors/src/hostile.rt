@@ -114,7 +114,9 @@ fn refusal(world: &mut Attacked, end: End, datagram: Datagram) -> Result<Option<
 /// Injects octets at an end in the middle of the session, and tells whether they are refused. Where they are, the session
 /// goes on as it does without them.
 fn refuses(alloc: Global, session: &Session, end: End, octets: &[u8]) -> Result<bool, Fail> {
-    let (before, after) = session.events.as_slice().split_at(BEFORE);
+    let events = session.events.as_slice();
+    let before = events.get(..BEFORE).ok_or("a session of more events")?;
+    let after = events.get(BEFORE..).ok_or("a session of more events")?;
     let mut world = run(alloc, &session.config, before).map_err(|_| "memory is ample")?;
     if refusal(&mut world, end, datagram_of(octets)?)?.is_none() {
         return Ok(false);
