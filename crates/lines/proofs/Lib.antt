@@ -2,5 +2,6 @@ pub mod WordLemmas
 pub mod DecimalLemmas
 pub mod OctetLemmas
 pub mod NumberLemmas
+pub mod ConfigLemmas
 pub mod EventLemmas
 pub mod HexText

@@ -1,12 +1,13 @@
--- What a config line says: `config FIRST RFIRST HISTORY WINDOW PATIENCE RETRY ASKS REPEATS`.
-use Rattle.std.specs.Prelude.{ℕ, ◌^◌, ◌-◌, nat_le, List, [], ◌∷◌, length, codes, if◌then◌else◌, Option, Some, None}
+-- What a config line says: `config FIRST RFIRST HISTORY WINDOW PATIENCE RETRY ASKS REPEATS`, and `learn`
+-- behind them where the receiver is to learn the SSRC of the retransmissions.
+use Rattle.std.specs.Prelude.{ℕ, Bool, true, false, ◌^◌, ◌-◌, nat_le, List, [], ◌∷◌, length, codes, if◌then◌else◌, Option, Some, None}
 use Rattle.std.specs.Str.{bytes_eq}
 use Rattle.rtpwire.specs.Session.{Streams, streams}
-use Rattle.receiver.specs.Config.{config as receiving}
+use Rattle.receiver.specs.Config.{config_of as receiving}
 use Rattle.world.specs.Config.{Config, config}
 use Rattle.lines.specs.Steps.{◌>>=◌}
 use Rattle.lines.specs.Words.{words_of, longest_line}
-use Rattle.lines.specs.Numbers.{numbers_between}
+use Rattle.lines.specs.Numbers.{numbers_first}
 
 -- the session of every script: the media's SSRC and payload type, the retransmissions', the receiver's SSRC
 abbrev pub script_session : Streams
@@ -25,16 +26,28 @@ config_bounds =
     ∷ (1, 255)  -- how often a content is sent again
     ∷ []
 
--- the numbers of a config line in their order
-abbrev pub config_with : List ℕ → Option Config
-config_with (first ∷ repair_first ∷ history ∷ window ∷ patience ∷ retry ∷ asks ∷ repeats ∷ []) =
-    Some (config (receiving script_session patience retry asks) first repair_first history window repeats)
-config_with _ = None
+-- what the words behind the numbers say: whether the receiver learns
+abbrev pub learns_of : List (List ℕ) → Option Bool
+learns_of [] = Some false
+learns_of (word ∷ []) = if bytes_eq word (codes "learn") then Some true else None
+learns_of _ = None
+
+-- the numbers of a config line in their order, and whether the receiver learns
+abbrev pub config_with : List ℕ → (learns : Bool) → Option Config
+config_with (first ∷ repair_first ∷ history ∷ window ∷ patience ∷ retry ∷ asks ∷ repeats ∷ []) learns =
+    Some (config (receiving script_session patience retry asks learns) first repair_first history window repeats)
+config_with _ _ = None
+
+-- the words behind `config`
+abbrev pub configuration_of : List (List ℕ) → Option Config
+configuration_of words = do
+  numbers ← numbers_first config_bounds words
+  learns ← learns_of numbers.1
+  config_with numbers.0 learns
 
 abbrev pub config_of_words : List (List ℕ) → Option Config
 config_of_words [] = None
-config_of_words (kind ∷ words) =
-    if bytes_eq kind (codes "config") then numbers_between config_bounds words >>= config_with else None
+config_of_words (kind ∷ words) = if bytes_eq kind (codes "config") then configuration_of words else None
 
 -- what a line says as a config line, if it is one
 abbrev pub config_of : List ℕ → Option Config
