@@ -1,7 +1,7 @@
 //! Datagrams that a hostile peer makes of good ones: each proper beginning, and each change of one bit, at both ends.
 
+use crate::both_stores::LOSS_ACROSS_THE_WRAP;
 use crate::scripts::{config, event, goes};
-use crate::sessions::LOSS_ACROSS_THE_WRAP;
 use lines::parse_event;
 use rtpwire::Datagram;
 use std::alloc::Global;
@@ -70,7 +70,7 @@ fn started(alloc: Global) -> Result<Session, Fail> {
     let config = config("config 65535 5 16 8 100 20 3 2")?;
     let mut events = Vec::new(alloc);
     for (line, _) in LOSS_ACROSS_THE_WRAP {
-        events.push(event(alloc, line)?)?;
+        events.push(event(line)?)?;
     }
     let twin = Attacked::new(alloc, &config).map_err(|_| "memory is ample")?;
     let mut session = Session {

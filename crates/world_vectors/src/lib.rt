@@ -1,7 +1,8 @@
-//! Test vectors of worlds, and of the lines of scripts and logs, through the public calls of each crate. There is no code
-//! in it.
+//! Test vectors of worlds and of long lines, through the public calls of each crate. There is no code in it.
 #![tactic(auto)]
 
+#[cfg(test)]
+mod both_stores;
 #[cfg(test)]
 mod growths;
 #[cfg(test)]
@@ -9,19 +10,13 @@ mod headline;
 #[cfg(test)]
 mod hostile;
 #[cfg(test)]
-mod log_lines;
+mod long_lines;
 #[cfg(test)]
 mod missing;
 #[cfg(test)]
-mod peers;
-#[cfg(test)]
 mod schedules;
 #[cfg(test)]
-mod script_lines;
-#[cfg(test)]
 mod scripts;
-#[cfg(test)]
-mod sessions;
 #[cfg(test)]
 mod settles;
 #[cfg(test)]

@@ -15,7 +15,7 @@ fn misses<H: History, W: Window>(
     lines: &[(Line, usize)],
 ) -> Result<bool, Fail> {
     let mut world = World::<H, W>::new(alloc, config).map_err(|_| "memory is ample")?;
-    let send = event(alloc, "S 0 0 0 aa - -")?;
+    let send = event("S 0 0 0 aa - -")?;
     for _ in 0..sends {
         let _entry = world.step(&send).map_err(|_| "memory is ample")?;
     }

@@ -4,7 +4,7 @@ use lines::{parse_config, parse_event, push_entry};
 use std::alloc::Global;
 use std::test::Fail;
 use stores::{History, ListHistory, ListWindow, RingHistory, RingWindow, Window};
-use world::{Config, End, Event, World};
+use world::{Config, Event, World};
 
 /// A line of a script, and the line of the log that answers it.
 pub(crate) type Line = (&'static str, &'static str);
@@ -14,31 +14,9 @@ pub(crate) fn config(line: &str) -> Result<Config, Fail> {
     Ok(parse_config(line.as_bytes()).ok_or("a config line")?)
 }
 
-/// The event of a line: of `R`, of `A NOW`, which reads as `P NOW` does, of `I s OCTETS NOW`, which reads as
-/// `I r OCTETS NOW` does, and of each other line of a script.
-pub(crate) fn event(alloc: Global, line: &str) -> Result<Event, Fail> {
-    if line == "R" {
-        return Ok(Event::Repair);
-    }
-    let mut text = line.as_bytes().to_vec(alloc)?;
-    if line.starts_with("I s ") {
-        if let Some(end) = text.as_mut_slice().get_mut(2) {
-            *end = b'r';
-        }
-    }
-    if line.starts_with("A ") {
-        if let Some(kind) = text.as_mut_slice().get_mut(0) {
-            *kind = b'P';
-        }
-    }
-    let read = parse_event(&text).ok_or("an event line")?;
-    Ok(match read {
-        Event::Play(now) if line.starts_with("A ") => Event::Ask(now),
-        Event::Inject(_, datagram, now) if line.starts_with("I s ") => {
-            Event::Inject(End::Sender, datagram, now)
-        }
-        read => read,
-    })
+/// The event of a script's further line.
+pub(crate) fn event(line: &str) -> Result<Event, Fail> {
+    Ok(parse_event(line.as_bytes()).ok_or("an event line")?)
 }
 
 /// Whether the event of a line is answered by this line of the log.
@@ -47,7 +25,7 @@ fn answers<H: History, W: Window>(
     world: &mut World<H, W>,
     (line, want): Line,
 ) -> Result<bool, Fail> {
-    let event = event(alloc, line)?;
+    let event = event(line)?;
     let entry = world.step(&event).map_err(|_| "memory is ample")?;
     let mut text = Vec::new(alloc);
     push_entry(&mut text, &entry, world.wire()).map_err(|_| "memory is ample")?;

@@ -1,8 +1,7 @@
 //! Rounds that settle a world.
 
-use crate::peers::learning;
+use crate::both_stores::LOSS_ACROSS_THE_WRAP;
 use crate::scripts::{Line, config, goes, tells};
-use crate::sessions::LOSS_ACROSS_THE_WRAP;
 use std::alloc::Global;
 use std::test::Fail;
 use stores::{History, ListHistory, ListWindow, RingHistory, RingWindow, Window};
@@ -90,7 +89,13 @@ fn a_round_in_which_the_receiver_learns(rt: HostRuntime) -> Result<(), Fail> {
             ("P 6", "play 65538 2 0 bb - -"),
         ],
     };
-    assert!(rt; settles_in_both(rt.alloc(), &learning()?, &settled)?);
+    assert!(rt;
+        settles_in_both(
+            rt.alloc(),
+            &config("config 1 5 8 8 100 20 3 2 learn")?,
+            &settled
+        )?
+    );
     Ok(())
 }
 
