@@ -12,6 +12,8 @@ mod hostile;
 #[cfg(test)]
 mod long_lines;
 #[cfg(test)]
+mod long_run;
+#[cfg(test)]
 mod missing;
 #[cfg(test)]
 mod schedules;
