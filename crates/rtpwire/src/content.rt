@@ -57,7 +57,7 @@ impl Content {
         ensures ok { IfOk result (λ content. packet_of content view.now.padding view.now.sequence view.now.payload_type view.now.ssrc ≡ view.now) }
         ensures too_long { IsErr result ↔ IsTooLong view.now }
     {
-        with_payload(view, view.payload())
+        Content::with_payload(view, view.payload())
     }
 
     /// The content of a retransmission that was read: its payload without the original's number. It is
@@ -68,7 +68,35 @@ impl Content {
             packet_of content packet.padding packet.sequence packet.payload_type packet.ssrc ≡ packet) }
         ensures too_long { IsErr result ↔ IsTooLong view.now.packet }
     {
-        with_payload(view.packet(), view.payload())
+        Content::with_payload(view.packet(), view.payload())
+    }
+
+    /// The content of a packet that was read, with this payload in place of the packet's own. It is
+    /// refused where no content holds it: this payload has more than 1200 octets, or the extension more
+    /// than 16 words.
+    ///
+    /// A caller that takes both media and retransmissions finds the payload first, and then reads the
+    /// content at one place, which saves moves of it.
+    pub fn with_payload(view: &RtpView<'_>, payload: &[u8]) -> Result<Content, ContentFault>
+        ensures ok { IfOk result (λ content.
+            packet_of content view.now.padding view.now.sequence view.now.payload_type view.now.ssrc
+            ≡ record view.now { payload = payload.now }) }
+        ensures too_long { IsErr result ↔ IsTooLong (record view.now { payload = payload.now }) }
+    {
+        if payload.len() > MAX_PAYLOAD {
+            return Err(ContentFault::TooLong);
+        }
+        let extension = extension_in(view)?;
+        // The payload goes straight to where it stays: a vector of it would be moved there, whole.
+        let mut content = Content {
+            payload: ArrayVec::new(),
+            timestamp: view.timestamp(),
+            marker: view.marker(),
+            sources: sources_in(view),
+            extension,
+        };
+        push_octets(&mut content.payload, payload);
+        Ok(content)
     }
 
     /// The same content once more. It takes no memory.
@@ -89,29 +117,6 @@ impl Content {
         push_octets(&mut copy.payload, &self.payload);
         copy
     }
-}
-
-/// The content of a packet that was read, with this payload.
-fn with_payload(view: &RtpView<'_>, payload: &[u8]) -> Result<Content, ContentFault>
-    ensures ok { IfOk result (λ content.
-        packet_of content view.now.padding view.now.sequence view.now.payload_type view.now.ssrc
-        ≡ record view.now { payload = payload.now }) }
-    ensures too_long { IsErr result ↔ IsTooLong (record view.now { payload = payload.now }) }
-{
-    if payload.len() > MAX_PAYLOAD {
-        return Err(ContentFault::TooLong);
-    }
-    let extension = extension_in(view)?;
-    // The payload goes straight to where it stays: a vector of it would be moved there, whole.
-    let mut content = Content {
-        payload: ArrayVec::new(),
-        timestamp: view.timestamp(),
-        marker: view.marker(),
-        sources: sources_in(view),
-        extension,
-    };
-    push_octets(&mut content.payload, payload);
-    Ok(content)
 }
 
 fn copy_items<T: Copy + Default + Drop, const N: usize>(items: &ArrayVec<T, N>) -> ArrayVec<T, N>
