@@ -5,5 +5,6 @@ pub mod Whichever
 pub mod Rising
 pub mod Asking
 pub mod SameAsks
+pub mod Found
 pub mod Numbered
 pub mod Limits

@@ -1,6 +1,6 @@
 -- A put of the window is a take of the receiver.
 use Rattle.std.proofs.Common.{◌≡◌, ◌≢◌, ◌⊎◌, ℕ, ◌+◌, ◌-◌, ◌<◌, ◌≤◌, ◌==◌, ◌&&◌, Bool, true, false, cond, List, length, max, Option, Some, None, Ok, nat_lt, arith, refl, ap, sym, subst, slice_get, ◌∙◌, inl, inr, eq-eqb}
-use Rattle.std.specs.Prelude.{IsSomeAnd, IsSome}
+use Rattle.std.specs.Prelude.{IsSomeAnd}
 use Rattle.std.specs.Option.{option_map}
 use Rattle.std.proofs.lemmas.Option.{slice_get_past, same_Some}
 use Rattle.std.proofs.lemmas.Bool.{cases_Bool, cases_lt, eqb-true, lt-ltb, le-ltb}
@@ -123,9 +123,3 @@ pub put_takes : (learnt cursor : Option ℕ) (slots : List Slot) (room : ℕ) (n
 put_takes learnt None slots room new p overrun content now unlearnt is step = (refl, step.0, starts learnt (span None slots room) new p content (unlearnt refl) step.1)
 put_takes learnt (Some k) slots room new p overrun content now unlearnt is step =
     (refl, step.0, not_held _ step.1, overrun_is room k p overrun step.2, takes learnt slots room k new p overrun content now is step.3 step.0 step.2)
-
--- the window is started then
-pub put_starts : (cursor : Option ℕ) (slots : List Slot) (room : ℕ) (new : Span) (p overrun : ℕ) (content : Content) (now : ℕ) →
-    PutStep p content now (span cursor slots room) (Ok overrun) new → IsSome new.cursor
-put_starts None slots room new p overrun content now step = subst (λ (o : Option ℕ). IsSome o) (sym step.1.cursor) refl
-put_starts (Some k) slots room new p overrun content now step = subst (λ (o : Option ℕ). IsSome o) (sym step.3.cursor) refl

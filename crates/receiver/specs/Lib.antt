@@ -6,3 +6,4 @@ pub mod Heard
 pub mod Config
 pub mod Receiver
 pub mod Fault
+pub mod Finding

@@ -1,8 +1,6 @@
 -- A receiver as its callers see it.
-use Rattle.std.specs.Prelude.{◌≡◌, ℕ, Option, Some, None, Result, Ok, Err}
+use Rattle.std.specs.Prelude.{◌≡◌, ℕ, Option, None}
 use Rattle.stores.specs.Span.{Span}
-use Rattle.receiver.specs.declared.answer.Taken.{Taken}
-use Rattle.receiver.specs.declared.fault.ReceiveFault.{ReceiveFault}
 use Rattle.receiver.specs.Config.{Config}
 use Rattle.receiver.specs.Window.{Window, window_of}
 use Rattle.receiver.specs.Asks.{KeepsLimit}
@@ -24,8 +22,3 @@ state_of r = window_of r.learnt r.span
 pub record IsReceiving (r : Receiving) : Type 0 where
   pub unlearnt : IsUnlearnt r.span r.learnt
   pub limit : KeepsLimit r.config.asks (state_of r)
-
--- what a receiver has learnt after it answered a retransmission under an SSRC that may be learnt
-abbrev pub learnt_after : (ssrc : ℕ) → (learnt : Option ℕ) → Result Taken ReceiveFault → Option ℕ
-learnt_after ssrc learnt (Ok taken) = Some ssrc
-learnt_after ssrc learnt (Err fault) = learnt

@@ -1,21 +1,23 @@
 //! The receiving end.
-ghost use Rattle.std.specs.Prelude.{◌≡◌, ◌^◌, ◌<◌, ℕ, Option, None, IsNone, IsSome, IsSomeAnd, OnOk, OnErr};
+ghost use Rattle.std.specs.Prelude.{◌≡◌, ◌↔◌, ◌^◌, ◌<◌, ℕ, Option, None, IsNone, IsSome, IsTrue, OnOk, OnErr};
 ghost use Rattle.std.specs.List.Sorted.{IsStrictlyIncreasing};
 ghost use Rattle.stores.specs.Span.{IsSpan};
+ghost use Rattle.stores.specs.ByPlace.{slot_at};
 ghost use Rattle.receiver.specs.Asks.{AsksAny, CountsMissing, KeepsLimit};
 ghost use Rattle.receiver.specs.Counted.{CanAllBeAsked, CountsAsks};
-ghost use Rattle.receiver.specs.Window.{window_of, TakesPlace, PlaysAny};
-ghost use Rattle.receiver.specs.Streams.{known_to, source_of};
-ghost use Rattle.receiver.specs.Heard.{Hears, TakesNumber, AnswersCandidate};
-ghost use Rattle.receiver.specs.Receiver.{state_of, IsUnlearnt, learnt_after};
+ghost use Rattle.receiver.specs.Window.{window_of, missed_in, PlaysAny};
+ghost use Rattle.receiver.specs.Streams.{source_of};
+ghost use Rattle.receiver.specs.Heard.{Hears, WasAsked};
+ghost use Rattle.receiver.specs.Finding.{FindsPlace};
+ghost use Rattle.receiver.specs.Receiver.{state_of, IsUnlearnt};
 
 use crate::answer::{Played, Taken};
 use crate::config::ReceiverConfig;
 use crate::fault::ReceiveFault;
-use crate::stream::{Stream, stream_of};
+use crate::stream::{Stream, carried_in, known_source, stream_of};
 use fbwire::{pack, write_nack};
 use places::{Place, near};
-use rtpwire::{Content, Datagram, RtpView, RtxView};
+use rtpwire::{Content, Datagram, RtpView};
 use std::marker::Model;
 use stores::{Slot, Window, window_by_place};
 
@@ -156,17 +158,6 @@ impl<W: Window> Receiver<W> {
     }
 }
 
-/// The SSRC of the retransmissions, if it is known, by what was learnt.
-fn known_source(config: &ReceiverConfig, learnt: Option<u32>) -> Option<u32>
-    ensures { result ≡ known_to config.now learnt }
-{
-    if config.learns() {
-        learnt
-    } else {
-        Some(config.session().repair_ssrc())
-    }
-}
-
 /// Hears a datagram: its packet, its stream, what it carries, and then the place of that.
 fn hear<W: Window>(
     window: &mut W,
@@ -182,96 +173,46 @@ fn hear<W: Window>(
     ensures unlearnt { IsUnlearnt (W.meaning window.new) learnt.new }
     ensures capacity { (W.meaning window.new).capacity ≡ (W.meaning window.old).capacity }
 {
+    window_by_place();
     let view = RtpView::read(octets)?;
-    let source = known_source(config, *learnt);
-    let stream = stream_of(&config.session(), source, &view)?;
-    match stream {
-        Stream::Media => {
-            let content = Content::of_view(&view)?;
-            take_number(window, learnt, stream, view.sequence(), content, now)
+    let stream = stream_of(config, *learnt, &view)?;
+    let (seq, payload) = carried_in(stream, &view)?;
+    // One call reads the content of every stream, and one puts it: each further place of a call would move it.
+    let content = Content::with_payload(&view, payload)?;
+    let place = place_for(window, stream, seq)?;
+    match window.put(place, content, now) {
+        Ok(overrun) => {
+            if let Stream::Candidate(ssrc) = stream {
+                *learnt = Some(ssrc);
+            }
+            Ok(Taken { place, overrun })
         }
-        Stream::Repair | Stream::Candidate(_) => {
-            let repair = RtxView::read(&view)?;
-            let content = Content::of_rtx(&repair)?;
-            take_number(window, learnt, stream, repair.original(), content, now)
-        }
+        Err(fault) => Err(ReceiveFault::Put(fault)),
     }
 }
 
-/// Takes a content by the sequence number of its original packet.
-// It has two callers, and what is passed by value to a function that is not inlined is copied there.
-#[inline(always)]
-fn take_number<W: Window>(
-    window: &mut W,
-    learnt: &mut Option<u32>,
-    stream: Stream,
-    seq: u16,
-    content: Content,
-    now: u64,
-) -> Result<Taken, ReceiveFault>
-    requires { IsUnlearnt (W.meaning window.old) learnt.old }
-    ensures takes { TakesNumber (W.meaning window.old).capacity stream (window_of learnt.old (W.meaning window.old)) seq content now result (window_of learnt.new (W.meaning window.new)) }
-    ensures err { OnErr result (W.meaning window.new ≡ W.meaning window.old) }
-    ensures err_learnt { OnErr result (learnt.new ≡ learnt.old) }
-    ensures unlearnt { IsUnlearnt (W.meaning window.new) learnt.new }
-    ensures capacity { (W.meaning window.new).capacity ≡ (W.meaning window.old).capacity }
+/// The place of the sequence number of an original packet, if a packet of this stream may take it.
+fn place_for<W: Window>(window: &W, stream: Stream, seq: u16) -> Result<Place, ReceiveFault>
+    ensures { (learnt : Option ℕ) → FindsPlace stream (window_of learnt (W.meaning window.now)) seq result }
 {
     let Some(highest) = window.highest() else {
         return match stream {
-            Stream::Media => take_place(window, Place::first(seq), content, now),
+            Stream::Media => Ok(Place::first(seq)),
             Stream::Repair | Stream::Candidate(_) => Err(ReceiveFault::NotStarted),
         };
     };
     let place = near(highest, seq)?;
     match stream {
-        Stream::Media | Stream::Repair => take_place(window, place, content, now),
-        Stream::Candidate(ssrc) => {
-            let taken = take_asked(window, place, content, now)?;
-            *learnt = Some(ssrc);
-            Ok(taken)
-        }
+        Stream::Candidate(_) if !was_asked(window, place) => Err(ReceiveFault::Unasked),
+        Stream::Media | Stream::Repair | Stream::Candidate(_) => Ok(place),
     }
 }
 
-/// Takes a content at its place, if that is missing and was asked for.
-fn take_asked<W: Window>(
-    window: &mut W,
-    place: Place,
-    content: Content,
-    now: u64,
-) -> Result<Taken, ReceiveFault>
-    requires { IsSome (W.meaning window.old).cursor }
-    ensures takes { (ssrc : ℕ) (learnt : Option ℕ) → IsSomeAnd (window_of learnt (W.meaning window.old)) (λ old.
-        AnswersCandidate ssrc (W.meaning window.old).capacity old place content now result (window_of (learnt_after ssrc learnt result) (W.meaning window.new))) }
-    ensures err { OnErr result (W.meaning window.new ≡ W.meaning window.old) }
-    ensures started { IsSome (W.meaning window.new).cursor }
-    ensures capacity { (W.meaning window.new).capacity ≡ (W.meaning window.old).capacity }
+/// Whether this place is missing and was asked for.
+fn was_asked<W: Window>(window: &W, place: Place) -> bool
+    ensures { IsTrue result ↔ WasAsked (missed_in (slot_at (W.meaning window.now) place)) }
 {
-    window_by_place();
-    match window.slot(place) {
-        Some(Slot::Missing { asks, .. }) if *asks > 0 => take_place(window, place, content, now),
-        _ => Err(ReceiveFault::Unasked),
-    }
-}
-
-/// Takes a content at its place. Whatever was learnt, that stays so.
-fn take_place<W: Window>(
-    window: &mut W,
-    place: Place,
-    content: Content,
-    now: u64,
-) -> Result<Taken, ReceiveFault>
-    ensures takes { (learnt : Option ℕ) → IsUnlearnt (W.meaning window.old) learnt
-        → TakesPlace (W.meaning window.old).capacity (window_of learnt (W.meaning window.old)) place content now result (window_of learnt (W.meaning window.new)) }
-    ensures err { OnErr result (W.meaning window.new ≡ W.meaning window.old) }
-    ensures started { OnOk result (IsSome (W.meaning window.new).cursor) }
-    ensures capacity { (W.meaning window.new).capacity ≡ (W.meaning window.old).capacity }
-{
-    window_by_place();
-    match window.put(place, content, now) {
-        Ok(overrun) => Ok(Taken { place, overrun }),
-        Err(fault) => Err(ReceiveFault::Put(fault)),
-    }
+    matches!(window.slot(place), Some(Slot::Missing { asks, .. }) if *asks > 0)
 }
 
 /// Plays from a window.

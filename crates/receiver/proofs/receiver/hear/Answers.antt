@@ -1,69 +1,48 @@
-use Rattle.std.proofs.Common.{ℕ, Err, refl, sym, ap, subst, true≢false, ◌∙◌}
-use Rattle.rtpwire.specs.declared.fault.RtpFault.{RtpFault}
-use Rattle.receiver.specs.declared.fault.ReceiveFault.TheVariants as refused
-use Rattle.receiver.specs.declared.stream.Stream.{Stream}
+use Rattle.std.proofs.Common.{◌≡◌, Ok, Err, refl, sym, ◌∙◌}
 use Rattle.receiver.specs.Window.{window_of}
-use Rattle.receiver.specs.Heard.{Carries}
-use Rattle.receiver.proofs.Numbered.{is_err, is_stream, carries_again, only_long, hears_short, hears_long, hears_number}
+use Rattle.receiver.proofs.Numbered.{hears_long, hears_number}
+use Rattle.receiver.proofs.Found.{learnt_in, learns_candidate, learns_nothing, refused_number, takes_number, refuses_number}
 use Rattle.receiver.proofs.receiver.hear.Goals as goal
+use Rattle.receiver.proofs.receiver.hear.Goals.{in-Candidate, in_default}
 
-pub returns-in_err-content-in-Media-clause-hears : goal.returns-in_err-content-in-Media-clause-hears
-returns-in_err-content-in-Media-clause-hears g c =
+pub returns-in_err-content-clause-hears : goal.returns-in_err-content-clause-hears
+returns-in_err-content-clause-hears g c =
     let s = g.W.Window.meaning c.args.window.now in
-    let old = window_of c.args.learnt.now s in
-    let p = c.in_ok-view.view in
-    let stream = c.in_ok-stream.stream in
-    let is = is_stream c.args.learnt.now s.slots s.capacity c.args.config.now s.cursor c.requires p stream c.session.result c.known_source-source.result c.session.ensures c.known_source-source.ensures c.in_ok-stream.ensures in
-    let answer = c.from_residual-in_err-content-in-Media.result in
-    hears_long s.capacity c.args.config.now old c.args.octets.now p c.in_ok-view.ensures.spelled c.args.now stream is answer p.sequence p
-    (subst (λ (x : Stream). Carries x p p.sequence p) (sym c.in-Media.is) (refl, refl)) (c.in_err-content-in-Media.ensures.too_long.0 refl)
-    (only_long c.in_err-content-in-Media.field-0.0 answer c.from_residual-in_err-content-in-Media.ensures.1)
+    hears_long c.args.config.now c.args.learnt.now s c.requires c.in_ok-view.ensures.spelled c.in_ok-stream.ensures c.in_ok-seq.seq c.in_ok-seq.payload.now c.in_ok-seq.ensures.ok c.args.now c.from_residual-in_err-content.result
+    (c.in_err-content.ensures.too_long.0 refl) c.in_err-content.field-0.0 c.from_residual-in_err-content.ensures.1
 
-pub returns-in_ok-content-in-Media-clause-hears : goal.returns-in_ok-content-in-Media-clause-hears
-returns-in_ok-content-in-Media-clause-hears g c =
+pub returns-in_err-place-clause-hears : goal.returns-in_err-place-clause-hears
+returns-in_err-place-clause-hears g c =
     let s = g.W.Window.meaning c.args.window.now in
+    let answer = c.from_residual-in_err-place.result in
     let old = window_of c.args.learnt.now s in
-    let p = c.in_ok-view.view in
-    let stream = c.in_ok-stream.stream in
-    let is = is_stream c.args.learnt.now s.slots s.capacity c.args.config.now s.cursor c.requires p stream c.session.result c.known_source-source.result c.session.ensures c.known_source-source.ensures c.in_ok-stream.ensures in
-    let new = window_of c.take_number.new.learnt (g.W.Window.meaning c.take_number.new.window) in
-    hears_number s.capacity c.args.config.now old c.args.octets.now p c.in_ok-view.ensures.spelled c.args.now stream is c.take_number.result c.sequence.result p c.in_ok-content-in-Media.content new
-    (subst (λ (x : Stream). Carries x p c.sequence.result p) (sym c.in-Media.is) (c.sequence.ensures, refl)) (λ long. true≢false (sym (c.in_ok-content-in-Media.ensures.too_long.1 long)))
-    c.in_ok-content-in-Media.ensures.ok c.take_number.ensures.takes
+    hears_number c.args.config.now c.args.learnt.now s c.requires c.in_ok-view.ensures.spelled c.in_ok-stream.ensures c.in_ok-seq.seq c.in_ok-seq.payload.now c.in_ok-seq.ensures.ok c.args.now answer
+    c.in_ok-content.content c.in_ok-content.ensures.ok c.in_ok-content.ensures.too_long.1 old
+    (refused_number s.capacity c.in_ok-seq.seq c.in_ok-content.content c.args.now c.in_ok-stream.stream old c.in_err-place.field-0.0 answer (c.in_err-place.ensures c.args.learnt.now) c.from_residual-in_err-place.ensures.1)
 
-pub returns-in_err-repair-in-Repair-clause-hears : goal.returns-in_err-repair-in-Repair-clause-hears
-returns-in_err-repair-in-Repair-clause-hears g c =
+pub returns-after-stream-clause-hears : goal.returns-after-stream-clause-hears
+returns-after-stream-clause-hears g c =
     let s = g.W.Window.meaning c.args.window.now in
-    let old = window_of c.args.learnt.now s in
-    let p = c.in_ok-view.view in
-    let stream = c.in_ok-stream.stream in
-    let is = is_stream c.args.learnt.now s.slots s.capacity c.args.config.now s.cursor c.requires p stream c.session.result c.known_source-source.result c.session.ensures c.known_source-source.ensures c.in_ok-stream.ensures in
-    let answer = c.from_residual-in_err-repair-in-Repair.result in
-    hears_short s.capacity c.args.config.now old c.args.octets.now p c.in_ok-view.ensures.spelled c.args.now stream is answer c.in-Repair.is (c.in_err-repair-in-Repair.ensures.no_osn.0 refl)
-    (is_err answer _ c.from_residual-in_err-repair-in-Repair.ensures.1 ∙ ap (λ (f : RtpFault). Err (refused.Rtp f)) c.in_err-repair-in-Repair.ensures.fault)
+    let t = g.W.Window.meaning c.put.new.self in
+    let is = g.met.W.Window.is_span c.args.window.now in
+    let step = c.window_by_place.ensures.put s t c.in_ok-place.place c.args.now c.in_ok-content.content (Ok c.in-Ok.overrun) is c.in-Ok.ensures.answer c.in-Ok.ensures.ok c.in-Ok.ensures.err in
+    let learns : c.match-stream.learnt ≡ learnt_in c.in_ok-stream.stream c.args.learnt.now =
+    elim c.match-stream.branch [
+      | in-Candidate w ↦ w.learnt-is ∙ sym (learns_candidate c.args.learnt.now c.in_ok-stream.stream w.in-Candidate.ssrc w.in-Candidate.is)
+      | in_default w ↦ w.learnt-is ∙ sym (learns_nothing c.args.learnt.now c.in_ok-stream.stream w.in_default.not-Candidate)
+    ] in
+    hears_number c.args.config.now c.args.learnt.now s c.requires c.in_ok-view.ensures.spelled c.in_ok-stream.ensures c.in_ok-seq.seq c.in_ok-seq.payload.now c.in_ok-seq.ensures.ok c.args.now _
+    c.in_ok-content.content c.in_ok-content.ensures.ok c.in_ok-content.ensures.too_long.1 (window_of c.match-stream.learnt t)
+    (takes_number c.args.learnt.now s.slots s.capacity c.in_ok-seq.seq c.in_ok-content.content c.args.now c.in_ok-place.place c.in_ok-stream.stream s.cursor c.in-Ok.overrun t c.match-stream.learnt
+    learns c.requires is (c.in_ok-place.ensures c.args.learnt.now) step)
 
-pub returns-in_err-content-in-Repair-clause-hears : goal.returns-in_err-content-in-Repair-clause-hears
-returns-in_err-content-in-Repair-clause-hears g c =
+pub returns-in-Err-clause-hears : goal.returns-in-Err-clause-hears
+returns-in-Err-clause-hears g c =
     let s = g.W.Window.meaning c.args.window.now in
-    let old = window_of c.args.learnt.now s in
-    let p = c.in_ok-view.view in
-    let stream = c.in_ok-stream.stream in
-    let is = is_stream c.args.learnt.now s.slots s.capacity c.args.config.now s.cursor c.requires p stream c.session.result c.known_source-source.result c.session.ensures c.known_source-source.ensures c.in_ok-stream.ensures in
-    let repair = c.in_ok-repair-in-Repair.repair in
-    let answer = c.from_residual-in_err-content-in-Repair.result in
-    hears_long s.capacity c.args.config.now old c.args.octets.now p c.in_ok-view.ensures.spelled c.args.now stream is answer repair.original repair.packet
-    (carries_again stream repair p c.in-Repair.is c.in_ok-repair-in-Repair.ensures.is) (c.in_err-content-in-Repair.ensures.too_long.0 refl)
-    (only_long c.in_err-content-in-Repair.field-0.0 answer c.from_residual-in_err-content-in-Repair.ensures.1)
-
-pub returns-in_ok-content-in-Repair-clause-hears : goal.returns-in_ok-content-in-Repair-clause-hears
-returns-in_ok-content-in-Repair-clause-hears g c =
-    let s = g.W.Window.meaning c.args.window.now in
-    let old = window_of c.args.learnt.now s in
-    let p = c.in_ok-view.view in
-    let stream = c.in_ok-stream.stream in
-    let is = is_stream c.args.learnt.now s.slots s.capacity c.args.config.now s.cursor c.requires p stream c.session.result c.known_source-source.result c.session.ensures c.known_source-source.ensures c.in_ok-stream.ensures in
-    let repair = c.in_ok-repair-in-Repair.repair in
-    let new = window_of c.take_number-in-Repair.new.learnt (g.W.Window.meaning c.take_number-in-Repair.new.window) in
-    hears_number s.capacity c.args.config.now old c.args.octets.now p c.in_ok-view.ensures.spelled c.args.now stream is c.take_number-in-Repair.result c.original.result repair.packet c.in_ok-content-in-Repair.content new
-    (subst (λ (n : ℕ). Carries stream p n repair.packet) (sym c.original.ensures) (carries_again stream repair p c.in-Repair.is c.in_ok-repair-in-Repair.ensures.is)) (λ long. true≢false (sym (c.in_ok-content-in-Repair.ensures.too_long.1 long)))
-    c.in_ok-content-in-Repair.ensures.ok c.take_number-in-Repair.ensures.takes
+    let t = g.W.Window.meaning c.put.new.self in
+    let is = g.met.W.Window.is_span c.args.window.now in
+    let step = c.window_by_place.ensures.put s t c.in_ok-place.place c.args.now c.in_ok-content.content (Err c.in-Err.fault) is c.in-Err.ensures.answer c.in-Err.ensures.ok c.in-Err.ensures.err in
+    hears_number c.args.config.now c.args.learnt.now s c.requires c.in_ok-view.ensures.spelled c.in_ok-stream.ensures c.in_ok-seq.seq c.in_ok-seq.payload.now c.in_ok-seq.ensures.ok c.args.now _
+    c.in_ok-content.content c.in_ok-content.ensures.ok c.in_ok-content.ensures.too_long.1 (window_of c.args.learnt.now t)
+    (refuses_number c.args.learnt.now s.slots s.capacity c.in_ok-seq.seq c.in_ok-content.content c.args.now c.in_ok-place.place c.in_ok-stream.stream s.cursor c.in-Err.fault t
+    (c.in_ok-place.ensures c.args.learnt.now) step)
