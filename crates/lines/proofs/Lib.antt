@@ -4,4 +4,6 @@ pub mod OctetLemmas
 pub mod NumberLemmas
 pub mod ConfigLemmas
 pub mod EventLemmas
+pub mod SinkLemmas
+pub mod LineLemmas
 pub mod HexText

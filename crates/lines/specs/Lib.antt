@@ -6,5 +6,8 @@ pub mod Numbers
 pub mod NumberSteps
 pub mod ConfigLine
 pub mod EventLine
+pub mod Sink
+pub mod Line
 pub mod ContentText
+pub mod WordText
 pub mod LogText

@@ -1,5 +1,5 @@
 -- The text of a log: one line for each entry. Numbers are decimals.
-use Rattle.std.specs.Prelude.{ℕ, List, [], ◌∷◌, ◌++◌, Option, Some, None, slice_get, codes}
+use Rattle.std.specs.Prelude.{ℕ, List, [], ◌∷◌, Option, Some, None, slice_get, codes}
 use Rattle.std.specs.Fmt.{decimal}
 use Rattle.std.specs.List.{flat_map}
 use Rattle.std.specs.Option.{option_map}
@@ -15,13 +15,8 @@ use Rattle.world.specs.declared.event.Entry.TheVariants.{Sent, SendRefused, Repa
 use Rattle.world.specs.Answers.{Item}
 use Rattle.fbwire.specs.Fault.{feedback_number}
 use Rattle.sender.specs.Fault.{send_number}
+pub use Rattle.lines.specs.Line.{line_of, refused_line}
 use Rattle.lines.specs.ContentText.{octets_text, sources_text, extension_text, marker_text}
-
--- words, with one space between them and a line feed behind the last
-abbrev pub line_of : List (List ℕ) → List ℕ
-line_of [] = codes "\n"
-line_of (word ∷ []) = word ++ codes "\n"
-line_of (word ∷ next ∷ words) = word ++ codes " " ++ line_of (next ∷ words)
 
 -- the octets of the datagram at an index of the wire; none where the wire ends before it, which no log of
 -- a world tells
@@ -31,9 +26,6 @@ octets_in (Some item) = item.1.items
 
 abbrev pub octets_at : List Item → ℕ → List ℕ
 octets_at wire index = octets_in (slice_get wire index)
-
-abbrev pub refused_line : (number : ℕ) → List ℕ
-refused_line number = line_of (codes "refused" ∷ decimal number ∷ [])
 
 -- what an end answered to a datagram
 abbrev pub answer_line : Answer → List ℕ

@@ -6,12 +6,16 @@ mod config_line;
 mod content_text;
 mod decimal;
 mod event_line;
+mod line;
 mod log_text;
 mod numbers;
 mod octets;
+mod sink;
+mod word;
 mod words;
 
 pub use config_line::parse_config;
 pub use event_line::parse_event;
 pub use log_text::push_entry;
+pub use sink::Sink;
 pub use words::{LONGEST_LINE, find_byte};

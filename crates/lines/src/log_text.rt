@@ -1,18 +1,14 @@
 //! The text of a log: one line for each entry.
 ghost use Rattle.std.specs.Prelude.{◌≡◌, ◌∷◌, [], ◌++◌, OnOk, codes};
 ghost use Rattle.std.specs.Fmt.{decimal};
-ghost use Rattle.std.specs.Option.{option_map};
-ghost use Rattle.rtpwire.specs.Content.{extension_of};
-ghost use Rattle.lines.specs.ContentText.{octets_text, sources_text, extension_text};
-ghost use Rattle.lines.specs.LogText.{line_of, refused_line, answer_line, content_words, played_line, datagram_words, entry_line, octets_at};
+ghost use Rattle.lines.specs.LogText.{line_of, answer_line, content_words, played_line, datagram_words, entry_line, octets_at};
 
-use crate::content_text::{
-    push_decimal, push_extension, push_marker, push_octets_text, push_sources, push_text,
-};
+use crate::content_text::{extension_octets, marker_text, source_octets};
+use crate::line::{push_line, push_refused};
+use crate::word::Word;
 use places::Place;
-use receiver::{Played, Taken};
+use receiver::Played;
 use rtpwire::{Content, Datagram};
-use sender::Marked;
 use stores::OutOfMemory;
 use world::{Answer, Entry, Label};
 
@@ -27,66 +23,47 @@ pub fn push_entry(
     ensures { OnOk result (line.new.items ≡ line.old.items ++ entry_line wire.now entry.now) }
 {
     match entry {
-        Entry::Sent { place, index, .. } => push_sent(line, *place, *index, wire),
+        Entry::Sent { place, index, .. } => push_written(line, b"sent", *place, *index, wire),
         Entry::SendRefused(fault) => push_refused(line, fault.number()),
-        Entry::Repaired { place, index } => push_repaired(line, *place, *index, wire),
-        Entry::NoRepair => push_text(line, b"repair none\n"),
+        Entry::Repaired { place, index } => push_written(line, b"repair", *place, *index, wire),
+        Entry::NoRepair => push_line(line, &[Word::Text(b"repair"), Word::Text(b"none")]),
         Entry::Asked { index, .. } => push_asked(line, *index, wire),
-        Entry::NoAsk { .. } => push_text(line, b"ask none\n"),
-        Entry::Nothing => push_text(line, b"nothing\n"),
+        Entry::NoAsk { .. } => push_line(line, &[Word::Text(b"ask"), Word::Text(b"none")]),
+        Entry::Nothing => push_line(line, &[Word::Text(b"nothing")]),
         Entry::Delivered { answer, .. } => push_answer(line, answer),
         Entry::Injected { answer, .. } => push_answer(line, answer),
         Entry::Played { played, .. } => push_played(line, played),
     }
 }
 
-fn push_sent(
+/// The line of a datagram that the sender wrote for a place.
+fn push_written<'a>(
     line: &mut Vec<u8>,
+    kind: &'a [u8],
     place: Place,
     index: u64,
-    wire: &[(Label, Datagram)],
+    wire: &'a [(Label, Datagram)],
 ) -> Result<(), OutOfMemory>
-    ensures { OnOk result (line.new.items ≡ line.old.items ++ line_of (codes "sent" ∷ decimal place ∷ datagram_words wire.now index)) }
+    ensures { OnOk result (line.new.items ≡ line.old.items ++ line_of (kind.now ∷ decimal place ∷ datagram_words wire.now index)) }
 {
-    push_text(line, b"sent ")?;
-    push_decimal(line, place.value())?;
-    push_text(line, b" ")?;
-    push_datagram(line, index, wire)
-}
-
-fn push_repaired(
-    line: &mut Vec<u8>,
-    place: Place,
-    index: u64,
-    wire: &[(Label, Datagram)],
-) -> Result<(), OutOfMemory>
-    ensures { OnOk result (line.new.items ≡ line.old.items ++ line_of (codes "repair" ∷ decimal place ∷ datagram_words wire.now index)) }
-{
-    push_text(line, b"repair ")?;
-    push_decimal(line, place.value())?;
-    push_text(line, b" ")?;
-    push_datagram(line, index, wire)
+    let words = [
+        Word::Text(kind),
+        Word::Decimal(place.value()),
+        Word::Decimal(index),
+        Word::Octets(octets_at(wire, index)),
+    ];
+    push_line(line, &words)
 }
 
 fn push_asked(line: &mut Vec<u8>, index: u64, wire: &[(Label, Datagram)]) -> Result<(), OutOfMemory>
     ensures { OnOk result (line.new.items ≡ line.old.items ++ line_of (codes "ask" ∷ datagram_words wire.now index)) }
 {
-    push_text(line, b"ask ")?;
-    push_datagram(line, index, wire)
-}
-
-/// Appends a datagram of the wire as the last words of a line, with its line feed.
-fn push_datagram(
-    line: &mut Vec<u8>,
-    index: u64,
-    wire: &[(Label, Datagram)],
-) -> Result<(), OutOfMemory>
-    ensures { OnOk result (line.new.items ≡ line.old.items ++ line_of (datagram_words wire.now index)) }
-{
-    push_decimal(line, index)?;
-    push_text(line, b" ")?;
-    push_octets_text(line, octets_at(wire, index))?;
-    push_text(line, b"\n")
+    let words = [
+        Word::Text(b"ask"),
+        Word::Decimal(index),
+        Word::Octets(octets_at(wire, index)),
+    ];
+    push_line(line, &words)
 }
 
 /// The octets of the datagram at an index of the wire.
@@ -99,42 +76,24 @@ fn octets_at(wire: &[(Label, Datagram)], index: u64) -> &[u8]
     }
 }
 
-fn push_refused(line: &mut Vec<u8>, number: u8) -> Result<(), OutOfMemory>
-    ensures { OnOk result (line.new.items ≡ line.old.items ++ refused_line number) }
-{
-    push_text(line, b"refused ")?;
-    push_decimal(line, u64::from(number))?;
-    push_text(line, b"\n")
-}
-
 fn push_answer(line: &mut Vec<u8>, answer: &Answer) -> Result<(), OutOfMemory>
     ensures { OnOk result (line.new.items ≡ line.old.items ++ answer_line answer.now) }
 {
     match answer {
-        Answer::Taken(taken) => push_taken(line, taken),
+        Answer::Taken(taken) => {
+            let place = Word::Decimal(taken.place.value());
+            push_line(
+                line,
+                &[Word::Text(b"taken"), place, Word::Decimal(taken.overrun)],
+            )
+        }
         Answer::Refused(fault) => push_refused(line, fault.number()),
-        Answer::Marked(marked) => push_marked(line, *marked),
+        Answer::Marked(marked) => {
+            let places = Word::Decimal(u64::from(marked.places));
+            push_line(line, &[Word::Text(b"marked"), places])
+        }
         Answer::FeedbackRefused(fault) => push_refused(line, fault.number()),
     }
-}
-
-fn push_taken(line: &mut Vec<u8>, taken: &Taken) -> Result<(), OutOfMemory>
-    ensures { OnOk result (line.new.items ≡ line.old.items
-        ++ line_of (codes "taken" ∷ decimal taken.now.place ∷ decimal taken.now.overrun ∷ [])) }
-{
-    push_text(line, b"taken ")?;
-    push_decimal(line, taken.place.value())?;
-    push_text(line, b" ")?;
-    push_decimal(line, taken.overrun)?;
-    push_text(line, b"\n")
-}
-
-fn push_marked(line: &mut Vec<u8>, marked: Marked) -> Result<(), OutOfMemory>
-    ensures { OnOk result (line.new.items ≡ line.old.items ++ line_of (codes "marked" ∷ decimal marked.places ∷ [])) }
-{
-    push_text(line, b"marked ")?;
-    push_decimal(line, u64::from(marked.places))?;
-    push_text(line, b"\n")
 }
 
 fn push_played(line: &mut Vec<u8>, played: &Played) -> Result<(), OutOfMemory>
@@ -142,8 +101,8 @@ fn push_played(line: &mut Vec<u8>, played: &Played) -> Result<(), OutOfMemory>
 {
     match played {
         Played::Packet(place, content) => push_packet(line, *place, content),
-        Played::Gap(place) => push_gap(line, *place),
-        Played::Wait => push_text(line, b"wait\n"),
+        Played::Gap(place) => push_line(line, &[Word::Text(b"gap"), Word::Decimal(place.value())]),
+        Played::Wait => push_line(line, &[Word::Text(b"wait")]),
     }
 }
 
@@ -151,41 +110,16 @@ fn push_packet(line: &mut Vec<u8>, place: Place, content: &Content) -> Result<()
     ensures { OnOk result (line.new.items ≡ line.old.items
         ++ line_of (codes "play" ∷ decimal place ∷ content_words content.now)) }
 {
-    push_text(line, b"play ")?;
-    push_decimal(line, place.value())?;
-    push_text(line, b" ")?;
-    push_content(line, content)
-}
-
-/// Appends a content as the last words of a line, with its line feed.
-fn push_content(line: &mut Vec<u8>, content: &Content) -> Result<(), OutOfMemory>
-    ensures { OnOk result (line.new.items ≡ line.old.items ++ line_of (content_words content.now)) }
-{
-    push_decimal(line, u64::from(content.timestamp))?;
-    push_text(line, b" ")?;
-    push_marker(line, content.marker)?;
-    push_text(line, b" ")?;
-    push_parts(line, content)
-}
-
-/// Appends the parts of a content that have any length: its payload, its sources and its extension.
-fn push_parts(line: &mut Vec<u8>, content: &Content) -> Result<(), OutOfMemory>
-    ensures { OnOk result (line.new.items ≡ line.old.items
-        ++ line_of (octets_text content.now.payload.items ∷ sources_text content.now.sources.items
-        ∷ extension_text (option_map extension_of content.now.extension) ∷ [])) }
-{
-    push_octets_text(line, content.payload.as_slice())?;
-    push_text(line, b" ")?;
-    push_sources(line, content.sources.as_slice())?;
-    push_text(line, b" ")?;
-    push_extension(line, &content.extension)?;
-    push_text(line, b"\n")
-}
-
-fn push_gap(line: &mut Vec<u8>, place: Place) -> Result<(), OutOfMemory>
-    ensures { OnOk result (line.new.items ≡ line.old.items ++ line_of (codes "gap" ∷ decimal place ∷ [])) }
-{
-    push_text(line, b"gap ")?;
-    push_decimal(line, place.value())?;
-    push_text(line, b"\n")
+    let sources = source_octets(&content.sources);
+    let extension = extension_octets(&content.extension);
+    let words = [
+        Word::Text(b"play"),
+        Word::Decimal(place.value()),
+        Word::Decimal(u64::from(content.timestamp)),
+        Word::Text(marker_text(content.marker)),
+        Word::Octets(&content.payload),
+        Word::Octets(&sources),
+        Word::Octets(&extension),
+    ];
+    push_line(line, &words)
 }
