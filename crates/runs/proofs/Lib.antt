@@ -1,0 +1,2 @@
+pub mod SceneSteps
+pub mod SoakSteps

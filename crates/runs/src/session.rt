@@ -1,0 +1,14 @@
+//! The session of a run.
+ghost use Rattle.std.specs.Prelude.{◌≡◌};
+ghost use Rattle.runs.specs.Session.{soak_config};
+
+use rtpwire::Session;
+use world::Config;
+
+/// The configuration of a drawn run.
+pub(crate) fn soak_config() -> Config
+    ensures { result ≡ soak_config }
+{
+    let session = Session::new(0x1111_1111, 96, 0x2222_2222, 97, 0x3333_3333).unwrap();
+    Config::new(session, 60000, 0, 1024, 1024, 1_000_000, 1, 3, 3).unwrap()
+}

@@ -1,0 +1,96 @@
+//! A run of which a random generator loses packets.
+ghost use Rattle.std.specs.Prelude.{◌≡◌, ◌+◌, ◌≤◌, ◌^◌, ◌<◌, IfOk, OnOk, OnErr};
+ghost use Rattle.rand_core.specs.Stream.{next_u32};
+ghost use Rattle.rand_core.specs.Steps.{first_words};
+ghost use Rattle.world.specs.Schedule.{after_words};
+ghost use Rattle.runs.specs.Scene.{scene_of};
+ghost use Rattle.runs.specs.Soak.{lost, IsBlock, Draws};
+
+use crate::playing::play_all;
+use crate::session::soak_config;
+use crate::stepping::happen_all;
+use crate::tally::Tally;
+use rand_core::{Rng, SeedableRng};
+use rand_pcg::Lcg64Xsh32;
+use std::alloc::Global;
+use stores::{History, OutOfMemory, Window};
+use world::{World, schedule};
+
+/// How many packets are sent before a world is settled.
+const BLOCK: u32 = 256;
+
+/// Sends so many packets, of which words of the generator lose some, and answers what that came to. The loss is in
+/// thousandths, at most 1000.
+///
+/// The packets are done in blocks of 256, the last one with what is left. The packets of a block are sent, and each is
+/// delivered unless its word loses it; then the world is settled by one undisturbed round, and the receiver plays until it
+/// waits. `dropped` counts the packets that were lost.
+///
+/// `OutOfMemory`: the allocator refused a growth. The generator has moved on by the words that were drawn.
+pub fn soak<R: Rng, H: History, W: Window>(
+    alloc: Global,
+    rng: &mut R,
+    packets: u32,
+    loss: u32,
+) -> Result<Tally, OutOfMemory>
+    requires { loss ≤ 1000 }
+    // The tally is that of the log of such a run, for the words of the generator.
+    ensures counts { IfOk result (λ tally. Draws loss packets (R.stream rng.old) tally) }
+    // One word is drawn for each packet.
+    ensures drawn { OnOk result (R.stream rng.new ≡ after_words packets (R.stream rng.old)) }
+{
+    let mut world = World::<H, W>::new(alloc, &soak_config())?;
+    let mut dropped = 0;
+    let mut done = 0;
+    while done < packets {
+        let size = BLOCK.min(packets - done);
+        dropped += soak_block(alloc, &mut world, rng, done, size, loss)?;
+        done += size;
+    }
+    Ok(Tally::of(world.log(), dropped))
+}
+
+/// Does one block of packets after `done` others, and answers how many of them were lost.
+fn soak_block<R: Rng, H: History, W: Window>(
+    alloc: Global,
+    world: &mut World<H, W>,
+    rng: &mut R,
+    done: u32,
+    packets: u32,
+    loss: u32,
+) -> Result<u64, OutOfMemory>
+    requires some { 0 < packets }
+    requires few { packets ≤ 256 }
+    requires loss { loss ≤ 1000 }
+    requires fits { done + packets < 2 ^ 32 }
+    ensures block { OnOk result (IsBlock world.old.config loss done (first_words next_u32 packets (R.stream rng.old)) (scene_of world.old) (scene_of world.new)) }
+    ensures lost { IfOk result (λ count. count ≡ lost loss (first_words next_u32 packets (R.stream rng.old))) }
+    ensures most { IfOk result (λ count. count ≤ packets) }
+    ensures drawn { OnOk result (R.stream rng.new ≡ after_words packets (R.stream rng.old)) }
+    ensures config { world.new.config ≡ world.old.config }
+{
+    let first = world.wire().len() as u64;
+    let mut events = Vec::new(alloc);
+    schedule(rng, first, u64::from(done), packets, loss, &mut events)?;
+    happen_all(world, &events)?;
+    let now = u64::from(done) + u64::from(packets) - 1;
+    world.settle(now)?;
+    play_all(world, now)?;
+    Ok(2 * u64::from(packets) - events.len() as u64)
+}
+
+/// The same over the generator that `Lcg64Xsh32` makes of a seed.
+///
+/// `OutOfMemory`: the allocator refused a growth.
+pub fn soak_seed<H: History, W: Window>(
+    alloc: Global,
+    seed: u64,
+    packets: u32,
+    loss: u32,
+) -> Result<Tally, OutOfMemory>
+    requires { loss ≤ 1000 }
+    ensures { IfOk result (λ tally. Draws loss packets (⟦<Lcg64Xsh32 as Rng>⟧.stream (⟦<Lcg64Xsh32 as SeedableRng>⟧.of_seed (⟦<Lcg64Xsh32 as SeedableRng>⟧.seed_of_u64 seed))) tally) }
+{
+    let mut rng = Lcg64Xsh32::seed_from_u64(seed);
+    soak::<Lcg64Xsh32, H, W>(alloc, &mut rng, packets, loss)
+}

@@ -1,0 +1,32 @@
+//! A world goes on by events.
+ghost use Rattle.std.specs.Prelude.{◌≡◌, IfOk, OnOk, OnErr};
+ghost use Rattle.runs.specs.Scene.{Happens, Does, scene_of};
+
+use stores::{History, OutOfMemory, Window};
+use world::{Entry, Event, World};
+
+/// Does one event.
+pub(crate) fn happen<H: History, W: Window>(
+    world: &mut World<H, W>,
+    event: &Event,
+) -> Result<Entry, OutOfMemory>
+    ensures happens { IfOk result (λ entry. Happens world.old.config (scene_of world.old) event.now entry (scene_of world.new)) }
+    ensures config { world.new.config ≡ world.old.config }
+    ensures err { OnErr result (world.new ≡ world.old) }
+{
+    world.step(event)
+}
+
+/// Does these events, one after the other.
+pub(crate) fn happen_all<H: History, W: Window>(
+    world: &mut World<H, W>,
+    events: &[Event],
+) -> Result<(), OutOfMemory>
+    ensures does { OnOk result (Does world.old.config (scene_of world.old) events.now (scene_of world.new)) }
+    ensures config { world.new.config ≡ world.old.config }
+{
+    for event in events {
+        happen(world, event)?;
+    }
+    Ok(())
+}
