@@ -65,12 +65,14 @@ pub fn content_is_bounded(content: &Content)
 /// Octets and retransmissions determine each other.
 ///
 /// With what [`RtpView::read`](crate::RtpView::read) and [`RtxView::read`](crate::RtxView::read) say, the
-/// third law is the round trip: what [`write_repair`](crate::write_repair) writes is read back.
+/// fourth law is the round trip: what [`write_repair`](crate::write_repair) writes is read back.
 pub fn repair_is_determined()
     // Octets spell the retransmission of at most one content, under one number of an original.
     ensures one { (c d : Content) (o p m n t u r s : ℕ) (octets : List ℕ)
         → RepairSpells c o m t r octets → RepairSpells d p n u s octets
         → (c ≡ d) × (o ≡ p) × (m ≡ n) × (t ≡ u) × (r ≡ s) }
+    // A packet is one retransmission at most: with one number of an original, and one original payload.
+    ensures one_packet { (r s : Repair) (packet : RtpPacket) → IsRepair r packet → IsRepair s packet → r ≡ s }
     // A retransmission has one spelling.
     ensures same { (content : Content) (original sequence payload_type ssrc : ℕ) (octets : List ℕ)
         → RepairSpells content original sequence payload_type ssrc octets

@@ -1,7 +1,7 @@
 use Rattle.std.proofs.Common.{◌≡◌, suc, length, ap, subst, arith}
 use Rattle.rtpwire.specs.Rtp.{RtpPacket, RtpSpells}
 use Rattle.rtpwire.specs.Retransmission.{Repair}
-use Rattle.rtpwire.proofs.Repairs.{one_spelled, same_content, repair-read}
+use Rattle.rtpwire.proofs.Repairs.{one_repair, one_spelled, same_content, repair-read}
 use Rattle.rtpwire.proofs.laws.repair_is_determined.Goals as goal
 
 pub returns-clause-one : goal.returns-clause-one
@@ -13,6 +13,9 @@ returns-clause-one c = λ x y o p m n t u r s octets a b.
       ap (λ (z : Repair). z.packet.payload_type) same,
       ap (λ (z : Repair). z.packet.ssrc) same,
     )
+
+pub returns-clause-one_packet : goal.returns-clause-one_packet
+returns-clause-one_packet c = one_repair
 
 pub returns-clause-read : goal.returns-clause-read
 returns-clause-read c = λ content original sequence payload_type ssrc octets packet spells. (
