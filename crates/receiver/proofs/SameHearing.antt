@@ -1,5 +1,5 @@
 -- What a receiver answers to octets, by the laws of the crates below.
-use Rattle.std.proofs.Common.{◌≡◌, ℕ, ◌+◌, ◌*◌, ◌^◌, ◌<◌, ◌≤◌, List, length, drop, get_or, arith, Option, Some, None, Result, Ok, Err, refl, sym, ap, subst, ◌∙◌, inl, inr, eq-eqb}
+use Rattle.std.proofs.Common.{◌≡◌, ℕ, ◌+◌, ◌^◌, ◌<◌, ◌≤◌, List, length, arith, Option, Some, None, Result, Ok, Err, refl, sym, ap, subst, ◌∙◌, inl, inr, eq-eqb}
 use Rattle.std.proofs.lemmas.Option.{none-some, same_Some}
 use Rattle.places.specs.Place.{IsNear, IsFar, IsPastEnd}
 use Rattle.rtpwire.specs.declared.content.Content.{Content}
@@ -7,7 +7,7 @@ use Rattle.rtpwire.specs.declared.fault.RtpFault.{RtpFault}
 use Rattle.rtpwire.specs.Rtp.{RtpPacket, RtpSpells}
 use Rattle.rtpwire.specs.RtpChecks.{rtp_fault}
 use Rattle.rtpwire.specs.Content.{IsTooLong, packet_of}
-use Rattle.rtpwire.specs.Retransmission.{Repair as RepairPacket, IsRepair, RepairSpells, repair_packet, repair_of, repair_with}
+use Rattle.rtpwire.specs.Retransmission.{Repair as RepairPacket, IsRepair, RepairSpells, repair_packet, repair_of}
 use Rattle.receiver.specs.declared.answer.Taken.{Taken}
 use Rattle.receiver.specs.declared.fault.ReceiveFault.{ReceiveFault}
 use Rattle.receiver.specs.declared.fault.ReceiveFault.TheVariants as refused
@@ -28,39 +28,21 @@ pub record Laws : Type 0 where
   pub near_not_far : (highest seq p : ℕ) → IsNear highest seq p → IsFar highest seq → ⊥
   pub near_not_past_end : (highest seq p : ℕ) → p < 2 ^ 48 → IsNear highest seq p → IsPastEnd highest seq → ⊥
   pub far_not_past_end : (highest seq : ℕ) → IsFar highest seq → IsPastEnd highest seq → ⊥
+  pub one_repair : (x y : RepairPacket) (p : RtpPacket) → IsRepair x p → IsRepair y p → x ≡ y
   pub long : (repair : RepairPacket) (p : RtpPacket) → IsRepair repair p → 2 ≤ length p.payload
 
--- the number in the first two octets of a payload
-number_in : List ℕ → ℕ
-number_in payload = 256 * get_or payload 0 0 + get_or payload 1 0
-
-number_again : (r : RepairPacket) → r.original < 2 ^ 16 → number_in (repair_packet r).payload ≡ r.original
-unfolding number_in
-number_again r fits = omega arith
-
--- what a packet carries as a retransmission
-repair_in : RtpPacket → RepairPacket
-repair_in p = repair_with p (number_in p.payload) (drop 2 p.payload)
-
-repair_again : (r : RepairPacket) → r.original < 2 ^ 16 → repair_in (repair_packet r) ≡ r
-unfolding repair_in
-repair_again r fits = ap (λ (n : ℕ). record r { original = n }) (number_again r fits)
-
-one_repair : (r s : RepairPacket) (p : RtpPacket) → IsRepair r p → IsRepair s p → r ≡ s
-one_repair r s p a b = sym (repair_again r a.original) ∙ ap repair_in (sym a.sent ∙ b.sent) ∙ repair_again s b.original
-
-same_repair : (p : RtpPacket) (m n : ℕ) (a b : RtpPacket) → IsRepair (record { original = m; packet = a }) p → IsRepair (record { original = n; packet = b }) p → (m ≡ n) × (a ≡ b)
-same_repair p m n a b x y =
-    let same = one_repair (record { original = m; packet = a }) (record { original = n; packet = b }) p x y in
-    (ap (λ (r : RepairPacket). r.original) same, ap (λ (r : RepairPacket). r.packet) same)
-
--- a packet of a stream carries one packet at most
-same_carried : (stream : Stream) (p : RtpPacket) (m n : ℕ) (a b : RtpPacket) → Carries stream p m a → Carries stream p n b → (m ≡ n) × (a ≡ b)
-same_carried Media p m n a b (number, is) (number', is') = (number ∙ sym number', is ∙ sym is')
-same_carried Repair p m n a b x y = same_repair p m n a b x y
-same_carried (Candidate ssrc) p m n a b x y = same_repair p m n a b x y
-
 module _ (laws : Laws) where
+  same_repair : (p : RtpPacket) (m n : ℕ) (a b : RtpPacket) → IsRepair (record { original = m; packet = a }) p → IsRepair (record { original = n; packet = b }) p → (m ≡ n) × (a ≡ b)
+  same_repair p m n a b x y =
+      let same = laws.one_repair (record { original = m; packet = a }) (record { original = n; packet = b }) p x y in
+      (ap (λ (r : RepairPacket). r.original) same, ap (λ (r : RepairPacket). r.packet) same)
+
+  -- a packet of a stream carries one packet at most
+  same_carried : (stream : Stream) (p : RtpPacket) (m n : ℕ) (a b : RtpPacket) → Carries stream p m a → Carries stream p n b → (m ≡ n) × (a ≡ b)
+  same_carried Media p m n a b (number, is) (number', is') = (number ∙ sym number', is ∙ sym is')
+  same_carried Repair p m n a b x y = same_repair p m n a b x y
+  same_carried (Candidate ssrc) p m n a b x y = same_repair p m n a b x y
+
   not_short : (stream : Stream) (p : RtpPacket) (seq : ℕ) (carried : RtpPacket) → Carries stream p seq carried → IsTooShort stream p → ⊥
   not_short Media p seq carried carries short = short
   not_short Repair p seq carried carries short = let long = laws.long _ p carries in omega (arith, long, short)

@@ -13,6 +13,7 @@ returns c =
       near_not_far = c.near_is_determined.ensures.near_not_far;
       near_not_past_end = c.near_is_determined.ensures.near_not_past_end;
       far_not_past_end = c.near_is_determined.ensures.far_not_past_end;
+      one_repair = c.repair_is_determined.ensures.one_packet;
       long = c.repair_is_determined.ensures.long;
     } in
     record { one = one_hearing laws; media = media_heard laws; repair = repair_heard laws; any = whichever }
