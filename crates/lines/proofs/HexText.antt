@@ -1,5 +1,5 @@
 -- Hexadecimal digits of octets that lie one after another.
-use Rattle.std.proofs.Common.{◌≡◌, ℕ, ◌/◌, ◌%◌, List, [], ◌∷◌, ◌++◌, refl, ap, ◌∙◌, sym, append_assoc}
+use Rattle.std.proofs.Common.{◌≡◌, ℕ, ◌/◌, ◌%◌, List, [], ◌∷◌, ◌++◌, get_or, codes, refl, ap, ◌∙◌, sym, append_assoc}
 use Rattle.std.specs.List.{slice_index}
 use Rattle.hex.specs.Hex.{encode_with, encode_lower, lower_digits}
 
@@ -22,3 +22,10 @@ pub digits_around : (octets done left piece rest : List ℕ) → octets ≡ done
 digits_around octets done left piece rest whole cut =
     ap encode_lower (octets_around octets done left piece rest whole cut) ∙ digits_append (done ++ piece) rest
     ∙ ap (λ (x : List ℕ). x ++ encode_lower rest) (digits_append done piece)
+
+-- the digits of a pair's two numbers, and what stands between them
+pub pair_digits : (a b c d : ℕ) (digits : List ℕ) → digits ≡ encode_lower (a ∷ b ∷ c ∷ d ∷ [])
+    → get_or digits 0 0 ∷ get_or digits 1 0 ∷ get_or digits 2 0 ∷ get_or digits 3 0 ∷ 58 ∷ get_or digits 4 0 ∷ get_or digits 5 0 ∷ get_or digits 6 0 ∷ get_or digits 7 0 ∷ []
+    ≡ encode_lower (a ∷ b ∷ []) ++ codes ":" ++ encode_lower (c ∷ d ∷ [])
+unfolding encode_with
+pair_digits a b c d digits e = rw e refl

@@ -7,3 +7,5 @@ pub mod EventLemmas
 pub mod SinkLemmas
 pub mod LineLemmas
 pub mod HexText
+pub mod ExtensionLemmas
+pub mod NackLemmas

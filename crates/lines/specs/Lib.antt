@@ -11,3 +11,4 @@ pub mod Line
 pub mod ContentText
 pub mod WordText
 pub mod LogText
+pub mod ShowText

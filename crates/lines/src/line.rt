@@ -1,7 +1,7 @@
 //! Lines, made of words.
 ghost use Rattle.std.specs.Prelude.{map};
 ghost use Rattle.std.specs.List.{flat_map};
-ghost use Rattle.lines.specs.Line.{behind_space, line_of, refused_line};
+ghost use Rattle.lines.specs.Line.{behind_space, joined, line_of, refused_line};
 ghost use Rattle.lines.specs.Sink.{Pushes};
 ghost use Rattle.lines.specs.WordText.{word_text};
 
@@ -12,11 +12,19 @@ use crate::word::{Word, push_word};
 pub(crate) fn push_line<S: Sink>(sink: &mut S, words: &[Word<'_>]) -> Result<(), S::Fault>
     ensures { Pushes result (S.contents sink.old) (S.contents sink.new) (line_of (map word_text words.now)) }
 {
-    if let Some((first, others)) = words.split_first() {
-        push_word(sink, *first)?;
-        push_more(sink, others)?;
-    }
+    push_words(sink, words)?;
     sink.push(b"\n")
+}
+
+/// Pushes words with one space between them.
+pub(crate) fn push_words<S: Sink>(sink: &mut S, words: &[Word<'_>]) -> Result<(), S::Fault>
+    ensures { Pushes result (S.contents sink.old) (S.contents sink.new) (joined (map word_text words.now)) }
+{
+    let Some((first, others)) = words.split_first() else {
+        return Ok(());
+    };
+    push_word(sink, *first)?;
+    push_more(sink, others)
 }
 
 /// Pushes words, each behind a space.
