@@ -121,10 +121,17 @@ module _ (learnt : Option ℕ) (slots : List Slot) (room seq : ℕ) (content : C
   unstarted_takes Late new (under, same) = under
   unstarted_takes Duplicate new (held, same) = held
 
-  pub refuses_number : (stream : Stream) (cursor : Option ℕ) (fault : PutFault) (new : Span) → FindsPlace stream (window_of learnt (kept cursor)) seq (Ok place) →
+  not_put : (stream : Stream) (cursor : Option ℕ) (fault : PutFault) (new : Span) → FindsPlace stream (window_of learnt (kept cursor)) seq (Ok place) →
       PutStep place content now (kept cursor) (Err fault) new →
       TakesNumber room stream (window_of learnt (kept cursor)) seq content now (Err (refused.Put fault)) (window_of learnt new)
-  refuses_number stream None fault new found step = absurd (unstarted_takes fault new step)
-  refuses_number Media (Some k) fault new (near, fits, may) step = inr (inr (place, near, fits, refuses k fault new step))
-  refuses_number Repair (Some k) fault new (near, fits, may) step = inr (inr (place, near, fits, refuses k fault new step))
-  refuses_number (Candidate ssrc) (Some k) fault new (near, fits, asked) step = absurd (not_refused k fault new asked step)
+  not_put stream None fault new found step = absurd (unstarted_takes fault new step)
+  not_put Media (Some k) fault new (near, fits, may) step = inr (inr (place, near, fits, refuses k fault new step))
+  not_put Repair (Some k) fault new (near, fits, may) step = inr (inr (place, near, fits, refuses k fault new step))
+  not_put (Candidate ssrc) (Some k) fault new (near, fits, asked) step = absurd (not_refused k fault new asked step)
+
+  pub refuses_number : (stream : Stream) (cursor : Option ℕ) (fault : PutFault) (answer : Result Taken ReceiveFault) (new : Span) → FindsPlace stream (window_of learnt (kept cursor)) seq (Ok place) →
+      PutStep place content now (kept cursor) (Err fault) new → IsErrAnd answer (λ e. e ≡ refused.Put fault) →
+      TakesNumber room stream (window_of learnt (kept cursor)) seq content now answer (window_of learnt new)
+  refuses_number stream cursor fault answer new found step why =
+      subst (λ (r : Result Taken ReceiveFault). TakesNumber room stream (window_of learnt (kept cursor)) seq content now r (window_of learnt new)) (sym (is_err answer (refused.Put fault) why))
+      (not_put stream cursor fault new found step)

@@ -180,15 +180,11 @@ fn hear<W: Window>(
     // One call reads the content of every stream, and one puts it: each further place of a call would move it.
     let content = Content::with_payload(&view, payload)?;
     let place = place_for(window, stream, seq)?;
-    match window.put(place, content, now) {
-        Ok(overrun) => {
-            if let Stream::Candidate(ssrc) = stream {
-                *learnt = Some(ssrc);
-            }
-            Ok(Taken { place, overrun })
-        }
-        Err(fault) => Err(ReceiveFault::Put(fault)),
+    let overrun = window.put(place, content, now)?;
+    if let Stream::Candidate(ssrc) = stream {
+        *learnt = Some(ssrc);
     }
+    Ok(Taken { place, overrun })
 }
 
 /// The place of the sequence number of an original packet, if a packet of this stream may take it.

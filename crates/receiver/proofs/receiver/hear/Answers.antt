@@ -20,12 +20,12 @@ returns-in_err-place-clause-hears g c =
     c.in_ok-content.content c.in_ok-content.ensures.ok c.in_ok-content.ensures.too_long.1 old
     (refused_number s.capacity c.in_ok-seq.seq c.in_ok-content.content c.args.now c.in_ok-stream.stream old c.in_err-place.field-0.0 answer (c.in_err-place.ensures c.args.learnt.now) c.from_residual-in_err-place.ensures.1)
 
-pub returns-after-stream-clause-hears : goal.returns-after-stream-clause-hears
-returns-after-stream-clause-hears g c =
+pub returns-clause-hears : goal.returns-clause-hears
+returns-clause-hears g c =
     let s = g.W.Window.meaning c.args.window.now in
     let t = g.W.Window.meaning c.put.new.self in
     let is = g.met.W.Window.is_span c.args.window.now in
-    let step = c.window_by_place.ensures.put s t c.in_ok-place.place c.args.now c.in_ok-content.content (Ok c.in-Ok.overrun) is c.in-Ok.ensures.answer c.in-Ok.ensures.ok c.in-Ok.ensures.err in
+    let step = c.window_by_place.ensures.put s t c.in_ok-place.place c.args.now c.in_ok-content.content (Ok c.in_ok-overrun.overrun) is c.in_ok-overrun.ensures.answer c.in_ok-overrun.ensures.ok c.in_ok-overrun.ensures.err in
     let learns : c.match-stream.learnt ≡ learnt_in c.in_ok-stream.stream c.args.learnt.now =
     elim c.match-stream.branch [
       | in-Candidate w ↦ w.learnt-is ∙ sym (learns_candidate c.args.learnt.now c.in_ok-stream.stream w.in-Candidate.ssrc w.in-Candidate.is)
@@ -33,16 +33,17 @@ returns-after-stream-clause-hears g c =
     ] in
     hears_number c.args.config.now c.args.learnt.now s c.requires c.in_ok-view.ensures.spelled c.in_ok-stream.ensures c.in_ok-seq.seq c.in_ok-seq.payload.now c.in_ok-seq.ensures.ok c.args.now _
     c.in_ok-content.content c.in_ok-content.ensures.ok c.in_ok-content.ensures.too_long.1 (window_of c.match-stream.learnt t)
-    (takes_number c.args.learnt.now s.slots s.capacity c.in_ok-seq.seq c.in_ok-content.content c.args.now c.in_ok-place.place c.in_ok-stream.stream s.cursor c.in-Ok.overrun t c.match-stream.learnt
+    (takes_number c.args.learnt.now s.slots s.capacity c.in_ok-seq.seq c.in_ok-content.content c.args.now c.in_ok-place.place c.in_ok-stream.stream s.cursor c.in_ok-overrun.overrun t c.match-stream.learnt
     learns c.requires is (c.in_ok-place.ensures c.args.learnt.now) step)
 
-pub returns-in-Err-clause-hears : goal.returns-in-Err-clause-hears
-returns-in-Err-clause-hears g c =
+pub returns-in_err-overrun-clause-hears : goal.returns-in_err-overrun-clause-hears
+returns-in_err-overrun-clause-hears g c =
+    let answer = c.from_residual-in_err-overrun.result in
     let s = g.W.Window.meaning c.args.window.now in
     let t = g.W.Window.meaning c.put.new.self in
     let is = g.met.W.Window.is_span c.args.window.now in
-    let step = c.window_by_place.ensures.put s t c.in_ok-place.place c.args.now c.in_ok-content.content (Err c.in-Err.fault) is c.in-Err.ensures.answer c.in-Err.ensures.ok c.in-Err.ensures.err in
-    hears_number c.args.config.now c.args.learnt.now s c.requires c.in_ok-view.ensures.spelled c.in_ok-stream.ensures c.in_ok-seq.seq c.in_ok-seq.payload.now c.in_ok-seq.ensures.ok c.args.now _
+    let step = c.window_by_place.ensures.put s t c.in_ok-place.place c.args.now c.in_ok-content.content (Err c.in_err-overrun.field-0.0) is c.in_err-overrun.ensures.answer c.in_err-overrun.ensures.ok c.in_err-overrun.ensures.err in
+    hears_number c.args.config.now c.args.learnt.now s c.requires c.in_ok-view.ensures.spelled c.in_ok-stream.ensures c.in_ok-seq.seq c.in_ok-seq.payload.now c.in_ok-seq.ensures.ok c.args.now answer
     c.in_ok-content.content c.in_ok-content.ensures.ok c.in_ok-content.ensures.too_long.1 (window_of c.args.learnt.now t)
-    (refuses_number c.args.learnt.now s.slots s.capacity c.in_ok-seq.seq c.in_ok-content.content c.args.now c.in_ok-place.place c.in_ok-stream.stream s.cursor c.in-Err.fault t
-    (c.in_ok-place.ensures c.args.learnt.now) step)
+    (refuses_number c.args.learnt.now s.slots s.capacity c.in_ok-seq.seq c.in_ok-content.content c.args.now c.in_ok-place.place c.in_ok-stream.stream s.cursor c.in_err-overrun.field-0.0 answer t
+    (c.in_ok-place.ensures c.args.learnt.now) step c.from_residual-in_err-overrun.ensures.1)
