@@ -1,4 +1,4 @@
--- What was done with a window, as what the receiver answers to a sequence number and to a packet.
+-- What was done with what a datagram carries, as what the receiver answers to the datagram.
 use Rattle.std.proofs.Common.{◌≡◌, ℕ, true, false, true≢false, List, Option, Some, None, Result, Ok, Err, refl, sym, ap, subst, ◌∙◌, inl, inr}
 use Rattle.std.specs.Prelude.{IsErrAnd}
 use Rattle.rtpwire.specs.declared.content.Content.{Content}

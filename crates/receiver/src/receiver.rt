@@ -177,7 +177,8 @@ fn hear<W: Window>(
     let view = RtpView::read(octets)?;
     let stream = stream_of(config, *learnt, &view)?;
     let (seq, payload) = carried_in(stream, &view)?;
-    // One call reads the content of every stream, and one puts it: each further place of a call would move it.
+    // One call reads the content of every stream, and one puts it: a second of either would move it once more
+    // (docs/DECISIONS.md, "Costs").
     let content = Content::with_payload(&view, payload)?;
     let place = place_for(window, stream, seq)?;
     let overrun = window.put(place, content, now)?;
@@ -187,7 +188,7 @@ fn hear<W: Window>(
     Ok(Taken { place, overrun })
 }
 
-/// The place of the sequence number of an original packet, if a packet of this stream may take it.
+/// The place of an original packet by its sequence number, if a packet of this stream may have it.
 fn place_for<W: Window>(window: &W, stream: Stream, seq: u16) -> Result<Place, ReceiveFault>
     ensures { (learnt : Option ℕ) → FindsPlace stream (window_of learnt (W.meaning window.now)) seq result }
 {
