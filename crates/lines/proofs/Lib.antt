@@ -9,3 +9,4 @@ pub mod LineLemmas
 pub mod HexText
 pub mod ExtensionLemmas
 pub mod NackLemmas
+pub mod PackLemmas

@@ -1,7 +1,7 @@
 -- Texts that are pushed one after another.
 use Rattle.std.proofs.Common.{◌≡◌, ℕ, List, [], ◌++◌, sym, ap, ◌∙◌, subst, append_assoc, append-nil, Option, Some, None, Result, Ok, Err}
 use Rattle.std.specs.Io.KnownBytes.{Appends}
-use Rattle.std.specs.Result.{IsErr}
+use Rattle.std.specs.Result.{IsErr, OnErr}
 use Rattle.lines.specs.Sink.{AppendsFront, Pushes}
 
 pub none_appended : (a : Option (List ℕ)) → Appends a a []
@@ -55,3 +55,8 @@ pub ends_with : {U F : Type 0} (r : Result U F) (a b c : Option (List ℕ)) (xs 
     → Appends a b xs → Pushes r b c ys → Pushes r a c text
 ends_with (Ok u) a b c xs ys text e done last = subst (Appends a c) (sym e) (both_appended a b c xs ys done last)
 ends_with (Err f) a b c xs ys text e done last = subst (AppendsFront a c) (sym e) (stopped_in_next a b c xs ys done last)
+
+-- what holds in any case holds after an Err
+pub at_err : {U F P : Type 0} (r : Result U F) → P → OnErr r P
+at_err (Ok u) p = tt
+at_err (Err e) p = p

@@ -12,3 +12,4 @@ pub mod ContentText
 pub mod WordText
 pub mod LogText
 pub mod ShowText
+pub mod PackText

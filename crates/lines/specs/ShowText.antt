@@ -15,6 +15,7 @@ use Rattle.fbwire.specs.Fault.{feedback_number}
 use Rattle.fbwire.specs.Nack.{Nack}
 use Rattle.fbwire.specs.Compound.{CompoundSpells}
 use Rattle.fbwire.specs.CompoundChecks.{IsRefused}
+use Rattle.lines.specs.ConfigLine.{script_session}
 use Rattle.lines.specs.ContentText.{octets_text, sources_text, extension_text, marker_text}
 use Rattle.lines.specs.Line.{joined, line_of, refused_line}
 
@@ -64,9 +65,9 @@ pub record IsFeedback (octets : List ℕ) : Type 0 where
   pub low : 200 ≤ slice_index octets 1
   pub high : slice_index octets 1 ≤ 206
 
--- the payload type of retransmissions in every script and trace
+-- the payload type of retransmissions
 abbrev pub repair_type : ℕ
-repair_type = 97
+repair_type = script_session.repair_type
 
 -- The line of an RTP packet: as a packet, or where it has the type of retransmissions, as what it retransmits, or the
 -- number of the refusal where it has no room for an original's sequence number.

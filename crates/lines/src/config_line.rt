@@ -10,6 +10,21 @@ use crate::words::{LONGEST_LINE, cut};
 use rtpwire::{ConfigFault, Session};
 use world::Config;
 
+/// The SSRC of the media, in the session of every script.
+pub(crate) const MEDIA_SSRC: u32 = 0x1111_1111;
+
+/// The payload type of the media.
+const MEDIA_TYPE: u8 = 96;
+
+/// The SSRC of the retransmissions.
+const REPAIR_SSRC: u32 = 0x2222_2222;
+
+/// The payload type of the retransmissions.
+pub(crate) const REPAIR_TYPE: u8 = 97;
+
+/// The SSRC of the receiver.
+pub(crate) const RECEIVER_SSRC: u32 = 0x3333_3333;
+
 /// The least and the most of each number, in the line's order.
 const BOUNDS: [(u64, u64); 8] = [
     (0, 65535),
@@ -108,5 +123,11 @@ fn config_with(numbers: &[u64; 8], learns: bool) -> Option<Config>
 fn script_session() -> Result<Session, ConfigFault>
     ensures { result ≡ Ok script_session }
 {
-    Session::new(0x1111_1111, 96, 0x2222_2222, 97, 0x3333_3333)
+    Session::new(
+        MEDIA_SSRC,
+        MEDIA_TYPE,
+        REPAIR_SSRC,
+        REPAIR_TYPE,
+        RECEIVER_SSRC,
+    )
 }

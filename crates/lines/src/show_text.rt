@@ -6,6 +6,7 @@ ghost use Rattle.lines.specs.ShowText.{IsFeedback, Shows, ShowsPacket, rtp_line,
 ghost use Rattle.lines.specs.Sink.{Pushes};
 ghost use Rattle.lines.specs.WordText.{word_text};
 
+use crate::config_line::REPAIR_TYPE;
 use crate::content_text::{marker_text, source_octets};
 use crate::line::{push_line, push_refused};
 use crate::nack_text::push_nacks;
@@ -14,9 +15,6 @@ use crate::word::Word;
 use arrayvec::ArrayVec;
 use fbwire::Compound;
 use rtpwire::{RtpView, RtxView};
-
-/// The payload type of retransmissions.
-const REPAIR_TYPE: u8 = 97;
 
 /// Pushes the line of a datagram of a trace, with its line feed: what its octets spell, or the number of the check for
 /// which they are refused. Octets of any length are shown.
