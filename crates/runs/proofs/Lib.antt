@@ -1,2 +1,5 @@
 pub mod SceneSteps
 pub mod SoakSteps
+pub mod TrafficSteps
+pub mod DriveSteps
+pub mod MarkSteps

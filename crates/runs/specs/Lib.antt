@@ -3,3 +3,8 @@ pub mod Scene
 pub mod Playing
 pub mod Session
 pub mod Soak
+pub mod Traffic
+pub mod Exchange
+pub mod Drive
+pub mod Blame
+pub mod Marks

@@ -1,14 +1,20 @@
-//! Whole runs of a session: packets of which a random generator loses some.
+//! Whole runs of a session: packets of which a random generator loses some, and packets over a link that may fail.
 #![tactic(auto)]
 
+mod driving;
+mod exchange;
+mod fault;
+mod link;
 mod playing;
 mod session;
 mod soaking;
 mod stepping;
 mod tally;
-
-pub use soaking::{soak, soak_seed};
-pub use tally::Tally;
-
 #[cfg(test)]
 mod tests;
+
+pub use driving::drive;
+pub use fault::{DriveFault, LinkFault};
+pub use link::{Link, Transfer};
+pub use soaking::{soak, soak_seed};
+pub use tally::Tally;
