@@ -1,5 +1,5 @@
 //! A run of which a random generator loses packets.
-ghost use Rattle.std.specs.Prelude.{◌≡◌, ◌+◌, ◌≤◌, ◌^◌, ◌<◌, IfOk, OnOk, OnErr};
+ghost use Rattle.std.specs.Prelude.{◌≡◌, ◌+◌, ◌≤◌, ◌^◌, ◌<◌, ℕ, IfOk, OnOk, OnErr};
 ghost use Rattle.rand_core.specs.Stream.{next_u32};
 ghost use Rattle.rand_core.specs.Steps.{first_words};
 ghost use Rattle.world.specs.Schedule.{after_words};
@@ -36,8 +36,9 @@ pub fn soak<R: Rng, H: History, W: Window>(
     requires { loss ≤ 1000 }
     // The tally is that of the log of such a run, for the words of the generator.
     ensures counts { IfOk result (λ tally. Draws loss packets (R.stream rng.old) tally) }
-    // One word is drawn for each packet.
+    // One word is drawn for each packet; where it stops, no more than that.
     ensures drawn { OnOk result (R.stream rng.new ≡ after_words packets (R.stream rng.old)) }
+    ensures err { OnErr result ((count : ℕ) × (count ≤ packets) × (R.stream rng.new ≡ after_words count (R.stream rng.old))) }
 {
     let mut world = World::<H, W>::new(alloc, &soak_config())?;
     let mut dropped = 0;
@@ -67,6 +68,7 @@ fn soak_block<R: Rng, H: History, W: Window>(
     ensures lost { IfOk result (λ count. count ≡ lost loss (first_words next_u32 packets (R.stream rng.old))) }
     ensures most { IfOk result (λ count. count ≤ packets) }
     ensures drawn { OnOk result (R.stream rng.new ≡ after_words packets (R.stream rng.old)) }
+    ensures err { OnErr result ((count : ℕ) × (count ≤ packets) × (R.stream rng.new ≡ after_words count (R.stream rng.old))) }
     ensures config { world.new.config ≡ world.old.config }
 {
     let first = world.wire().len() as u64;

@@ -1,4 +1,4 @@
-use Rattle.std.proofs.Common.{◌≡◌, ◌+◌, ◌-◌, List, sym, ap, subst, ◌∙◌, arith}
+use Rattle.std.proofs.Common.{◌≡◌, ◌+◌, ◌-◌, List, refl, sym, ap, subst, ◌∙◌, arith}
 use Rattle.rand_core.specs.Stream.{Stream, next_u32}
 use Rattle.rand_core.specs.Steps.{first_words}
 use Rattle.world.specs.declared.event.Entry.{Entry}
@@ -8,6 +8,7 @@ use Rattle.runs.specs.Tally.{tally_of}
 use Rattle.runs.specs.Scene.{scene_of}
 use Rattle.runs.specs.Session.{soak_config}
 use Rattle.runs.specs.Soak.{lost, IsBlock, IsSoak}
+use Rattle.runs.proofs.TrafficSteps.{on_err}
 use Rattle.runs.proofs.SoakSteps.{lost_most, lost_split, words_split, soak_end, soak_more}
 use Rattle.runs.proofs.soaking.soak.Goals as goal
 
@@ -34,7 +35,7 @@ loop-done-preserved g c =
           let h = lost_split c.args.loss left c.min-size.result rest stream split in
           let e = ap (λ (x : Stream). lost c.args.loss (first_words next_u32 rest x)) block.drawn in
           omega (arith, h, e, block.lost, was.dropped);
-      drawn = ap (λ (x : Stream). after_words rest x) block.drawn ∙ sym (words_split left c.min-size.result rest stream split) ∙ was.drawn;
+      drawn = block.drawn ∙ ap (λ (x : Stream). after_words c.min-size.result x) was.drawn ∙ sym (words_split (c.loop-done.done + c.min-size.result) c.loop-done.done c.min-size.result (g.R.Rng.stream c.args.rng.now) refl);
     }
 
 pub returns-clause-counts : goal.returns-clause-counts
@@ -49,3 +50,21 @@ returns-clause-counts g c =
       run = was.whole (scene_of c.loop-done.world) (soak_end soak_config c.args.loss c.loop-done.done (c.args.packets - c.loop-done.done) stream (scene_of c.loop-done.world) none);
       counts = c.of.ensures ∙ ap (λ (log : List Entry). tally_of c.loop-done.dropped log) c.log.ensures ∙ ap (λ n. tally_of n c.loop-done.world.log) dropped;
     }
+
+pub returns-clause-drawn : goal.returns-clause-drawn
+returns-clause-drawn g c =
+    let all : c.loop-done.done ≡ c.args.packets = let h = c.loop-done.invariant.most in omega (arith, h, c.loop-done-test.false) in
+    c.loop-done.invariant.drawn ∙ ap (λ n. after_words n (g.R.Rng.stream c.args.rng.now)) all
+
+-- no word was drawn
+pub returns-in_err-world-clause-err : goal.returns-in_err-world-clause-err
+returns-in_err-world-clause-err g c = on_err c.from_residual.result _ (0, omega arith, refl)
+
+pub returns-in_err-dropped-clause-err : goal.returns-in_err-dropped-clause-err
+returns-in_err-dropped-clause-err g c =
+    let was = c.loop-done.invariant in
+    let block = c.in_err-dropped.ensures.err in
+    let size = c.min-size.ensures in
+    on_err c.from_residual-in_err-dropped.result _
+    (c.loop-done.done + block.0, omega (arith, block.1, size, was.most),
+    block.2 ∙ ap (λ (x : Stream). after_words block.0 x) was.drawn ∙ sym (words_split (c.loop-done.done + block.0) c.loop-done.done block.0 (g.R.Rng.stream c.args.rng.now) refl))

@@ -16,7 +16,7 @@ invariant-loop-done g l =
       fits : l.dropped ≤ l.done;
       whole : (end : Scene) → IsSoak soak_config l.loss l.done (l.packets - l.done) (g.R.Rng.stream l.rng) (scene_of l.world) end → IsSoak soak_config l.loss 0 l.packets (g.R.Rng.stream l.fn.rng) (new_scene soak_config) end;
       dropped : l.dropped + lost l.loss (first_words next_u32 (l.packets - l.done) (g.R.Rng.stream l.rng)) ≡ lost l.loss (first_words next_u32 l.packets (g.R.Rng.stream l.fn.rng));
-      drawn : after_words (l.packets - l.done) (g.R.Rng.stream l.rng) ≡ after_words l.packets (g.R.Rng.stream l.fn.rng);
+      drawn : g.R.Rng.stream l.rng ≡ after_words l.done (g.R.Rng.stream l.fn.rng);
     }
 
 abbrev pub decreases-loop-done : goal.decreases-loop-done
