@@ -65,6 +65,8 @@ returns-in_err-dropped-clause-err g c =
     let was = c.loop-done.invariant in
     let block = c.in_err-dropped.ensures.err in
     let size = c.min-size.ensures in
-    on_err c.from_residual-in_err-dropped.result _
-    (c.loop-done.done + block.0, omega (arith, block.1, size, was.most),
-    block.2 ∙ ap (λ (x : Stream). after_words block.0 x) was.drawn ∙ sym (words_split (c.loop-done.done + block.0) c.loop-done.done block.0 (g.R.Rng.stream c.args.rng.now) refl))
+    on_err c.from_residual-in_err-dropped.result _ (
+      c.loop-done.done + block.0,
+      omega (arith, block.1, size, was.most),
+      block.2 ∙ ap (λ (x : Stream). after_words block.0 x) was.drawn ∙ sym (words_split (c.loop-done.done + block.0) c.loop-done.done block.0 (g.R.Rng.stream c.args.rng.now) refl),
+    )
