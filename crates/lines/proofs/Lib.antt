@@ -10,3 +10,5 @@ pub mod HexText
 pub mod ExtensionLemmas
 pub mod NackLemmas
 pub mod PackLemmas
+pub mod ShowLemmas
+pub mod AskLemmas

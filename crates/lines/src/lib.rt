@@ -6,6 +6,7 @@ mod config_line;
 mod content_text;
 mod decimal;
 mod event_line;
+mod laws;
 mod line;
 mod log_text;
 mod nack_text;
@@ -14,11 +15,14 @@ mod octets;
 mod pack_text;
 mod show_text;
 mod sink;
+#[cfg(test)]
+mod tests;
 mod word;
 mod words;
 
 pub use config_line::parse_config;
 pub use event_line::parse_event;
+pub use laws::{packings_are_determined, traces_are_determined};
 pub use log_text::push_entry;
 pub use pack_text::push_packing;
 pub use show_text::push_datagram;
