@@ -1,10 +1,10 @@
 -- The words of a line, one after another.
-use Rattle.std.proofs.Common.{◌≡◌, ℕ, suc, ◌<◌, List, [], ◌∷◌, ◌++◌, take, drop, get_or, map, length, ap, sym, ◌∙◌, append_assoc, append-nil}
+use Rattle.std.proofs.Common.{◌≡◌, ℕ, suc, ◌<◌, List, [], ◌∷◌, ◌++◌, take, drop, get_or, map, length, ap, sym, ◌∙◌, append_assoc, append-nil, codes}
 use Rattle.std.specs.List.{flat_map}
 use Rattle.std.proofs.Math.Seq.{split_at}
 use Rattle.std.proofs.lemmas.Grind.{flat_map-append}
 use Rattle.std.proofs.lemmas.List.{map-append}
-use Rattle.lines.specs.Line.{behind_space}
+use Rattle.lines.specs.Line.{behind_space, line_of}
 use Rattle.lines.specs.declared.word.Word.{Word}
 use Rattle.lines.specs.declared.word.Word.TheVariants.{Text}
 use Rattle.lines.specs.WordText.{word_text}
@@ -35,3 +35,10 @@ no_word = Text (record { ref_ptr = (0, 0); now = [] })
 pub words_around : (words : List Word) (i : ℕ) (d : Word) → i < length words
     → spaced word_text words ≡ spaced word_text (take i words) ++ behind_space (word_text (get_or words i d)) ++ spaced word_text (drop (suc i) words)
 words_around words i d within = spaced_around word_text words (take i words) (drop (suc i) words) (get_or words i d) (split_at words i d within)
+
+-- a line of some words, and of more that stand in a list of their own
+pub line_parts : (kind : List ℕ) (words others : List (List ℕ))
+    → line_of (kind ∷ words ++ others) ≡ kind ++ flat_map behind_space words ++ flat_map behind_space others ++ codes "\n"
+line_parts kind words others =
+    ap (λ (x : List ℕ). kind ++ x ++ codes "\n") (flat_map-append behind_space words others)
+    ∙ ap (λ (x : List ℕ). x ++ codes "\n") (sym (append_assoc kind (flat_map behind_space words) (flat_map behind_space others)))

@@ -3,17 +3,10 @@ ghost use Rattle.std.specs.Prelude.{◌≡◌, ◌+◌, ◌*◌, ◌≤◌, ◌+
 ghost use Rattle.std.specs.Option.{option_map};
 ghost use Rattle.rtpwire.specs.Content.{extension_of};
 ghost use Rattle.rtpwire.specs.Rtp.{word_octets};
-ghost use Rattle.lines.specs.ContentText.{extension_text, marker_text, octets_text};
+ghost use Rattle.lines.specs.ContentText.{extension_text, octets_text};
 
 use arrayvec::ArrayVec;
 use rtpwire::{Extension, push_u16, push_u32};
-
-/// The marker bit.
-pub(crate) fn marker_text(marker: bool) -> &'static [u8]
-    ensures { result.now ≡ marker_text marker }
-{
-    if marker { b"1" } else { b"0" }
-}
 
 /// The octets of contributing sources, at most 15.
 pub(crate) fn source_octets(sources: &ArrayVec<u32, 15>) -> ArrayVec<u8, 60>

@@ -3,7 +3,7 @@ ghost use Rattle.std.specs.Prelude.{◌≡◌, ◌∷◌, [], ◌++◌, OnOk, co
 ghost use Rattle.std.specs.Fmt.{decimal};
 ghost use Rattle.lines.specs.LogText.{line_of, answer_line, content_words, played_line, datagram_words, entry_line, octets_at};
 
-use crate::content_text::{extension_octets, marker_text, source_octets};
+use crate::content_text::{extension_octets, source_octets};
 use crate::line::{push_line, push_refused};
 use crate::word::Word;
 use places::Place;
@@ -116,7 +116,7 @@ fn push_packet(line: &mut Vec<u8>, place: Place, content: &Content) -> Result<()
         Word::Text(b"play"),
         Word::Decimal(place.value()),
         Word::Decimal(u64::from(content.timestamp)),
-        Word::Text(marker_text(content.marker)),
+        Word::Marker(content.marker),
         Word::Octets(&content.payload),
         Word::Octets(&sources),
         Word::Octets(&extension),

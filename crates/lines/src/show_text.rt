@@ -1,14 +1,16 @@
 //! The text of a trace: one line for each datagram, by what its octets spell.
-ghost use Rattle.std.specs.Prelude.{◌≡◌, ◌↔◌, ℕ, List, IsTrue};
+ghost use Rattle.std.specs.Prelude.{◌≡◌, ◌↔◌, ◌∷◌, ◌++◌, ℕ, List, IsTrue, map};
+ghost use Rattle.std.specs.List.{flat_map};
 ghost use Rattle.rtpwire.specs.Retransmission.{IsRepair};
 ghost use Rattle.lines.specs.ContentText.{extension_text};
-ghost use Rattle.lines.specs.ShowText.{IsFeedback, Shows, ShowsPacket, rtp_line, rtx_line};
+ghost use Rattle.lines.specs.Line.{behind_space, line_of};
+ghost use Rattle.lines.specs.ShowText.{IsFeedback, Shows, ShowsPacket, header_words, rtp_line, rtx_line};
 ghost use Rattle.lines.specs.Sink.{Pushes};
 ghost use Rattle.lines.specs.WordText.{word_text};
 
 use crate::config_line::REPAIR_TYPE;
-use crate::content_text::{marker_text, source_octets};
-use crate::line::{push_line, push_refused};
+use crate::content_text::source_octets;
+use crate::line::{push_more, push_refused};
 use crate::nack_text::push_nacks;
 use crate::sink::Sink;
 use crate::word::Word;
@@ -57,21 +59,13 @@ fn push_view<S: Sink>(sink: &mut S, view: &RtpView<'_>) -> Result<(), S::Fault>
 fn push_rtp<S: Sink>(sink: &mut S, view: &RtpView<'_>) -> Result<(), S::Fault>
     ensures { Pushes result (S.contents sink.old) (S.contents sink.new) (rtp_line view.now) }
 {
-    let ssrc = view.ssrc().to_be_bytes();
     let sources = source_octets(&sources_in(view));
-    let words = [
-        Word::Text(b"rtp"),
-        Word::Decimal(u64::from(view.payload_type())),
-        Word::Decimal(u64::from(view.sequence())),
-        Word::Octets(&ssrc),
-        Word::Decimal(u64::from(view.timestamp())),
-        Word::Text(marker_text(view.marker())),
-        Word::Decimal(u64::from(view.padding())),
+    let carried = [
         Word::Octets(view.payload()),
         Word::Octets(&sources),
         extension_word(view),
     ];
-    push_line(sink, &words)
+    push_packet(sink, b"rtp", view, &carried)
 }
 
 /// Pushes the line of a retransmission, which is in this packet.
@@ -79,22 +73,46 @@ fn push_rtx<S: Sink>(sink: &mut S, view: &RtpView<'_>, repair: &RtxView<'_>) -> 
     requires { IsRepair repair.now view.now }
     ensures { Pushes result (S.contents sink.old) (S.contents sink.new) (rtx_line repair.now) }
 {
-    let ssrc = view.ssrc().to_be_bytes();
     let sources = source_octets(&sources_in(view));
-    let words = [
-        Word::Text(b"rtx"),
-        Word::Decimal(u64::from(view.payload_type())),
-        Word::Decimal(u64::from(view.sequence())),
-        Word::Octets(&ssrc),
-        Word::Decimal(u64::from(view.timestamp())),
-        Word::Text(marker_text(view.marker())),
-        Word::Decimal(u64::from(view.padding())),
+    let carried = [
         Word::Decimal(u64::from(repair.original())),
         Word::Octets(repair.payload()),
         Word::Octets(&sources),
         extension_word(view),
     ];
-    push_line(sink, &words)
+    push_packet(sink, b"rtx", view, &carried)
+}
+
+/// Pushes the line of a packet: its kind, its header, and what it carries.
+fn push_packet<S: Sink>(
+    sink: &mut S,
+    kind: &[u8],
+    view: &RtpView<'_>,
+    carried: &[Word<'_>],
+) -> Result<(), S::Fault>
+    ensures { Pushes result (S.contents sink.old) (S.contents sink.new)
+        (line_of (kind.now ∷ header_words view.now ++ map word_text carried.now)) }
+{
+    sink.push(kind)?;
+    push_header(sink, view)?;
+    push_more(sink, carried)?;
+    sink.push(b"\n")
+}
+
+/// Pushes the words of a packet's header, each behind a space.
+fn push_header<S: Sink>(sink: &mut S, view: &RtpView<'_>) -> Result<(), S::Fault>
+    ensures { Pushes result (S.contents sink.old) (S.contents sink.new) (flat_map behind_space (header_words view.now)) }
+{
+    let ssrc = view.ssrc().to_be_bytes();
+    let words = [
+        Word::Decimal(u64::from(view.payload_type())),
+        Word::Decimal(u64::from(view.sequence())),
+        Word::Octets(&ssrc),
+        Word::Decimal(u64::from(view.timestamp())),
+        Word::Marker(view.marker()),
+        Word::Decimal(u64::from(view.padding())),
+    ];
+    push_more(sink, &words)
 }
 
 /// A packet's contributing sources, of which there are at most 15.

@@ -16,6 +16,8 @@ pub(crate) enum Word<'a> {
     Text(&'a [u8]),
     /// A number in decimal digits.
     Decimal(u64),
+    /// A marker bit.
+    Marker(bool),
     /// Octets by two hexadecimal digits each, or a dash for none.
     Octets(&'a [u8]),
     /// A header extension: four hexadecimal digits of what the profile defines, and two for each octet of its
@@ -33,6 +35,8 @@ pub(crate) fn push_word<S: Sink>(sink: &mut S, word: Word<'_>) -> Result<(), S::
     match word {
         Word::Text(text) => sink.push(text),
         Word::Decimal(number) => push_decimal(sink, number),
+        Word::Marker(false) => sink.push(b"0"),
+        Word::Marker(true) => sink.push(b"1"),
         Word::Octets([]) => sink.push(b"-"),
         Word::Octets(octets) => push_hex(sink, octets),
         Word::Extension(profile, words) => push_extension(sink, profile, words),
