@@ -54,10 +54,28 @@ pub fn drive<L: Link, H: History, W: Window>(
     ensures blame { L.failed link.new ≡ L.failed link.old + blame result }
     ensures config { world.new.config ≡ world.old.config }
 {
-    send_all(link, world, packets, drop)?;
-    mend(link, world, packets)?;
+    send_and_mend(link, world, packets, drop)?;
     play_all(world, u64::from(packets) + 2)?;
     Ok(Tally::of(world.log(), drop.len() as u64))
+}
+
+/// Does all that goes over the link.
+fn send_and_mend<L: Link, H: History, W: Window>(
+    link: &mut L,
+    world: &mut World<H, W>,
+    packets: u32,
+    drop: &[u32],
+) -> Result<(), DriveFault>
+    requires working { L.failed link.old < 2 ^ 64 - 1 }
+    ensures done { OnOk result (Reaches world.old.config (plan_of packets drop.now) (send_from (plan_of packets drop.now) 0)
+        (scene_of world.old) (L.traffic link.old) playing (scene_of world.new) (L.traffic link.new)) }
+    ensures err { OnErr result (Stops world.old.config (plan_of packets drop.now) (send_from (plan_of packets drop.now) 0)
+        (scene_of world.old) (L.traffic link.old) (scene_of world.new) (L.traffic link.new)) }
+    ensures blame { L.failed link.new ≡ L.failed link.old + blame result }
+    ensures config { world.new.config ≡ world.old.config }
+{
+    send_all(link, world, packets, drop)?;
+    mend(link, world, packets)
 }
 
 /// Sends the packets.
