@@ -1,5 +1,6 @@
 //! What a line says, and what is written as a line: words, decimals, octets and contents as text, the lines of
-//! scripts and of logs. Nothing here reads or writes a stream.
+//! scripts and logs, of traces and packings. Nothing here reads a stream; a line is pushed to a [`Sink`], which takes no
+//! memory but what the sink itself takes.
 #![tactic(auto)]
 
 mod config_line;
