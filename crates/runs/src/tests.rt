@@ -1,5 +1,6 @@
 //! Rows of runs.
 
 mod drives;
+mod growths;
 mod memory;
 mod soaks;

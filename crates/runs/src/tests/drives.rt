@@ -13,8 +13,8 @@ use std::test::Fail;
 use stores::{History, ListHistory, ListWindow, RingHistory, RingWindow, Window};
 use world::{Config, End, Entry, World};
 
-/// A new world.
-fn new_world<H: History, W: Window>(alloc: Global) -> Result<World<H, W>, Fail>
+/// A new world. One whose growth is refused is made again.
+pub fn new_world<H: History, W: Window>(alloc: Global) -> Result<World<H, W>, Fail>
     ensures { IfOk result (λ world. world ≡ empty world.config) }
 {
     let session = Session::new(0x1111_1111, 96, 0x2222_2222, 97, 0x3333_3333).map_err(
@@ -23,11 +23,14 @@ fn new_world<H: History, W: Window>(alloc: Global) -> Result<World<H, W>, Fail>
     let config = Config::new(session, 65000, 0, 1024, 1024, 1_000_000, 1, 3, 3).map_err(
         |_| "the configuration is within its limits",
     )?;
+    if let Ok(made) = World::new(alloc, &config) {
+        return Ok(made);
+    }
     Ok(World::new(alloc, &config).map_err(|_| "memory is ample")?)
 }
 
 /// Five packets, of which two are not put into the link.
-fn drive_five<H: History, W: Window>(
+pub fn drive_five<H: History, W: Window>(
     link: &mut MemoryLink,
     world: &mut World<H, W>,
 ) -> Result<Tally, DriveFault>
@@ -37,19 +40,23 @@ fn drive_five<H: History, W: Window>(
     drive(link, world, 5, &[1, 3])
 }
 
+/// What five packets come to over a link that loses nothing.
+pub fn five_mended() -> Tally {
+    Tally {
+        sent: 5,
+        dropped: 2,
+        repaired: 2,
+        played: 5,
+        gaps: 0,
+    }
+}
+
 /// Over a link that loses nothing, what was not put into it is repaired. The calls are 12, and the transfers of each put come
 /// in pairs.
 fn mends<H: History, W: Window>(alloc: Global) -> Result<bool, Fail> {
     let mut link = MemoryLink::new(alloc, 0, false);
     let mut world = new_world::<H, W>(alloc)?;
     let tally = drive_five(&mut link, &mut world).map_err(|_| "nothing fails")?;
-    let expected = Tally {
-        sent: 5,
-        dropped: 2,
-        repaired: 2,
-        played: 5,
-        gaps: 0,
-    };
     let ends = [
         End::Receiver,
         End::Receiver,
@@ -70,7 +77,7 @@ fn mends<H: History, W: Window>(alloc: Global) -> Result<bool, Fail> {
         }
         told = &told[2..];
     }
-    Ok(tally == expected && link.calls() == 12 && told.is_empty())
+    Ok(tally == five_mended() && link.calls() == 12 && told.is_empty())
 }
 
 #[test]
@@ -81,7 +88,7 @@ fn a_link_that_loses_nothing(rt: HostRuntime) -> Result<(), Fail> {
 }
 
 /// Whether a list of entries is a beginning of another.
-fn begins(entries: &[Entry], whole: &[Entry]) -> bool {
+pub fn begins(entries: &[Entry], whole: &[Entry]) -> bool {
     entries.len() <= whole.len() && entries.iter().zip(whole).all(|(one, other)| one == other)
 }
 
