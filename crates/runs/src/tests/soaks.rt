@@ -49,11 +49,11 @@ fn a_run_in_which_all_is_lost(rt: HostRuntime) -> Result<(), Fail> {
 
 /// What the seed draws, it draws again, and from a generator that is made of it.
 fn drawn(alloc: Global, seed: u64) -> Result<Tally, Fail> {
-    let tally = soak_seed::<RingHistory, RingWindow>(alloc, seed, 1000, 100).map_err(
+    let tally = soak_seed::<RingHistory, RingWindow>(alloc, seed, 600, 100).map_err(
         |_| "memory is ample",
     )?;
     let mut rng = Lcg64Xsh32::seed_from_u64(seed);
-    let again = soak::<Lcg64Xsh32, ListHistory, ListWindow>(alloc, &mut rng, 1000, 100).map_err(
+    let again = soak::<Lcg64Xsh32, ListHistory, ListWindow>(alloc, &mut rng, 600, 100).map_err(
         |_| "memory is ample",
     )?;
     if again != tally {
@@ -69,7 +69,7 @@ fn runs_of_twenty_seeds(rt: HostRuntime) -> Result<(), Fail> {
     let mut differ = false;
     for seed in 1..21 {
         let tally = drawn(rt.alloc(), seed)?;
-        assert_eq!(rt; tally.sent, 1000);
+        assert_eq!(rt; tally.sent, 600);
         assert_eq!(rt; tally.gaps, 0);
         assert_eq!(rt;
             tally.sent.wrapping_sub(tally.played),
