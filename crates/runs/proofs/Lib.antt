@@ -3,3 +3,4 @@ pub mod SoakSteps
 pub mod TrafficSteps
 pub mod DriveSteps
 pub mod MarkSteps
+pub mod LoggedSteps

@@ -4,6 +4,7 @@
 mod driving;
 mod exchange;
 mod fault;
+mod laws;
 mod link;
 mod playing;
 mod session;
@@ -15,6 +16,7 @@ mod tests;
 
 pub use driving::drive;
 pub use fault::{DriveFault, LinkFault};
+pub use laws::runs_are_logged;
 pub use link::{Link, Transfer};
 pub use soaking::{soak, soak_seed};
 pub use tally::Tally;
