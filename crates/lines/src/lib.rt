@@ -25,6 +25,7 @@ pub use config_line::parse_config;
 pub use event_line::parse_event;
 pub use laws::{packings_are_determined, traces_are_determined};
 pub use log_text::push_entry;
+pub use numbers::parse_between;
 pub use pack_text::push_packing;
 pub use show_text::push_datagram;
 pub use sink::Sink;

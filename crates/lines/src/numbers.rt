@@ -1,5 +1,5 @@
 //! Words that are numbers, each between its bounds.
-ghost use Rattle.std.specs.Prelude.{◌≡◌, IsTrue, Some, None, false, length};
+ghost use Rattle.std.specs.Prelude.{◌≡◌, ◌≤◌, IfSome, IsTrue, Some, None, false, length};
 ghost use Rattle.lines.specs.Numbers.{numbers_between, numbers_first};
 ghost use Rattle.lines.specs.NumberSteps.{TakesNumber};
 ghost use Rattle.lines.specs.Decimal.{decimal_between};
@@ -49,9 +49,10 @@ fn next_number(left: &mut Option<&[u8]>, least: u64, most: u64) -> Option<u64>
     Some(number)
 }
 
-/// The number that a word writes, if it lies between these bounds.
-fn parse_between(word: &[u8], least: u64, most: u64) -> Option<u64>
-    ensures { result ≡ decimal_between least most word.now }
+/// The number that a word writes, if it lies between these bounds. A sign or a leading zero is refused.
+pub fn parse_between(word: &[u8], least: u64, most: u64) -> Option<u64>
+    ensures value { result ≡ decimal_between least most word.now }
+    ensures within { IfSome result (λ number. (least ≤ number) × (number ≤ most)) }
 {
     match parse_decimal(word, most) {
         Some(number) if number >= least => Some(number),
