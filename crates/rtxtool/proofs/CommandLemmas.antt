@@ -1,19 +1,20 @@
 -- The command line of the program, and what `clap` says of it.
-use Rattle.std.proofs.Common.{ℕ, [], ◌∷◌, nat_eq, ◌≡◌, ◌≢◌, ◌∙◌, ap₂, sym, subst, refl, inl, inr, Bool, true, false, List, Option, Some, None, option_map, codes}
+use Rattle.std.proofs.Common.{ℕ, [], ◌∷◌, nat_eq, ◌≡◌, ◌≢◌, ap₂, sym, subst, refl, inl, inr, Bool, true, false, not, ◌&&◌, List, Some, None, option_map, codes}
 use Rattle.std.proofs.lemmas.Bool.{ne_eqb}
 use Rattle.std.proofs.lemmas.Option.{same_Some}
 use Rattle.std.specs.Box.{box_value}
-use Rattle.std.specs.Str.{bytes_eq}
 use Rattle.clap.proofs.OnLiterals.{clap_on_literals}
-use Rattle.clap.proofs.WalkLemmas.{first_value-rows}
-use Rattle.clap.specs.Words.{App, HasKind, IsAmong, Row, Text, fault_of, first_value, found_of, is_simple_and_free, kind_of, rows_of, subcommand_name_of, subcommand_rows, subcommand_rows_of, takes}
+use Rattle.clap.specs.Words.{App, app_of, HasKind, IsAmong, Row, Text, fault_of, is_simple_and_free, kind_of, subcommand_name_of, subcommand_rows, subcommand_rows_of, takes}
+use Rattle.clap.specs.declared.builder.command.Command.{Command}
+use Rattle.clap.specs.declared.builder.command.Command.TheViews.{out-Command}
+use Rattle.clap.specs.Walk.{is_empty}
 use Rattle.clap.specs.declared.error.Error.{Error}
 use Rattle.clap.specs.declared.error.ErrorKind.TheVariants.{OutOfMemory}
 use Rattle.clap.specs.declared.parser.matches.ArgMatches.{ArgMatches}
 use Rattle.clap.specs.declared.parser.matches.ArgMatches.TheViews.{out-ArgMatches, out-SubCommand}
 use Rattle.clap.specs.Takes.{walk_passes}
 use Rattle.clap.specs.Walk.{walked}
-use Rattle.rtxtool.specs.CommandLine.{file_in, file_said, tool}
+use Rattle.rtxtool.specs.CommandLine.{Shows, Sims, asked, tool}
 
 tool_is_simple : is_simple_and_free tool ≡ true
 unfolding clap_on_literals
@@ -41,33 +42,52 @@ rows_are m name rows =
       | Some b ↦ λ named found. ap₂ (λ (n : Text) (r : List Row). Some (n, r)) (sym (same_Some _ _ named)) (sym (same_Some _ _ found))
     ]
 
--- the FILE of the subcommand that was met
-pub file_found : (m inner : ArgMatches) (name : Text) (file : Option Text) → bytes_eq name (codes "sim") ≡ true → Some name ≡ subcommand_name_of m
-    → Some (rows_of (found_of inner)) ≡ option_map (λ p. p.1) (subcommand_rows_of m) → file ≡ first_value (found_of inner) (codes "FILE") → file ≡ file_in (subcommand_rows_of m)
-file_found m inner name file sim named found value =
-    let met = rows_are m name (rows_of (found_of inner)) named found in
-    rw (met, sim) (value ∙ first_value-rows (found_of inner) (codes "FILE"))
+-- ---- a subcommand and a FILE that is no flag
 
--- ---- `sim` and a FILE that is no flag
-
-said : (name : Text) (c : ℕ) (rest : Text) → nat_eq c 45 ≡ false → file_said (name ∷ codes "sim" ∷ (c ∷ rest) ∷ []) ≡ Some (c ∷ rest)
+sims : (name : Text) (c : ℕ) (rest : Text) → nat_eq c 45 ≡ false → asked (name ∷ codes "sim" ∷ (c ∷ rest) ∷ []) ≡ Some (Sims (c ∷ rest))
 unfolding clap_on_literals walked
-said name c rest h = rw (h, h) refl
+sims name c rest h = rw (h, h) refl
 
-taken : (name : Text) (c : ℕ) (rest : Text) → nat_eq c 45 ≡ false → takes tool (name ∷ codes "sim" ∷ (c ∷ rest) ∷ []) ≡ true
+sims_taken : (name : Text) (c : ℕ) (rest : Text) → nat_eq c 45 ≡ false → takes tool (name ∷ codes "sim" ∷ (c ∷ rest) ∷ []) ≡ true
 unfolding clap_on_literals walked walk_passes
-taken name c rest h = rw (h, h) refl
+sims_taken name c rest h = rw (h, h) refl
 
-pub sim_said : (name : Text) (c : ℕ) (rest : Text) → c ≢ 45 → file_said (name ∷ codes "sim" ∷ (c ∷ rest) ∷ []) ≡ Some (c ∷ rest)
-sim_said name c rest h = said name c rest (ne_eqb c 45 h)
+shows : (name : Text) (c : ℕ) (rest : Text) → nat_eq c 45 ≡ false → asked (name ∷ codes "show" ∷ (c ∷ rest) ∷ []) ≡ Some (Shows (c ∷ rest))
+unfolding clap_on_literals walked
+shows name c rest h = rw (h, h) refl
+
+shows_taken : (name : Text) (c : ℕ) (rest : Text) → nat_eq c 45 ≡ false → takes tool (name ∷ codes "show" ∷ (c ∷ rest) ∷ []) ≡ true
+unfolding clap_on_literals walked walk_passes
+shows_taken name c rest h = rw (h, h) refl
+
+pub sim_asked : (name : Text) (c : ℕ) (rest : Text) → c ≢ 45 → asked (name ∷ codes "sim" ∷ (c ∷ rest) ∷ []) ≡ Some (Sims (c ∷ rest))
+sim_asked name c rest h = sims name c rest (ne_eqb c 45 h)
 
 pub sim_taken : (name : Text) (c : ℕ) (rest : Text) → c ≢ 45 → takes tool (name ∷ codes "sim" ∷ (c ∷ rest) ∷ []) ≡ true
-sim_taken name c rest h = taken name c rest (ne_eqb c 45 h)
+sim_taken name c rest h = sims_taken name c rest (ne_eqb c 45 h)
 
-pub hyphen_said : (name : Text) → file_said (name ∷ codes "sim" ∷ codes "-" ∷ []) ≡ Some (codes "-")
+pub show_asked : (name : Text) (c : ℕ) (rest : Text) → c ≢ 45 → asked (name ∷ codes "show" ∷ (c ∷ rest) ∷ []) ≡ Some (Shows (c ∷ rest))
+show_asked name c rest h = shows name c rest (ne_eqb c 45 h)
+
+pub show_taken : (name : Text) (c : ℕ) (rest : Text) → c ≢ 45 → takes tool (name ∷ codes "show" ∷ (c ∷ rest) ∷ []) ≡ true
+show_taken name c rest h = shows_taken name c rest (ne_eqb c 45 h)
+
+pub hyphen_asked : (name : Text) → asked (name ∷ codes "sim" ∷ codes "-" ∷ []) ≡ Some (Sims (codes "-"))
 unfolding clap_on_literals
-hyphen_said name = refl
+hyphen_asked name = refl
 
 pub hyphen_taken : (name : Text) → takes tool (name ∷ codes "sim" ∷ codes "-" ∷ []) ≡ true
 unfolding clap_on_literals
 hyphen_taken name = refl
+
+-- a plain command has no argument for its subcommands too
+third : (a b c d : Bool) → (a && (not b && (not c && d))) ≡ true → c ≡ false
+third false b c d h = cc h
+third true true c d h = cc h
+third true false true d h = cc h
+third true false false d h = refl
+
+pub no_globals : (c : Command) (a : App) → app_of c ≡ a → a.top.is_plain ≡ true → (out-Command c).has_globals ≡ false
+no_globals c a is plain =
+    third (is_empty (out-Command c).groups.items) (out-Command c).allow_external_subcommands (out-Command c).has_globals _
+    (subst (λ (b : App). b.top.is_plain ≡ true) (sym is) plain)

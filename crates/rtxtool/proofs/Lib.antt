@@ -7,3 +7,6 @@ pub mod KnownLemmas
 pub mod ProgressLemmas
 pub mod IsScriptLemmas
 pub mod ProgramLemmas
+pub mod ShowLemmas
+pub mod DropLemmas
+pub mod LoopbackLemmas

@@ -6,4 +6,10 @@ pub mod Reading
 pub mod Sim
 pub mod Status
 pub mod CommandLine
+pub mod Show
+pub mod Showing
+pub mod Pack
+pub mod TallyText
+pub mod DropList
+pub mod Loopback
 pub mod Program

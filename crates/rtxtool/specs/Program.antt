@@ -1,42 +1,141 @@
 -- What a run of the program did, and what it means that it did not.
-use Rattle.std.specs.Prelude.{◌≡◌, ℕ, ◌⊎◌, false, List, Option, Some, None}
+use Rattle.std.specs.Prelude.{◌≡◌, ℕ, ◌⊎◌, false, List, [], Option, Some, None, codes}
 use Rattle.std.specs.Option.{IfSome}
+use Rattle.std.specs.Io.KnownBytes.{Appends}
 use Rattle.clap.specs.Words.{IsAmong, Text, fault_of, takes}
 use Rattle.clap.specs.declared.error.ErrorKind.TheVariants.{DisplayHelp, DisplayVersion}
+use Rattle.rtpwire.specs.declared.fault.FrameFault.TheVariants.{Truncated, FrameTooLong}
+use Rattle.runs.specs.declared.link.Transfer.{Transfer}
+use Rattle.runs.specs.declared.tally.Tally.{Tally}
+use Rattle.rand_core.specs.Stream.{Stream}
+use Rattle.runs.specs.Soak.{Draws}
 use Rattle.rtxtool.specs.declared.command_line.ChooseFault.TheVariants.{Line, Value}
+use Rattle.rtxtool.specs.declared.drop_list.ListFault.TheVariants.{BadList}
+use Rattle.rtxtool.specs.declared.fault.SimFault.{SimFault}
 use Rattle.rtxtool.specs.declared.fault.SimFault.TheVariants.{BadLine}
+use Rattle.rtxtool.specs.declared.pack.PackFault.{PackFault}
+use Rattle.rtxtool.specs.declared.pack.PackFault.TheVariants.{NotRising}
+use Rattle.rtxtool.specs.declared.show.ShowFault.{ShowFault}
+use Rattle.rtxtool.specs.declared.show.ShowFault.TheVariants.{Frame}
 use Rattle.rtxtool.specs.declared.tell.ToolFault.{ToolFault}
-use Rattle.rtxtool.specs.declared.tell.ToolFault.TheVariants.{Choose, Sim}
-use Rattle.rtxtool.specs.CommandLine.{file_said, tool}
+use Rattle.rtxtool.specs.declared.tell.ToolFault.TheVariants.{Choose, Sim, Show, Pack}
+use Rattle.rtxtool.specs.declared.tell.ToolFault.TheVariants as tool_fault
+use Rattle.rtxtool.specs.CommandLine as asks
+use Rattle.rtxtool.specs.CommandLine.{Asked, Sims, Shows, Packs, Soaks, asked, tool}
+use Rattle.rtxtool.specs.DropList.{drops_of}
+use Rattle.rtxtool.specs.Loopback.{Loops}
+use Rattle.rtxtool.specs.Pack.{WroteNone, WrotePacking}
 use Rattle.rtxtool.specs.Script.{bad_line}
+use Rattle.rtxtool.specs.Show.{IsCut, IsShown, IsTooLong}
 use Rattle.rtxtool.specs.Sim.{IsDone, WroteBefore}
+use Rattle.rtxtool.specs.TallyText.{tally_line}
+
+-- ---- what each command prints
 
 -- the text was a script, and its whole log was written
-abbrev pub PrintedAll : List ℕ → Option (List ℕ) → Option (List ℕ) → Type 0
+abbrev pub PrintedAll : List ℕ → (old new : Option (List ℕ)) → Type 0
 PrintedAll text old new = (count : ℕ) × IsDone count text old new
 
--- the log of the events before the first bad line was written
-abbrev pub PrintedBefore : List ℕ → Option (List ℕ) → Option (List ℕ) → Type 0
-PrintedBefore text old new = (line : ℕ) × (bad_line text ≡ Some line) × WroteBefore text old new
+-- the trace was whole frames, and all their lines were written
+abbrev pub ShowedAll : List ℕ → (old new : Option (List ℕ)) → Type 0
+ShowedAll trace old new = (count : ℕ) × IsShown count trace old new
+
+-- the tally of a run drawn with these words was written
+abbrev pub PrintedTally : (words : Stream) → (packets loss : ℕ) → (old new : Option (List ℕ)) → Type 0
+PrintedTally words packets loss old new =
+    (tally : Tally) × Draws loss packets words tally × Appends old new (tally_line (codes "lost") tally)
+
+-- the tally of a run over some link was written, in which the packets that the text lists were dropped
+abbrev pub PrintedLoop : (packets : ℕ) → (drops : Text) → (old new : Option (List ℕ)) → Type 0
+PrintedLoop packets drops old new =
+    (list : List ℕ) × (told : Option (List Transfer)) × (telling : Option (List Transfer)) × (tally : Tally)
+    × (drops_of drops packets ≡ Some list) × Loops packets list told telling tally × Appends old new (tally_line (codes "dropped") tally)
+
+-- What the program finds where it runs: the octets of its files, where they are known, and the words that its generator
+-- draws from a seed.
+pub record Found : Type 0 where
+  pub octets : Text → Option (List ℕ)
+  pub drawn : ℕ → Stream
+
+abbrev pub found_in : (Text → Option (List ℕ)) → (ℕ → Stream) → Found
+found_in octets drawn = record { octets = octets; drawn = drawn }
+
+-- All that was asked for was done.
+abbrev pub Does : Asked → Found → (old new : Option (List ℕ)) → Type 0
+Does (Sims file) found old new = IfSome (found.octets file) (λ text. PrintedAll text old new)
+Does (Shows file) found old new = IfSome (found.octets file) (λ trace. ShowedAll trace old new)
+Does (Packs places) found old new = WrotePacking places old new
+Does (Soaks seed packets loss) found old new = PrintedTally (found.drawn seed) packets loss old new
+Does (asks.Loops packets drops) found old new = PrintedLoop packets drops old new
+
+-- ---- what each prints of an input that is refused
+
+abbrev pub PrintedBefore : SimFault → List ℕ → (old new : Option (List ℕ)) → Type 0
+PrintedBefore (BadLine line) text old new = (bad_line text ≡ Some line) × WroteBefore text old new
+PrintedBefore _ text old new = Unit {0}
+
+abbrev pub RefusesTrace : ShowFault → List ℕ → (old new : Option (List ℕ)) → Type 0
+RefusesTrace (Frame Truncated number) trace old new = IsCut number trace old new
+RefusesTrace (Frame FrameTooLong number) trace old new = IsTooLong number trace old new
+RefusesTrace _ trace old new = Unit {0}
+
+abbrev pub RefusesPacking : PackFault → List ℕ → (old new : Option (List ℕ)) → Type 0
+RefusesPacking NotRising places old new = WroteNone places old new
+RefusesPacking _ places old new = Unit {0}
+
+-- The input was refused: the line or the frame is told, and what stands before it was printed. A drawn run has no input.
+abbrev pub Refuses : Asked → Found → (old new : Option (List ℕ)) → Type 0
+Refuses (Sims file) found old new = IfSome (found.octets file) (λ text. (line : ℕ) × PrintedBefore (BadLine line) text old new)
+Refuses (Shows file) found old new = IfSome (found.octets file) (λ trace. (number : ℕ) × (IsCut number trace old new ⊎ IsTooLong number trace old new))
+Refuses (Packs places) found old new = WroteNone places old new
+Refuses (Soaks seed packets loss) found old new = ⊥
+Refuses (asks.Loops packets drops) found old new = (drops_of drops packets ≡ None) × Appends old new []
+
+-- ---- what a run says of its words
 
 -- help or the version was asked for
 abbrev pub AsksForHelp : List Text → Type 0
 AsksForHelp words = IsAmong DisplayHelp (fault_of tool words) ⊎ IsAmong DisplayVersion (fault_of tool words)
 
--- the command line is that of `sim FILE`, and this holds of the text that FILE has
-abbrev pub OfScript : (octets : List ℕ → Option (List ℕ)) → List Text → (List ℕ → Type 0) → Type 0
-OfScript octets words P = (file : Text) × (file_said words ≡ Some file) × IfSome (octets file) P
+-- these words ask for something of which this holds
+abbrev pub AskFor : List Text → (Asked → Type 0) → Type 0
+AskFor words P = (said : Asked) × (asked words ≡ Some said) × P said
+
+abbrev pub Succeeds : Found → List Text → (old new : Option (List ℕ)) → Type 0
+Succeeds found words old new = AsksForHelp words ⊎ AskFor words (λ said. Does said found old new)
 
 -- What an exit status says of a command line and of what was written.
-pub record Ends (status : ℕ) (octets : List ℕ → Option (List ℕ)) (words : List Text) (old new : Option (List ℕ)) : Type 0 where
-  pub done : status ≡ 0 → AsksForHelp words ⊎ OfScript octets words (λ text. PrintedAll text old new)
-  pub bad_line : status ≡ 1 → OfScript octets words (λ text. PrintedBefore text old new)
-  pub command_line : status ≡ 2 → (takes tool words ≡ false) ⊎ (file_said words ≡ None)
+pub record Ends (status : ℕ) (found : Found) (words : List Text) (old new : Option (List ℕ)) : Type 0 where
+  pub done : status ≡ 0 → Succeeds found words old new
+  pub refused : status ≡ 1 → AskFor words (λ said. Refuses said found old new)
+  pub command_line : status ≡ 2 → (takes tool words ≡ false) ⊎ (asked words ≡ None)
   pub others : (status ≡ 0) ⊎ (status ≡ 1) ⊎ (status ≡ 2) ⊎ (status ≡ 3) ⊎ (status ≡ 4)
 
--- the same of a fault that is still to be told
-abbrev pub Fails : ToolFault → (octets : List ℕ → Option (List ℕ)) → List Text → Option (List ℕ) → Option (List ℕ) → Type 0
-Fails (Sim (BadLine line)) octets words old new = OfScript octets words (λ text. PrintedBefore text old new)
-Fails (Choose (Line error)) octets words old new = takes tool words ≡ false
-Fails (Choose Value) octets words old new = file_said words ≡ None
-Fails _ octets words old new = Unit {0}
+-- ---- the same of a fault that is still to be told
+
+-- the fault of a run over a link
+abbrev pub FailsToLoop : ToolFault → (packets : ℕ) → (drops : Text) → (old new : Option (List ℕ)) → Type 0
+FailsToLoop (tool_fault.List BadList) packets drops old new = (drops_of drops packets ≡ None) × Appends old new []
+FailsToLoop (tool_fault.List fault) packets drops old new = Unit {0}
+FailsToLoop tool_fault.Output packets drops old new = Unit {0}
+FailsToLoop tool_fault.Link packets drops old new = Unit {0}
+FailsToLoop (tool_fault.Drive fault) packets drops old new = Unit {0}
+FailsToLoop _ packets drops old new = ⊥
+
+-- the fault of what was asked for
+abbrev pub FailsIn : ToolFault → Asked → Found → (old new : Option (List ℕ)) → Type 0
+FailsIn (Sim (BadLine line)) said found old new = Refuses said found old new
+FailsIn (Show (Frame fault number)) said found old new = Refuses said found old new
+FailsIn (Pack NotRising) said found old new = Refuses said found old new
+FailsIn (tool_fault.List BadList) said found old new = Refuses said found old new
+FailsIn (Choose fault) said found old new = ⊥
+FailsIn _ said found old new = Unit {0}
+
+abbrev pub Fails : ToolFault → Found → List Text → (old new : Option (List ℕ)) → Type 0
+Fails (Sim (BadLine line)) found words old new = AskFor words (λ said. Refuses said found old new)
+Fails (Show (Frame fault number)) found words old new = AskFor words (λ said. Refuses said found old new)
+Fails (Pack NotRising) found words old new = AskFor words (λ said. Refuses said found old new)
+Fails (tool_fault.List BadList) found words old new = AskFor words (λ said. Refuses said found old new)
+Fails (Choose (Line error)) found words old new = takes tool words ≡ false
+Fails (Choose Value) found words old new = asked words ≡ None
+Fails _ found words old new = Unit {0}

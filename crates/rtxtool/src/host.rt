@@ -1,10 +1,11 @@
-//! The files of the machine, and its standard input.
-use crate::program::Inputs;
+//! The files of the machine, its standard input, and its sockets.
+use crate::program::Outside;
+use crate::udp_link::UdpLink;
 use std::fs::File;
 use std::io::{Read, Stdin};
 use std::{fs, io};
 
-/// Opens the files of the machine.
+/// Opens the files and the sockets of the machine.
 #[derive(Drop)]
 pub struct Host<'a> {
     pub rt: &'a HostRuntime,
@@ -26,8 +27,10 @@ impl Read for Source {
     }
 }
 
-impl Inputs for Host<'_> {
+impl Outside for Host<'_> {
     type Input = Source;
+
+    type Link = UdpLink;
 
     /// `-` is the standard input.
     fn open(&self, path: &str) -> Option<Source> {
@@ -38,5 +41,9 @@ impl Inputs for Host<'_> {
             Ok(file) => Some(Source::File(file)),
             Err(_) => None,
         }
+    }
+
+    fn link(&self) -> Option<UdpLink> {
+        UdpLink::open(self.rt).ok()
     }
 }

@@ -3,7 +3,7 @@ ghost use Rattle.std.specs.Prelude.{◌≡◌, ◌≢◌, ℕ, List, [], ◌∷�
 ghost use Rattle.clap.specs.Words.{takes};
 ghost use Rattle.world.specs.declared.event.Event.{Event};
 ghost use Rattle.world.specs.Config.{Config};
-ghost use Rattle.rtxtool.specs.CommandLine.{file_said, tool};
+ghost use Rattle.rtxtool.specs.CommandLine.{Shows, Sims, asked, tool};
 ghost use Rattle.rtxtool.specs.IsScript.{IsScript};
 ghost use Rattle.rtxtool.specs.Script.{script_config, script_events, bad_line};
 
@@ -16,10 +16,13 @@ pub fn scripts_are_read()
     ensures script { (text : List ℕ) (c : Config) → bad_line text ≡ None → script_config text ≡ Some c → IsScript text c (script_events text) }
 {}
 
-/// The words `rtxtool sim FILE` are taken and name that FILE, where it does not begin with a hyphen (45) or is one.
+/// The words `rtxtool sim FILE` and `rtxtool show FILE` are taken and name that FILE, where it does not begin with a hyphen
+/// (45) or is one.
 pub fn command_lines_are_read()
-    ensures file { (name : List ℕ) (c : ℕ) (rest : List ℕ) → c ≢ 45 → file_said (name ∷ codes "sim" ∷ (c ∷ rest) ∷ []) ≡ Some (c ∷ rest) }
-    ensures taken { (name : List ℕ) (c : ℕ) (rest : List ℕ) → c ≢ 45 → takes tool (name ∷ codes "sim" ∷ (c ∷ rest) ∷ []) ≡ true }
-    ensures hyphen { (name : List ℕ) → file_said (name ∷ codes "sim" ∷ codes "-" ∷ []) ≡ Some (codes "-") }
-    ensures hyphen_taken { (name : List ℕ) → takes tool (name ∷ codes "sim" ∷ codes "-" ∷ []) ≡ true }
+    ensures sim { (name : List ℕ) (c : ℕ) (rest : List ℕ) → c ≢ 45 → asked (name ∷ codes "sim" ∷ (c ∷ rest) ∷ []) ≡ Some (Sims (c ∷ rest)) }
+    ensures sim_taken { (name : List ℕ) (c : ℕ) (rest : List ℕ) → c ≢ 45 → takes tool (name ∷ codes "sim" ∷ (c ∷ rest) ∷ []) ≡ true }
+    ensures sim_hyphen { (name : List ℕ) → asked (name ∷ codes "sim" ∷ codes "-" ∷ []) ≡ Some (Sims (codes "-")) }
+    ensures sim_hyphen_taken { (name : List ℕ) → takes tool (name ∷ codes "sim" ∷ codes "-" ∷ []) ≡ true }
+    ensures show { (name : List ℕ) (c : ℕ) (rest : List ℕ) → c ≢ 45 → asked (name ∷ codes "show" ∷ (c ∷ rest) ∷ []) ≡ Some (Shows (c ∷ rest)) }
+    ensures show_taken { (name : List ℕ) (c : ℕ) (rest : List ℕ) → c ≢ 45 → takes tool (name ∷ codes "show" ∷ (c ∷ rest) ∷ []) ≡ true }
 {}

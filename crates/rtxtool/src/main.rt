@@ -1,19 +1,28 @@
-//! The program `rtxtool`: it simulates a session from a script, and prints the log.
+//! The program `rtxtool`: it simulates a session from a script, shows traces, packs feedback, and does runs.
 #![tactic(auto)]
 
 mod command_line;
+mod drop_list;
 mod fault;
+mod help;
 mod host;
 mod laws;
+mod loopback;
+mod options;
 mod output;
+mod pack;
 mod pending;
 mod program;
+mod show;
 mod sim;
+mod tally_text;
 mod tell;
 #[cfg(test)]
 mod tests;
+mod udp_link;
 
 use host::Host;
+use output::Stream;
 use program::program;
 use std::env;
 use std::io::{BufWriter, ErrorKind};
@@ -25,9 +34,10 @@ const BUFFER: usize = 65536;
 
 fn main(rt: HostRuntime) -> ExitCode {
     let mut error = rt.stderr();
-    let Ok(mut output) = BufWriter::with_capacity(rt.alloc(), BUFFER, rt.stdout()) else {
+    let Ok(writer) = BufWriter::with_capacity(rt.alloc(), BUFFER, rt.stdout()) else {
         return ExitCode::from(tell(&ToolFault::Memory, &mut error));
     };
+    let mut output = Stream { writer };
     let words = match env::args(&rt) {
         Ok(words) => words.collect::<Vec<String>>(rt.alloc()),
         Err(fault) if fault.kind() == ErrorKind::InvalidData => {

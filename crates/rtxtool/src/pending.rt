@@ -85,7 +85,7 @@ impl Pending {
 }
 
 /// Reads once. A read that was interrupted has read nothing, and is tried again.
-fn read_some<R: Read>(input: &mut R, piece: &mut [u8]) -> Result<usize, SimFault>
+pub fn read_some<R: Read>(input: &mut R, piece: &mut [u8]) -> Result<usize, SimFault>
     ensures within { IfOk result (λ count. count ≤ length piece.new) }
     ensures ok { IfOk result (λ count. Consumes (R.remaining input.old) (R.remaining input.new) (take count piece.new)) }
     ensures end { IfOk result (λ count. count ≡ 0 → 0 < length piece.old → IsAtEnd (R.remaining input.new)) }

@@ -1,22 +1,37 @@
 //! What the program does with a command line, over whatever it reads and writes.
-ghost use Rattle.std.specs.Prelude.{◌≡◌, ◌⊎◌, ℕ, List, Option, IfErr, IfSome, None, OnOk, map};
+ghost use Rattle.std.specs.Prelude.{◌≡◌, ◌⊎◌, ◌≤◌, ℕ, List, Option, IfErr, IfSome, None, OnOk, map};
 ghost use Rattle.std.specs.Io.Buffered.{writer_contents, writer_inner};
+ghost use Rattle.std.specs.Io.KnownBytes.{Keeps};
 ghost use Rattle.clap.specs.Words.{kind_of};
 ghost use Rattle.clap.specs.declared.error.ErrorKind.TheVariants.{DisplayHelp, DisplayVersion};
-ghost use Rattle.rtxtool.specs.Program.{AsksForHelp, Ends, Fails, OfScript, PrintedAll};
-ghost use Rattle.rtxtool.specs.Sim.{IsStopped};
+ghost use Rattle.rtxtool.specs.CommandLine.{IsWithin, said_by};
+ghost use Rattle.rtxtool.specs.Pack.{WrotePacking};
+ghost use Rattle.rtxtool.specs.Program.{Does, Ends, Fails, FailsIn, FailsToLoop, PrintedAll, PrintedBefore, PrintedLoop, PrintedTally, RefusesPacking, RefusesTrace, ShowedAll, Succeeds, found_in};
 
 use crate::command_line::{Choice, ChooseFault, choose};
+use crate::drop_list::drop_list;
 use crate::fault::SimFault;
+use crate::loopback::loopback;
+use crate::output::{Stream, WriteFailed};
+use crate::pack::{PackFault, pack_text};
+use crate::show::{ShowFault, show_trace};
 use crate::sim::sim_text;
+use crate::tally_text::write_tally;
 use crate::tell::{ToolFault, tell};
+use places::Place;
+use rand_core::{Rng, SeedableRng};
+use rand_pcg::Lcg64Xsh32;
+use runs::{Link, soak_seed};
 use std::alloc::Global;
 use std::convert::AsStr;
 use std::io::{BufWriter, Read, Write};
+use stores::{RingHistory, RingWindow};
 
-/// Where the files of a command line come from.
-pub trait Inputs {
+/// Where the files of a command line come from, and the link of a run.
+pub trait Outside {
     type Input: Read + Drop;
+
+    type Link: Link + Drop;
 
     // What stands in a file, where that is known.
     ghost octets: { Self → List ℕ → Option (List ℕ) } = { λ _ _. None };
@@ -24,45 +39,81 @@ pub trait Inputs {
     /// Opens a file. None: it can't be opened.
     fn open(&self, path: &str) -> Option<Self::Input>
         ensures { IfSome result (λ input. Self.Input.remaining input ≡ octets self.now path.now) };
+
+    /// Opens a link, which has not failed yet. None: there is none to be had.
+    fn link(&self) -> Option<Self::Link>
+        ensures { IfSome result (λ link. Self.Link.failed link ≡ 0) };
 }
 
 /// Does what a command line asks for, and answers the exit status. The first word is the program's name. With the
 /// statuses 0 and 1 all that was printed has reached the writer behind the buffer.
-pub fn program<S: AsStr, I: Inputs, W: Write + Drop, E: Write>(
+pub fn program<S: AsStr, O: Outside, W: Write + Drop, E: Write>(
     alloc: Global,
     words: &[S],
-    inputs: &I,
-    output: &mut BufWriter<W>,
+    outside: &O,
+    output: &mut Stream<BufWriter<W>>,
     error: &mut E,
 ) -> u8
-    ensures { Ends result (I.octets inputs.now) (map S.text words.now) (writer_contents W.contents output.old) (W.contents (writer_inner output.new)) }
+    ensures { Ends result (found_in (O.octets outside.now) (λ seed. ⟦<Lcg64Xsh32 as Rng>⟧.stream (⟦<Lcg64Xsh32 as SeedableRng>⟧.of_seed (⟦<Lcg64Xsh32 as SeedableRng>⟧.seed_of_u64 seed)))) (map S.text words.now) (writer_contents W.contents output.old.writer) (W.contents (writer_inner output.new.writer)) }
 {
-    match run(alloc, words, inputs, output) {
+    match run(alloc, words, outside, output) {
         Ok(()) => 0,
         Err(fault) => tell(&fault, error),
     }
 }
 
-fn run<S: AsStr, I: Inputs, W: Write + Drop>(
+fn run<S: AsStr, O: Outside, W: Write + Drop>(
     alloc: Global,
     words: &[S],
-    inputs: &I,
-    output: &mut BufWriter<W>,
+    outside: &O,
+    output: &mut Stream<BufWriter<W>>,
 ) -> Result<(), ToolFault>
-    ensures ok { OnOk result (AsksForHelp (map S.text words.now)
-        ⊎ OfScript (I.octets inputs.now) (map S.text words.now) (λ text. PrintedAll text (writer_contents W.contents output.old) (W.contents (writer_inner output.new)))) }
-    ensures err { IfErr result (λ fault. Fails fault (I.octets inputs.now) (map S.text words.now) (writer_contents W.contents output.old) (W.contents (writer_inner output.new))) }
+    ensures ok { OnOk result (Succeeds (found_in (O.octets outside.now) (λ seed. ⟦<Lcg64Xsh32 as Rng>⟧.stream (⟦<Lcg64Xsh32 as SeedableRng>⟧.of_seed (⟦<Lcg64Xsh32 as SeedableRng>⟧.seed_of_u64 seed)))) (map S.text words.now) (writer_contents W.contents output.old.writer) (W.contents (writer_inner output.new.writer))) }
+    ensures err { IfErr result (λ fault. Fails fault (found_in (O.octets outside.now) (λ seed. ⟦<Lcg64Xsh32 as Rng>⟧.stream (⟦<Lcg64Xsh32 as SeedableRng>⟧.of_seed (⟦<Lcg64Xsh32 as SeedableRng>⟧.seed_of_u64 seed)))) (map S.text words.now) (writer_contents W.contents output.old.writer) (W.contents (writer_inner output.new.writer))) }
 {
     match choose(alloc, words) {
-        Ok(Choice::Sim(path)) => match inputs.open(path) {
+        Ok(choice) => does(alloc, &choice, outside, output),
+        Err(ChooseFault::Line(text)) => help(text, output),
+        Err(fault) => Err(ToolFault::Choose(fault)),
+    }
+}
+
+/// Does what was chosen.
+fn does<O: Outside, W: Write + Drop>(
+    alloc: Global,
+    choice: &Choice<'_>,
+    outside: &O,
+    output: &mut Stream<BufWriter<W>>,
+) -> Result<(), ToolFault>
+    requires { IsWithin choice.now }
+    ensures ok { OnOk result (Does (said_by choice.now) (found_in (O.octets outside.now) (λ seed. ⟦<Lcg64Xsh32 as Rng>⟧.stream (⟦<Lcg64Xsh32 as SeedableRng>⟧.of_seed (⟦<Lcg64Xsh32 as SeedableRng>⟧.seed_of_u64 seed)))) (writer_contents W.contents output.old.writer) (W.contents (writer_inner output.new.writer))) }
+    ensures err { IfErr result (λ fault. FailsIn fault (said_by choice.now) (found_in (O.octets outside.now) (λ seed. ⟦<Lcg64Xsh32 as Rng>⟧.stream (⟦<Lcg64Xsh32 as SeedableRng>⟧.of_seed (⟦<Lcg64Xsh32 as SeedableRng>⟧.seed_of_u64 seed)))) (writer_contents W.contents output.old.writer) (W.contents (writer_inner output.new.writer))) }
+{
+    match choice {
+        Choice::Sim(path) => match outside.open(path) {
             Some(mut input) => match sim(alloc, &mut input, output) {
                 Ok(()) => Ok(()),
                 Err(fault) => Err(ToolFault::Sim(fault)),
             },
             None => Err(ToolFault::Input),
         },
-        Err(ChooseFault::Line(text)) => help(text, output),
-        Err(fault) => Err(ToolFault::Choose(fault)),
+        Choice::Show(path) => match outside.open(path) {
+            Some(mut input) => match show(&mut input, output) {
+                Ok(()) => Ok(()),
+                Err(fault) => Err(ToolFault::Show(fault)),
+            },
+            None => Err(ToolFault::Input),
+        },
+        Choice::Pack(places) => match pack(places, output) {
+            Ok(()) => Ok(()),
+            Err(fault) => Err(ToolFault::Pack(fault)),
+        },
+        Choice::Soak {
+            seed,
+            packets,
+            loss,
+        } => soak(alloc, *seed, *packets, *loss, output),
+        Choice::Loopback { packets, drop } => over_link(alloc, *packets, drop, outside, output),
     }
 }
 
@@ -70,30 +121,126 @@ fn run<S: AsStr, I: Inputs, W: Write + Drop>(
 fn sim<R: Read, W: Write + Drop>(
     alloc: Global,
     input: &mut R,
-    output: &mut BufWriter<W>,
+    output: &mut Stream<BufWriter<W>>,
 ) -> Result<(), SimFault>
-    ensures ok { OnOk result (IfSome (R.remaining input.old) (λ text. PrintedAll text (writer_contents W.contents output.old) (W.contents (writer_inner output.new)))) }
-    ensures err { IfErr result (λ fault. IfSome (R.remaining input.old) (λ text. IsStopped fault text (writer_contents W.contents output.old) (W.contents (writer_inner output.new)))) }
+    ensures ok { OnOk result (IfSome (R.remaining input.old) (λ text. PrintedAll text (writer_contents W.contents output.old.writer) (W.contents (writer_inner output.new.writer)))) }
+    ensures err { IfErr result (λ fault. IfSome (R.remaining input.old) (λ text. PrintedBefore fault text (writer_contents W.contents output.old.writer) (W.contents (writer_inner output.new.writer)))) }
 {
-    let outcome = sim_text(alloc, input, output);
-    if output.flush().is_err() {
-        return Err(SimFault::Write);
+    let outcome = sim_text(alloc, input, &mut output.writer);
+    match (bring_out(output), outcome) {
+        (Ok(()), Ok(_)) => Ok(()),
+        (Ok(()), Err(fault)) => Err(fault),
+        (Err(WriteFailed), _) => Err(SimFault::Write),
     }
-    match outcome {
-        Ok(_) => Ok(()),
-        Err(fault) => Err(fault),
+}
+
+/// Prints the lines of a trace. That they can't be brought out is told before a fault of the trace.
+fn show<R: Read, W: Write + Drop>(
+    input: &mut R,
+    output: &mut Stream<BufWriter<W>>,
+) -> Result<(), ShowFault>
+    ensures ok { OnOk result (IfSome (R.remaining input.old) (λ trace. ShowedAll trace (writer_contents W.contents output.old.writer) (W.contents (writer_inner output.new.writer)))) }
+    ensures err { IfErr result (λ fault. IfSome (R.remaining input.old) (λ trace. RefusesTrace fault trace (writer_contents W.contents output.old.writer) (W.contents (writer_inner output.new.writer)))) }
+{
+    let outcome = show_trace(input, output);
+    match (bring_out(output), outcome) {
+        (Ok(()), Ok(_)) => Ok(()),
+        (Ok(()), Err(fault)) => Err(fault),
+        (Err(WriteFailed), _) => Err(ShowFault::Write),
+    }
+}
+
+/// Prints the feedback that asks for places.
+fn pack<W: Write + Drop>(
+    places: &[Place],
+    output: &mut Stream<BufWriter<W>>,
+) -> Result<(), PackFault>
+    ensures ok { OnOk result (WrotePacking places.now (writer_contents W.contents output.old.writer) (W.contents (writer_inner output.new.writer))) }
+    ensures err { IfErr result (λ fault. RefusesPacking fault places.now (writer_contents W.contents output.old.writer) (W.contents (writer_inner output.new.writer))) }
+{
+    let outcome = pack_text(places, output);
+    match (bring_out(output), outcome) {
+        (Ok(()), Ok(())) => Ok(()),
+        (Ok(()), Err(fault)) => Err(fault),
+        (Err(WriteFailed), _) => Err(PackFault::Write),
+    }
+}
+
+/// Prints the tally of a drawn run.
+fn soak<W: Write + Drop>(
+    alloc: Global,
+    seed: u64,
+    packets: u32,
+    loss: u32,
+    output: &mut Stream<BufWriter<W>>,
+) -> Result<(), ToolFault>
+    requires { loss ≤ 1000 }
+    ensures ok { OnOk result (PrintedTally (⟦<Lcg64Xsh32 as Rng>⟧.stream (⟦<Lcg64Xsh32 as SeedableRng>⟧.of_seed (⟦<Lcg64Xsh32 as SeedableRng>⟧.seed_of_u64 seed))) packets loss (writer_contents W.contents output.old.writer) (W.contents (writer_inner output.new.writer))) }
+    ensures err { IfErr result (λ fault. (fault ≡ ToolFault.Output) ⊎ (fault ≡ ToolFault.Memory)) }
+{
+    let Ok(tally) = soak_seed::<RingHistory, RingWindow>(alloc, seed, packets, loss) else {
+        return Err(ToolFault::Memory);
+    };
+    let written = write_tally(&mut output.writer, "lost", &tally);
+    match (bring_out(output), written) {
+        (Ok(()), Ok(())) => Ok(()),
+        _ => Err(ToolFault::Output),
+    }
+}
+
+/// Prints the tally of a run over a link. The list of packets is read before the link is opened.
+fn over_link<O: Outside, W: Write + Drop>(
+    alloc: Global,
+    packets: u32,
+    drops: &str,
+    outside: &O,
+    output: &mut Stream<BufWriter<W>>,
+) -> Result<(), ToolFault>
+    ensures ok { OnOk result (PrintedLoop packets drops.now (writer_contents W.contents output.old.writer) (W.contents (writer_inner output.new.writer))) }
+    ensures err { IfErr result (λ fault. FailsToLoop fault packets drops.now (writer_contents W.contents output.old.writer) (W.contents (writer_inner output.new.writer))) }
+{
+    let list = match drop_list(alloc, drops, packets) {
+        Ok(list) => list,
+        Err(fault) => {
+            return match bring_out(output) {
+                Ok(()) => Err(ToolFault::List(fault)),
+                Err(WriteFailed) => Err(ToolFault::Output),
+            };
+        }
+    };
+    let Some(mut link) = outside.link() else {
+        return Err(ToolFault::Link);
+    };
+    let tally = match loopback(alloc, &mut link, packets, &list) {
+        Ok(tally) => tally,
+        Err(fault) => return Err(ToolFault::Drive(fault)),
+    };
+    let written = write_tally(&mut output.writer, "dropped", &tally);
+    match (bring_out(output), written) {
+        (Ok(()), Ok(())) => Ok(()),
+        _ => Err(ToolFault::Output),
+    }
+}
+
+/// Brings out what the buffer holds.
+fn bring_out<W: Write + Drop>(output: &mut Stream<BufWriter<W>>) -> Result<(), WriteFailed>
+    ensures { OnOk result (Keeps (writer_contents W.contents output.old.writer) (W.contents (writer_inner output.new.writer))) }
+{
+    match output.writer.flush() {
+        Ok(()) => Ok(()),
+        Err(_) => Err(WriteFailed),
     }
 }
 
 /// Prints the help or the version that was asked for; any other text of `clap` is a fault.
-fn help<W: Write>(text: clap::Error, output: &mut W) -> Result<(), ToolFault>
+fn help<W: Write>(text: clap::Error, output: &mut Stream<W>) -> Result<(), ToolFault>
     ensures ok { OnOk result (kind_of text ≡ DisplayHelp ⊎ kind_of text ≡ DisplayVersion) }
     ensures err { IfErr result (λ fault. fault ≡ ToolFault.Output ⊎ fault ≡ ToolFault.Choose (ChooseFault.Line text)) }
 {
     if text.use_stderr() {
         return Err(ToolFault::Choose(ChooseFault::Line(text)));
     }
-    if write!(output, "{text}").is_err() || output.flush().is_err() {
+    if write!(&mut output.writer, "{text}").is_err() || output.writer.flush().is_err() {
         return Err(ToolFault::Output);
     }
     Ok(())

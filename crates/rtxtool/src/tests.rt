@@ -2,5 +2,7 @@
 mod command_lines;
 mod devices;
 mod fakes;
+mod loopbacks;
 mod programs;
 mod rows;
+mod traces;

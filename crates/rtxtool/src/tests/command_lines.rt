@@ -47,7 +47,7 @@ fn a_refused_growth(rt: HostRuntime) -> Result<(), Fail> {
     match choose(rt.alloc(), &["rtxtool", "sim", "script"]) {
         Ok(choice) => assert_eq!(rt; choice, Choice::Sim("script")),
         Err(ChooseFault::OutOfMemory) => {}
-        Err(_) => return Err(Fail::new("the line is right")),
+        Err(_fault) => return Err(Fail::new("the line is right")),
     }
     Ok(())
 }

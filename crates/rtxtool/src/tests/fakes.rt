@@ -1,9 +1,12 @@
 //! Readers, writers and files that do as a test wants.
-use crate::program::Inputs;
+use crate::program::Outside;
+use rtpwire::Datagram;
+use runs::{Link, LinkFault};
 use std::alloc::Global;
 use std::cell::Cell;
 use std::io;
 use std::io::{ErrorKind, Read, Write};
+use world::End;
 
 /// Gives its octets a few at a time, and fails at one call.
 #[derive(Drop)]
@@ -90,10 +93,12 @@ pub struct OneFile<'a> {
     pub fails: usize,
 }
 
-impl<'a> Inputs for OneFile<'a> {
+impl<'a> Outside for OneFile<'a> {
     ghost use Rattle.std.specs.Prelude.{Some};
 
     type Input = Giver<'a>;
+
+    type Link = Silence;
 
     ghost octets = { λ files _. Some files.octets.now };
 
@@ -106,6 +111,36 @@ impl<'a> Inputs for OneFile<'a> {
             piece: 10,
             fails: self.fails,
         })
+    }
+
+    fn link(&self) -> Option<Silence> {
+        Some(Silence { faults: 0 })
+    }
+}
+
+/// A link that loses all.
+#[derive(Drop)]
+pub struct Silence {
+    pub faults: u64,
+}
+
+impl Link for Silence {
+    ghost use Rattle.std.specs.Prelude.{None};
+
+    ghost failed = { λ link. link.faults };
+
+    ghost traffic = { λ link. None };
+
+    fn send(&mut self, _to: End, _octets: &[u8]) -> Result<(), LinkFault> {
+        Ok(())
+    }
+
+    fn recv(&mut self, _at: End, _into: &mut Datagram) -> Result<bool, LinkFault> {
+        Ok(false)
+    }
+
+    fn faults(&self) -> u64 {
+        self.faults
     }
 }
 

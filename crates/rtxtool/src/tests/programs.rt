@@ -1,4 +1,5 @@
 //! The whole program over files and devices that do as a test wants: what it prints, and its exit status.
+use crate::output::Stream;
 use crate::program::program;
 use crate::tests::fakes::{OneFile, Taker, ample};
 use std::alloc::Global;
@@ -18,10 +19,12 @@ fn ran(
     file: OneFile,
     output: Taker,
 ) -> Result<(u8, Vec<u8>, Vec<u8>), Fail> {
-    let mut output = BufWriter::with_capacity(alloc, 65536, output)?;
+    let writer = BufWriter::with_capacity(alloc, 65536, output)?;
+    let mut output = Stream { writer };
     let mut error = ample(alloc);
     let status = program(alloc, words, &file, &mut output, &mut error);
-    let (output, _) = output.into_parts();
+    let Stream { writer } = output;
+    let (output, _) = writer.into_parts();
     Ok((status, output.taken, error.taken))
 }
 
@@ -58,10 +61,11 @@ fn what_a_run_prints(rt: HostRuntime) -> Result<(), Fail> {
 /// That the output takes nothing is told before anything else, whichever call finds it.
 #[test]
 fn an_output_that_takes_nothing(rt: HostRuntime) -> Result<(), Fail> {
-    let cases: [(&[&str], &[u8]); 4] = [
+    let cases: [(&[&str], &[u8]); 5] = [
         (SIM, GOOD),
         (SIM, BAD),
-        (&["rtxtool", "--help"], GOOD),
+        (&["rtxtool", "show", "script"], b"\0\x01a"),
+        (&["rtxtool", "pack", "1"], GOOD),
         (&["rtxtool", "sim", "--help"], GOOD),
     ];
     for (words, octets) in cases {
@@ -86,11 +90,10 @@ fn an_output_that_takes_nothing(rt: HostRuntime) -> Result<(), Fail> {
 
 #[test]
 fn refused_command_lines(rt: HostRuntime) -> Result<(), Fail> {
-    let lines: [&[&str]; 4] = [
+    let lines: [&[&str]; 3] = [
         &["rtxtool"],
-        &["rtxtool", "sim"],
         &["rtxtool", "sim", "script", "script"],
-        &["rtxtool", "show", "script"],
+        &["rtxtool", "soak", "--seed", "1", "--packets", "3"],
     ];
     for words in lines {
         let file = OneFile {
@@ -105,12 +108,119 @@ fn refused_command_lines(rt: HostRuntime) -> Result<(), Fail> {
     Ok(())
 }
 
+/// What `clap` took, and is no number between its bounds.
+#[test]
+fn values_that_are_no_numbers(rt: HostRuntime) -> Result<(), Fail> {
+    let lines: [&[&str]; 4] = [
+        &["rtxtool", "pack", "01"],
+        &["rtxtool", "pack", "1", "281474976710656"],
+        &[
+            "rtxtool",
+            "soak",
+            "--seed",
+            "1",
+            "--packets",
+            "10001",
+            "--loss",
+            "0",
+        ],
+        &[
+            "rtxtool",
+            "soak",
+            "--seed",
+            "1",
+            "--packets",
+            "1",
+            "--loss",
+            "1001",
+        ],
+    ];
+    for words in lines {
+        let file = OneFile {
+            octets: GOOD,
+            fails: 0,
+        };
+        let told = ran(rt.alloc(), words, file, ample(rt.alloc()))?;
+        assert_eq!(rt; told.0, 2);
+        assert_eq!(rt; told.1.as_slice(), b"".as_slice());
+        assert_eq!(rt; told.2.as_slice(), b"fault value\n".as_slice());
+    }
+    Ok(())
+}
+
+/// What the commands without a file print, and the statuses that they end with.
+#[test]
+fn commands_without_a_file(rt: HostRuntime) -> Result<(), Fail> {
+    let cases: [(&[&str], u8, &[u8], &[u8]); 6] = [
+        (
+            &["rtxtool", "loopback", "--packets", "5", "--drop", "1,3"],
+            0,
+            b"sent 5 dropped 2 repaired 0 played 0 gaps 0\n",
+            b"",
+        ),
+        (
+            &["rtxtool", "loopback", "--packets", "5", "--drop", "3,1"],
+            1,
+            b"",
+            b"refused 62\n",
+        ),
+        (
+            &["rtxtool", "pack", "1", "17"],
+            0,
+            b"81cd0003333333331111111100018000\n",
+            b"",
+        ),
+        (&["rtxtool", "pack", "5", "5"], 1, b"", b"refused 63\n"),
+        (
+            &[
+                "rtxtool",
+                "soak",
+                "--seed",
+                "1",
+                "--packets",
+                "3",
+                "--loss",
+                "0",
+            ],
+            0,
+            b"sent 3 lost 0 repaired 0 played 3 gaps 0\n",
+            b"",
+        ),
+        (
+            &[
+                "rtxtool",
+                "soak",
+                "--loss",
+                "1000",
+                "--packets",
+                "3",
+                "--seed",
+                "1",
+            ],
+            0,
+            b"sent 3 lost 3 repaired 0 played 0 gaps 0\n",
+            b"",
+        ),
+    ];
+    for (words, status, out, err) in cases {
+        let file = OneFile {
+            octets: GOOD,
+            fails: 0,
+        };
+        let told = ran(rt.alloc(), words, file, ample(rt.alloc()))?;
+        assert_eq!(rt; told.0, status);
+        assert_eq!(rt; told.1.as_slice(), out);
+        assert_eq!(rt; told.2.as_slice(), err);
+    }
+    Ok(())
+}
+
 #[test]
 fn help_and_version(rt: HostRuntime) -> Result<(), Fail> {
     let lines: [(&[&str], &[u8], &[u8]); 3] = [
         (
             &["rtxtool", "--help"],
-            b"Simulates",
+            b"Tries RTP",
             b"4 memory was refused.\n",
         ),
         (

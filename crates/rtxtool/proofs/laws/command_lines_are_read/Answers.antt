@@ -1,14 +1,20 @@
-use Rattle.rtxtool.proofs.CommandLemmas.{hyphen_said, hyphen_taken, sim_said, sim_taken}
+use Rattle.rtxtool.proofs.CommandLemmas.{hyphen_asked, hyphen_taken, show_asked, show_taken, sim_asked, sim_taken}
 use Rattle.rtxtool.proofs.laws.command_lines_are_read.Goals as goal
 
-pub returns-clause-file : goal.returns-clause-file
-returns-clause-file c = sim_said
+pub returns-clause-sim : goal.returns-clause-sim
+returns-clause-sim c = sim_asked
 
-pub returns-clause-taken : goal.returns-clause-taken
-returns-clause-taken c = sim_taken
+pub returns-clause-sim_taken : goal.returns-clause-sim_taken
+returns-clause-sim_taken c = sim_taken
 
-pub returns-clause-hyphen : goal.returns-clause-hyphen
-returns-clause-hyphen c = hyphen_said
+pub returns-clause-sim_hyphen : goal.returns-clause-sim_hyphen
+returns-clause-sim_hyphen c = hyphen_asked
 
-pub returns-clause-hyphen_taken : goal.returns-clause-hyphen_taken
-returns-clause-hyphen_taken c = hyphen_taken
+pub returns-clause-sim_hyphen_taken : goal.returns-clause-sim_hyphen_taken
+returns-clause-sim_hyphen_taken c = hyphen_taken
+
+pub returns-clause-show : goal.returns-clause-show
+returns-clause-show c = show_asked
+
+pub returns-clause-show_taken : goal.returns-clause-show_taken
+returns-clause-show_taken c = show_taken
