@@ -1,5 +1,5 @@
 //! A link over two UDP sockets of this machine.
-ghost use Rattle.std.specs.Prelude.{◌≡◌, ◌⊎◌, ◌↔◌, ◌≤◌, ◌+◌, ◌-◌, ◌^◌, ◌<◌, nat_le, length, take, IfOk, IfSome, IsTrue};
+ghost use Rattle.std.specs.Prelude.{◌≡◌, ◌⊎◌, ◌↔◌, ◌≤◌, ◌+◌, ◌-◌, ◌^◌, ◌<◌, nat_le, length, IfOk, IfSome, IsTrue};
 
 use rtpwire::Datagram;
 use runs::{Link, LinkFault};
