@@ -47,17 +47,19 @@ pub const PACK: &str = "\
 Each line is a datagram in hexadecimal, of receiver 33333333 for media 11111111 (RFC 4585, section 6.2.1).
 Example: rtxtool pack 1 17
   81cd0003333333331111111100018000
-Exit status: 0 done, 1 the places don't rise or span 8192 or more, 3 the lines can't be written.";
+Exit status: 0 done, 1 the places don't rise or span 8192 or more, 3 the lines can't be written.
+docs/SCRIPT.md tells what the lines are.";
 
 /// Of `soak`.
 pub const SOAK: &str = "\
 Example: rtxtool soak --seed 1 --packets 300 --loss 0
   sent 300 lost 0 repaired 0 played 300 gaps 0
-Exit status: 0 done, 3 the tally can't be written, 4 memory was refused.";
+Exit status: 0 done, 3 the tally can't be written, 4 memory was refused. docs/SCRIPT.md tells what the
+run does and what the tally counts.";
 
 /// Of `loopback`.
 pub const LOOPBACK: &str = "\
 Example: rtxtool loopback --packets 5 --drop 1,3
   sent 5 dropped 2 repaired 2 played 5 gaps 0
 Exit status: 0 done, 1 LIST is refused, 3 a socket fails or the tally can't be written, 4 memory was
-refused.";
+refused. docs/SCRIPT.md tells what the run does and what the tally counts.";

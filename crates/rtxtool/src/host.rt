@@ -2,7 +2,7 @@
 use crate::program::Outside;
 use crate::udp_link::UdpLink;
 use std::fs::File;
-use std::io::{Read, Stdin};
+use std::io::{Read, Stdin, Write};
 use std::{fs, io};
 
 /// Opens the files and the sockets of the machine.
@@ -41,6 +41,11 @@ impl Outside for Host<'_> {
             Ok(file) => Some(Source::File(file)),
             Err(_) => None,
         }
+    }
+
+    /// To write nothing is an error where the output is closed.
+    fn has_output(&self) -> bool {
+        self.rt.stdout().write(&[]).is_ok()
     }
 
     fn link(&self) -> Option<UdpLink> {

@@ -27,7 +27,7 @@ use std::convert::AsStr;
 use std::io::{BufWriter, Read, Write};
 use stores::{RingHistory, RingWindow};
 
-/// Where the files of a command line come from, and the link of a run.
+/// Where the program runs: the files of a command line, the output, and the link of a run.
 pub trait Outside {
     type Input: Read + Drop;
 
@@ -39,6 +39,10 @@ pub trait Outside {
     /// Opens a file. None: it can't be opened.
     fn open(&self, path: &str) -> Option<Self::Input>
         ensures { IfSome result (λ input. Self.Input.remaining input ≡ octets self.now path.now) };
+
+    /// Whether there is an output. Where the program was started with none, the next file or socket that it opens would
+    /// be taken for it.
+    fn has_output(&self) -> bool;
 
     /// Opens a link, which has not failed yet. None: there is none to be had.
     fn link(&self) -> Option<Self::Link>
@@ -208,6 +212,9 @@ fn over_link<O: Outside, W: Write + Drop>(
             };
         }
     };
+    if !outside.has_output() {
+        return Err(ToolFault::Output);
+    }
     let Some(mut link) = outside.link() else {
         return Err(ToolFault::Link);
     };

@@ -113,6 +113,10 @@ impl<'a> Outside for OneFile<'a> {
         })
     }
 
+    fn has_output(&self) -> bool {
+        true
+    }
+
     fn link(&self) -> Option<Silence> {
         Some(Silence { faults: 0 })
     }
