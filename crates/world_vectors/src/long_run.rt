@@ -49,7 +49,10 @@ fn catches_up(world: &mut Long, network: &mut Network, now: u64) -> Result<(), F
 /// Sends a packet whose timestamp is the moment. The first and the last are sure to come.
 fn crosses(world: &mut Long, network: &mut Network, now: u64) -> Result<(), Fail> {
     let index = world.wire().len() as u64;
-    step(world, &Event::Send(content(b"", (now % 0x1_0000_0000) as u32, false)?, 0))?;
+    step(
+        world,
+        &Event::Send(content(b"", (now % 0x1_0000_0000) as u32, false)?, 0),
+    )?;
     let drawn = network.draw();
     if now == 0 || now == PACKETS - 1 {
         step(world, &Event::Deliver(index, now))?;
