@@ -17,7 +17,7 @@ pub fn scripts_are_read()
 {}
 
 /// The words `rtxtool sim FILE` and `rtxtool show FILE` are taken and name that FILE, where it does not begin with a hyphen
-/// (45) or is one.
+/// (45); so are the words `rtxtool sim -`.
 pub fn command_lines_are_read()
     ensures sim { (name : List ℕ) (c : ℕ) (rest : List ℕ) → c ≢ 45 → asked (name ∷ codes "sim" ∷ (c ∷ rest) ∷ []) ≡ Some (Sims (c ∷ rest)) }
     ensures sim_taken { (name : List ℕ) (c : ℕ) (rest : List ℕ) → c ≢ 45 → takes tool (name ∷ codes "sim" ∷ (c ∷ rest) ∷ []) ≡ true }
