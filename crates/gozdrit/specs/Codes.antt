@@ -1,0 +1,20 @@
+-- What a call answers: 0, the number of a refusal, or how it was called wrongly.
+use Rattle.std.specs.Prelude.{ℤ, pos}
+
+abbrev pub ok : ℤ
+ok = pos 0
+
+abbrev pub no_end : ℤ  -- the handle holds no end
+no_end = pos 71
+
+abbrev pub is_held : ℤ  -- the handle holds an end already
+is_held = pos 72
+
+abbrev pub out_of_memory : ℤ
+out_of_memory = pos 73
+
+abbrev pub too_large : ℤ  -- a length or a count is above its largest
+too_large = pos 74
+
+abbrev pub no_room : ℤ  -- a buffer has less room than the call may need
+no_room = pos 75

@@ -1,0 +1,49 @@
+-- A content as C says it and is told it: a header, and the payload in a buffer.
+use Rattle.std.specs.Prelude.{◌≡◌, ◌≢◌, ℕ, ◌≤◌, ◌==◌, ◌++◌, not, List, length, take, drop, Option, Some, None, if◌then◌else◌}
+use Rattle.std.specs.Option.{option_map}
+use Rattle.rtpwire.specs.declared.content.Content.{Content}
+use Rattle.rtpwire.specs.declared.content.Extension.{Extension}
+use Rattle.rtpwire.specs.Content.{extension_of}
+use Rattle.gozdrit.specs.declared.header.Header.{Header}
+
+-- the header extension, if there is one, has no more words than there may be
+abbrev pub HasWords : Header → Type 0
+HasWords header = header.has_extension ≢ 0 → header.word_count ≤ 16
+
+-- no more than a content holds
+pub record Fits (header : Header) (payload : List ℕ) : Type 0 where
+  pub octets : length payload ≤ 1200
+  pub sources : header.source_count ≤ 15
+  pub words : HasWords header
+
+-- the profile and the words of the header extension, if there is one
+abbrev pub extension_in : Header → Option (ℕ × List ℕ)
+extension_in header =
+    if header.has_extension == 0 then None else Some (header.profile, take header.word_count header.words)
+
+-- the content that a header and a payload say
+pub record IsContent (header : Header) (payload : List ℕ) (content : Content) : Type 0 where
+  pub octets : content.payload.items ≡ payload
+  pub timestamp : content.timestamp ≡ header.timestamp
+  pub marker : content.marker ≡ not (header.marker == 0)
+  pub sources : content.sources.items ≡ take header.source_count header.sources
+  pub extension : option_map extension_of content.extension ≡ extension_in header
+
+-- items at the front of a buffer, and behind them what was there
+abbrev pub in_front : {A : Type 0} → List A → List A → List A
+in_front items buffer = items ++ drop (length items) buffer
+
+-- where there is no extension, its profile and words stay as they were
+abbrev pub TellsExtension : Header → Option Extension → Header → Type 0
+TellsExtension old None new =
+    (new.has_extension ≡ 0) × (new.word_count ≡ 0) × (new.profile ≡ old.profile) × (new.words ≡ old.words)
+TellsExtension old (Some e) new =
+    (new.has_extension ≡ 1) × (new.word_count ≡ length e.words.items) × (new.profile ≡ e.profile) × (new.words ≡ in_front e.words.items old.words)
+
+-- a header is told a content
+pub record TellsHeader (old : Header) (content : Content) (new : Header) : Type 0 where
+  pub timestamp : new.timestamp ≡ content.timestamp
+  pub marker : new.marker ≡ (if content.marker then 1 else 0)
+  pub source_count : new.source_count ≡ length content.sources.items
+  pub sources : new.sources ≡ in_front content.sources.items old.sources
+  pub extension : TellsExtension old content.extension new

@@ -1,0 +1,68 @@
+-- What the calls of a sender answer to C, by what its handle held before and after.
+use Rattle.std.specs.Prelude.{◌≡◌, ◌⊎◌, ℕ, ℤ, pos, List, Option, Some, None, Result, Ok, Err, OnErr}
+use Rattle.arrayvec.specs.ArrayVec.{ArrayVec}
+use Rattle.rtpwire.specs.declared.content.Content.{Content}
+use Rattle.rtpwire.specs.declared.fault.ConfigFault.{ConfigFault}
+use Rattle.rtpwire.specs.Fault.{config_number}
+use Rattle.fbwire.specs.declared.fault.FeedbackFault.{FeedbackFault}
+use Rattle.fbwire.specs.Fault.{feedback_number}
+use Rattle.stores.specs.Past.{IsPast, empty_past}
+use Rattle.sender.specs.declared.answer.Marked.{Marked}
+use Rattle.sender.specs.declared.fault.SendFault.{SendFault}
+use Rattle.sender.specs.Fault.{send_number}
+use Rattle.sender.specs.Feedback.{HearsFeedback}
+use Rattle.sender.specs.Repairing.{RepairsAny}
+use Rattle.sender.specs.Sender.{Sending, new_sending, state_of}
+use Rattle.sender.specs.Sending.{SendsAny}
+use Rattle.gozdrit.specs.declared.config.SenderFields.{SenderFields}
+use Rattle.gozdrit.specs.declared.answers.SentPacket.{SentPacket}
+use Rattle.gozdrit.specs.Codes.{ok, out_of_memory}
+use Rattle.gozdrit.specs.Config.{IsSession, HasSenderLimits, Fails, streams_of, sender_config}
+use Rattle.gozdrit.specs.Told.{TellsPacket}
+
+-- A configuration is refused for the first check that it fails; else there is a sender that sent nothing, or no memory
+-- for it.
+abbrev pub CreatesSender : SenderFields → (code : ℤ) → Option Sending → Type 0
+CreatesSender f code after =
+    ((fault : ConfigFault) × Fails (streams_of f.session) (HasSenderLimits f) fault × (code ≡ pos (config_number fault)) × (after ≡ None))
+    ⊎ (IsSession (streams_of f.session) × HasSenderLimits f
+    × (((code ≡ out_of_memory) × (after ≡ None))
+    ⊎ ((code ≡ ok) × (after ≡ Some (new_sending (sender_config f) (empty_past f.history))))))
+
+-- what every call of a sender leaves as it was
+pub record Keeps (before after : Sending) : Type 0 where
+  pub config : after.config ≡ before.config
+  pub capacity : after.past.capacity ≡ before.past.capacity
+  pub is_past : IsPast after.past
+
+-- what the sender's own call promises of a send
+pub record SendsAs (before : Sending) (content : Content) (padding : ℕ) (answer : Result (ℕ × ArrayVec ℕ) SendFault) (after : Sending) : Type 0 where
+  pub sends : SendsAny before.config.session before.past.capacity (state_of before) content padding answer (state_of after)
+  pub err : OnErr answer (after ≡ before)
+  pub keeps : Keeps before after
+
+-- an answer to a send is told
+abbrev pub TellsSent : Result (ℕ × ArrayVec ℕ) SendFault → (out : List ℕ) → (code : ℤ) → (sent' : SentPacket) → (out' : List ℕ) → Type 0
+TellsSent (Ok sent) out code sent' out' = (code ≡ ok) × TellsPacket sent.0 sent.1.items out sent' out'
+TellsSent (Err fault) out code sent' out' = code ≡ pos (send_number fault)
+
+-- what the sender's own call promises of feedback
+pub record HearsAs (before : Sending) (octets : List ℕ) (answer : Result Marked FeedbackFault) (after : Sending) : Type 0 where
+  pub hears : HearsFeedback before.config (state_of before) octets answer (state_of after)
+  pub err : OnErr answer (after ≡ before)
+  pub keeps : Keeps before after
+
+abbrev pub TellsMarked : Result Marked FeedbackFault → (code : ℤ) → (marked' : ℕ) → Type 0
+TellsMarked (Ok marked) code marked' = (code ≡ ok) × (marked' ≡ marked.places)
+TellsMarked (Err fault) code marked' = code ≡ pos (feedback_number fault)
+
+-- what the sender's own call promises of a retransmission
+pub record RepairsAs (before : Sending) (answer : Option (ℕ × ArrayVec ℕ)) (after : Sending) : Type 0 where
+  pub repairs : RepairsAny before.config.session (state_of before) answer (state_of after)
+  pub none : answer ≡ None → after ≡ before
+  pub keeps : Keeps before after
+
+-- where there is none, the length is 0, and the rest is as it was
+abbrev pub TellsRepair : Option (ℕ × ArrayVec ℕ) → (sent : SentPacket) → (out : List ℕ) → (sent' : SentPacket) → (out' : List ℕ) → Type 0
+TellsRepair (Some sent) old out sent' out' = TellsPacket sent.0 sent.1.items out sent' out'
+TellsRepair None old out sent' out' = (sent' ≡ record old { length = 0 }) × (out' ≡ out)

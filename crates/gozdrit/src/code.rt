@@ -1,0 +1,18 @@
+//! What a call answers beside the numbers of the ends' own refusals.
+
+pub(crate) const OK: i32 = 0;
+
+/// The handle holds no end.
+pub(crate) const NO_END: i32 = 71;
+
+/// The handle holds an end already.
+pub(crate) const HELD: i32 = 72;
+
+/// The allocator refused the memory.
+pub(crate) const OUT_OF_MEMORY: i32 = 73;
+
+/// A length or a count is above its largest.
+pub(crate) const TOO_LARGE: i32 = 74;
+
+/// A buffer has less room than the call may need.
+pub(crate) const NO_ROOM: i32 = 75;

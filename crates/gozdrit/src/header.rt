@@ -1,0 +1,100 @@
+//! What a packet carries beside its payload, as C says it and is told it.
+ghost use Rattle.std.specs.Prelude.{◌≡◌, ◌↔◌, IsTrue, MatchOption};
+ghost use Rattle.std.specs.Option.{option_map};
+ghost use Rattle.rtpwire.specs.Content.{extension_of};
+ghost use Rattle.gozdrit.specs.Packet.{Fits, HasWords, IsContent, TellsHeader, extension_in};
+
+use crate::front::fill_front;
+use arrayvec::ArrayVec;
+use rtpwire::{Content, Extension, MAX_PAYLOAD, MAX_SOURCES, MAX_WORDS, push_octets};
+
+/// What a packet carries beside its payload.
+#[repr(C)]
+#[derive(Drop)]
+pub struct Header {
+    /// The RTP timestamp, in units of the media's clock.
+    pub timestamp: u32,
+    /// The CSRC identifiers, of which the first `source_count` count.
+    pub sources: [u32; MAX_SOURCES],
+    /// The words of the header extension, of which the first `word_count` count.
+    pub words: [u32; MAX_WORDS],
+    /// The 16 bits of the header extension that the profile in use defines.
+    pub profile: u16,
+    pub source_count: u8,
+    pub word_count: u8,
+    /// 0 where there is no header extension.
+    pub has_extension: u8,
+    /// 0 where the marker bit is not set.
+    pub marker: u8,
+}
+
+impl Header {
+    /// The content that it says with this payload, or None where no content holds so much.
+    pub(crate) fn content(&self, payload: &[u8]) -> Option<Content>
+        ensures { MatchOption result (Fits self.now payload.now → ⊥)
+            (λ content. Fits self.now payload.now × IsContent self.now payload.now content) }
+    {
+        if payload.len() > MAX_PAYLOAD || !self.has_words() {
+            return None;
+        }
+        let sources = self.sources.get(..usize::from(self.source_count))?;
+        let sources = ArrayVec::try_from(sources).ok()?;
+        // The payload goes straight to where it stays: a vector of it would be moved there, whole.
+        let mut content = Content {
+            payload: ArrayVec::new(),
+            timestamp: self.timestamp,
+            marker: self.marker != 0,
+            sources,
+            extension: self.extension(),
+        };
+        push_octets(&mut content.payload, payload);
+        Some(content)
+    }
+
+    /// Whether its header extension has no more words than there may be.
+    fn has_words(&self) -> bool
+        ensures { IsTrue result ↔ HasWords self.now }
+    {
+        self.has_extension == 0 || usize::from(self.word_count) <= MAX_WORDS
+    }
+
+    /// The header extension that it says, if it says one.
+    fn extension(&self) -> Option<Extension>
+        requires { HasWords self.now }
+        ensures { option_map extension_of result ≡ extension_in self.now }
+    {
+        if self.has_extension == 0 {
+            return None;
+        }
+        let mut words = ArrayVec::new();
+        words
+            .try_extend_from_slice(&self.words[..usize::from(self.word_count)])
+            .unwrap();
+        Some(Extension {
+            profile: self.profile,
+            words,
+        })
+    }
+
+    /// Tells it a content. What its arrays hold behind the counts stays.
+    pub(crate) fn tell(&mut self, content: &Content)
+        ensures { TellsHeader self.old content.now self.new }
+    {
+        self.timestamp = content.timestamp;
+        self.marker = u8::from(content.marker);
+        self.source_count = content.sources.len() as u8;
+        fill_front(&mut self.sources, content.sources.as_slice());
+        match &content.extension {
+            None => {
+                self.has_extension = 0;
+                self.word_count = 0;
+            }
+            Some(extension) => {
+                self.has_extension = 1;
+                self.profile = extension.profile;
+                self.word_count = extension.words.len() as u8;
+                fill_front(&mut self.words, extension.words.as_slice());
+            }
+        }
+    }
+}

@@ -1,0 +1,17 @@
+//! Both ends of a session for C: one export for each call.
+#![tactic(auto)]
+
+mod answers;
+mod code;
+mod config;
+mod front;
+mod handle;
+mod header;
+mod loose;
+mod names;
+mod playing;
+mod reading;
+mod receiver_handle;
+mod receiving;
+mod sender_handle;
+mod sending;
