@@ -15,3 +15,5 @@ mod receiver_handle;
 mod receiving;
 mod sender_handle;
 mod sending;
+#[cfg(test)]
+mod tests;
