@@ -18,3 +18,6 @@ too_large = pos 74
 
 abbrev pub no_room : ℤ  -- a buffer has less room than the call may need
 no_room = pos 75
+
+abbrev pub null_pointer : ℤ  -- a pointer is null where something has to lie
+null_pointer = pos 76

@@ -1,8 +1,11 @@
 pub mod Codes
 pub mod Config
+pub mod Freeing
 pub mod Held
+pub mod Lent
 pub mod Names
 pub mod Packet
+pub mod Reading
 pub mod Receiving
 pub mod Sending
 pub mod Told

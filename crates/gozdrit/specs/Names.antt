@@ -1,5 +1,7 @@
 -- The names of what calls answer.
-use Rattle.std.specs.Prelude.{ℕ, ℤ, pos, negsuc, ◌==◌, List, [], ◌∷◌, ◌++◌, codes, if◌then◌else◌}
+use Rattle.std.specs.Prelude.{◌≡◌, ℕ, ◌<◌, ◌≤◌, ℤ, pos, negsuc, ◌==◌, List, [], ◌∷◌, ◌++◌, length, codes, if◌then◌else◌}
+use Rattle.gozdrit.specs.Codes.{ok, no_room}
+use Rattle.gozdrit.specs.Packet.{in_front}
 
 -- the name of a number, and nothing where it has none
 abbrev pub name_at : ℕ → List ℕ
@@ -39,6 +41,7 @@ name_at n =
     if n == 73 then codes "OutOfMemory" else
     if n == 74 then codes "TooLarge" else
     if n == 75 then codes "NoRoom" else
+    if n == 76 then codes "Null" else
     []
 
 abbrev pub name_of : (number : ℤ) → List ℕ
@@ -49,3 +52,8 @@ name_of (negsuc n) = []
 abbrev pub terminated : (name : List ℕ) → List ℕ
 terminated [] = []
 terminated (octet ∷ octets) = (octet ∷ octets) ++ 0 ∷ []
+
+-- `gozdrit_refusal_name`
+pub record AnswersName (number : ℤ) (name : List ℕ) (count : ℕ) (code : ℤ) (name' : List ℕ) (count' : ℕ) : Type 0 where
+  pub no_room : length name < 16 → (code ≡ no_room) × (name' ≡ name) × (count' ≡ count)
+  pub named : 16 ≤ length name → (code ≡ ok) × (count' ≡ length (name_of number)) × (name' ≡ in_front (terminated (name_of number)) name)

@@ -1,5 +1,5 @@
--- What the calls of a receiver answer to C, by what its handle held before and after.
-use Rattle.std.specs.Prelude.{◌≡◌, ◌⊎◌, ℕ, ℤ, pos, List, length, Option, Some, None, Result, Ok, Err, OnErr}
+-- What the calls of a receiver answer to C, by the receiver that its handle held before and after, if it held one.
+use Rattle.std.specs.Prelude.{◌≡◌, ◌≢◌, ◌⊎◌, ℕ, ◌<◌, ◌≤◌, ℤ, pos, List, length, Option, Some, None, IsSome, IsSomeAnd, Result, Ok, Err, OnErr}
 use Rattle.arrayvec.specs.ArrayVec.{ArrayVec}
 use Rattle.rtpwire.specs.declared.fault.ConfigFault.{ConfigFault}
 use Rattle.rtpwire.specs.Fault.{config_number}
@@ -15,7 +15,9 @@ use Rattle.receiver.specs.Receiver.{Receiving, state_of}
 use Rattle.receiver.specs.Window.{PlaysAny}
 use Rattle.gozdrit.specs.declared.config.ReceiverFields.{ReceiverFields}
 use Rattle.gozdrit.specs.declared.answers.TakenPlace.{TakenPlace}
-use Rattle.gozdrit.specs.Codes.{ok, out_of_memory}
+use Rattle.gozdrit.specs.declared.answers.PlayedPlace.{PlayedPlace}
+use Rattle.gozdrit.specs.Codes.{ok, no_end, is_held, out_of_memory, no_room}
+use Rattle.gozdrit.specs.Told.{TellsPlayed}
 use Rattle.gozdrit.specs.Config.{IsSession, HasReceiverLimits, Fails, streams_of, receiver_config}
 use Rattle.gozdrit.specs.Packet.{in_front}
 
@@ -60,3 +62,31 @@ pub record AsksAs (before : Receiving) (now : ℕ) (answer : Option (ArrayVec �
 abbrev pub TellsAsk : Option (ArrayVec ℕ) → (out : List ℕ) → (length' : ℕ) → (out' : List ℕ) → Type 0
 TellsAsk (Some datagram) out length' out' = (length' ≡ length datagram.items) × (out' ≡ in_front datagram.items out)
 TellsAsk None out length' out' = (length' ≡ 0) × (out' ≡ out)
+
+-- `gozdrit_receiver_new`
+pub record AnswersReceiverNew (f : ReceiverFields) (old : Option Receiving) (code : ℤ) (new : Option Receiving) : Type 0 where
+  pub held : IsSome old → (code ≡ is_held) × (new ≡ old)
+  pub made : old ≡ None → CreatesReceiver f code new
+
+-- `gozdrit_on_media`
+pub record AnswersMedia (old : Option Receiving) (octets : List ℕ) (now : ℕ) (taken : TakenPlace) (code : ℤ) (new : Option Receiving) (taken' : TakenPlace) : Type 0 where
+  pub none : old ≡ None → code ≡ no_end
+  pub hears : (before : Receiving) → old ≡ Some before
+      → (answer : Result Taken ReceiveFault) × IsSomeAnd new (HearsAs before octets now answer) × TellsTaken answer code taken'
+  pub refused : code ≢ ok → (new ≡ old) × (taken' ≡ taken)
+
+-- `gozdrit_play`
+pub record AnswersPlay (old : Option Receiving) (now : ℕ) (played : PlayedPlace) (payload : List ℕ) (code : ℤ) (new : Option Receiving) (played' : PlayedPlace) (payload' : List ℕ) : Type 0 where
+  pub none : old ≡ None → code ≡ no_end
+  pub no_room : IsSome old → length payload < 1200 → code ≡ no_room
+  pub plays : (before : Receiving) → old ≡ Some before → 1200 ≤ length payload
+      → (code ≡ ok) × (answer : Played) × IsSomeAnd new (PlaysAs before now answer) × TellsPlayed answer played payload played' payload'
+  pub refused : code ≢ ok → (new ≡ old) × (played' ≡ played) × (payload' ≡ payload)
+
+-- `gozdrit_ask`
+pub record AnswersAsk (old : Option Receiving) (now : ℕ) (count : ℕ) (out : List ℕ) (code : ℤ) (new : Option Receiving) (count' : ℕ) (out' : List ℕ) : Type 0 where
+  pub none : old ≡ None → code ≡ no_end
+  pub no_room : IsSome old → length out < 1600 → code ≡ no_room
+  pub asks : (before : Receiving) → old ≡ Some before → 1600 ≤ length out
+      → (code ≡ ok) × (answer : Option (ArrayVec ℕ)) × IsSomeAnd new (AsksAs before now answer) × TellsAsk answer out count' out'
+  pub refused : code ≢ ok → (new ≡ old) × (count' ≡ count) × (out' ≡ out)

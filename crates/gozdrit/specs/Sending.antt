@@ -1,5 +1,5 @@
--- What the calls of a sender answer to C, by what its handle held before and after.
-use Rattle.std.specs.Prelude.{◌≡◌, ◌⊎◌, ℕ, ℤ, pos, List, Option, Some, None, Result, Ok, Err, OnErr}
+-- What the calls of a sender answer to C, by the sender that its handle held before and after, if it held one.
+use Rattle.std.specs.Prelude.{◌≡◌, ◌≢◌, ◌⊎◌, ℕ, ◌<◌, ◌≤◌, ℤ, pos, List, length, Option, Some, None, IsSome, IsSomeAnd, Result, Ok, Err, OnErr}
 use Rattle.arrayvec.specs.ArrayVec.{ArrayVec}
 use Rattle.rtpwire.specs.declared.content.Content.{Content}
 use Rattle.rtpwire.specs.declared.fault.ConfigFault.{ConfigFault}
@@ -16,7 +16,9 @@ use Rattle.sender.specs.Sender.{Sending, new_sending, state_of}
 use Rattle.sender.specs.Sending.{SendsAny}
 use Rattle.gozdrit.specs.declared.config.SenderFields.{SenderFields}
 use Rattle.gozdrit.specs.declared.answers.SentPacket.{SentPacket}
-use Rattle.gozdrit.specs.Codes.{ok, out_of_memory}
+use Rattle.gozdrit.specs.declared.header.Header.{Header}
+use Rattle.gozdrit.specs.Codes.{ok, no_end, is_held, out_of_memory, too_large, no_room}
+use Rattle.gozdrit.specs.Packet.{Fits, IsContent}
 use Rattle.gozdrit.specs.Config.{IsSession, HasSenderLimits, Fails, streams_of, sender_config}
 use Rattle.gozdrit.specs.Told.{TellsPacket}
 
@@ -66,3 +68,33 @@ pub record RepairsAs (before : Sending) (answer : Option (ℕ × ArrayVec ℕ)) 
 abbrev pub TellsRepair : Option (ℕ × ArrayVec ℕ) → (sent : SentPacket) → (out : List ℕ) → (sent' : SentPacket) → (out' : List ℕ) → Type 0
 TellsRepair (Some sent) old out sent' out' = TellsPacket sent.0 sent.1.items out sent' out'
 TellsRepair None old out sent' out' = (sent' ≡ record old { length = 0 }) × (out' ≡ out)
+
+-- `gozdrit_sender_new`
+pub record AnswersSenderNew (f : SenderFields) (old : Option Sending) (code : ℤ) (new : Option Sending) : Type 0 where
+  pub held : IsSome old → (code ≡ is_held) × (new ≡ old)
+  pub made : old ≡ None → CreatesSender f code new
+
+-- `gozdrit_send`
+pub record AnswersSend (old : Option Sending) (header : Header) (payload : List ℕ) (padding : ℕ) (sent : SentPacket) (out : List ℕ) (code : ℤ) (new : Option Sending) (sent' : SentPacket) (out' : List ℕ) : Type 0 where
+  pub none : old ≡ None → code ≡ no_end
+  pub too_large : IsSome old → (Fits header payload → ⊥) → code ≡ too_large
+  pub no_room : IsSome old → Fits header payload → length out < 1600 → code ≡ no_room
+  pub sends : (before : Sending) → old ≡ Some before → Fits header payload → 1600 ≤ length out
+      → (content : Content) × IsContent header payload content × (answer : Result (ℕ × ArrayVec ℕ) SendFault)
+      × IsSomeAnd new (SendsAs before content padding answer) × TellsSent answer out code sent' out'
+  pub refused : code ≢ ok → (new ≡ old) × (sent' ≡ sent) × (out' ≡ out)
+
+-- `gozdrit_on_feedback`
+pub record AnswersFeedback (old : Option Sending) (octets : List ℕ) (marked : ℕ) (code : ℤ) (new : Option Sending) (marked' : ℕ) : Type 0 where
+  pub none : old ≡ None → code ≡ no_end
+  pub hears : (before : Sending) → old ≡ Some before
+      → (answer : Result Marked FeedbackFault) × IsSomeAnd new (HearsAs before octets answer) × TellsMarked answer code marked'
+  pub refused : code ≢ ok → (new ≡ old) × (marked' ≡ marked)
+
+-- `gozdrit_next_repair`
+pub record AnswersRepair (old : Option Sending) (sent : SentPacket) (out : List ℕ) (code : ℤ) (new : Option Sending) (sent' : SentPacket) (out' : List ℕ) : Type 0 where
+  pub none : old ≡ None → code ≡ no_end
+  pub no_room : IsSome old → length out < 1600 → code ≡ no_room
+  pub repairs : (before : Sending) → old ≡ Some before → 1600 ≤ length out
+      → (code ≡ ok) × (answer : Option (ℕ × ArrayVec ℕ)) × IsSomeAnd new (RepairsAs before answer) × TellsRepair answer sent out sent' out'
+  pub refused : code ≢ ok → (new ≡ old) × (sent' ≡ sent) × (out' ≡ out)

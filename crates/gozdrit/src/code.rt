@@ -16,3 +16,6 @@ pub(crate) const TOO_LARGE: i32 = 74;
 
 /// A buffer has less room than the call may need.
 pub(crate) const NO_ROOM: i32 = 75;
+
+/// A pointer is null where something has to lie.
+pub(crate) const NULL: i32 = 76;

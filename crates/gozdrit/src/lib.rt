@@ -11,8 +11,11 @@ mod loose;
 mod names;
 mod playing;
 mod reading;
+mod reading_exports;
+mod receiver_exports;
 mod receiver_handle;
 mod receiving;
+mod sender_exports;
 mod sender_handle;
 mod sending;
 #[cfg(test)]

@@ -1,8 +1,6 @@
 //! The names of what calls answer.
-ghost use Rattle.std.specs.Prelude.{◌≡◌, ◌-◌, ◌<◌, ◌≤◌, length};
-ghost use Rattle.gozdrit.specs.Codes.{ok, no_room};
-ghost use Rattle.gozdrit.specs.Names.{name_of, terminated};
-ghost use Rattle.gozdrit.specs.Packet.{in_front};
+ghost use Rattle.std.specs.Prelude.{◌≡◌, ◌-◌, ◌≤◌, length};
+ghost use Rattle.gozdrit.specs.Names.{AnswersName, name_of, terminated};
 
 use crate::code::{NO_ROOM, OK};
 use crate::front::fill_front;
@@ -52,14 +50,13 @@ fn terminated_name(number: i32) -> &'static [u8]
         73 => b"OutOfMemory\0",
         74 => b"TooLarge\0",
         75 => b"NoRoom\0",
+        76 => b"Null\0",
         _ => b"",
     }
 }
 
-#[unsafe(no_mangle)]
-pub extern "C" fn gozdrit_refusal_name(number: i32, name: &mut [u8], count: &mut usize) -> i32
-    ensures no_room { length name.old < 16 → (result ≡ no_room) × (name.new ≡ name.old) × (count.new ≡ count.old) }
-    ensures named { 16 ≤ length name.old → (result ≡ ok) × (count.new ≡ length (name_of number)) × (name.new ≡ in_front (terminated (name_of number)) name.old) }
+pub(crate) fn refusal_name(number: i32, name: &mut [u8], count: &mut usize) -> i32
+    ensures { AnswersName number name.old count.old result name.new count.new }
 {
     if name.len() < MAX_NAME {
         return NO_ROOM;

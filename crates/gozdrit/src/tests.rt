@@ -3,15 +3,11 @@ use crate::answers::{PlayedPlace, SentPacket, TakenPlace};
 use crate::code::{HELD, NO_END, NO_ROOM, OK, OUT_OF_MEMORY, TOO_LARGE};
 use crate::config::{ReceiverFields, SenderFields, SessionFields};
 use crate::header::Header;
-use crate::reading::gozdrit_missing;
+use crate::reading::missing;
 use crate::receiver_handle::ReceiverHandle;
-use crate::receiving::{
-    gozdrit_ask, gozdrit_on_media, gozdrit_play, gozdrit_receiver_free, gozdrit_receiver_new,
-};
+use crate::receiving::{ask, on_media, play, receiver_free, receiver_new};
 use crate::sender_handle::SenderHandle;
-use crate::sending::{
-    gozdrit_next_repair, gozdrit_on_feedback, gozdrit_send, gozdrit_sender_free, gozdrit_sender_new,
-};
+use crate::sending::{next_repair, on_feedback, send, sender_free, sender_new};
 
 fn session() -> SessionFields {
     SessionFields {
@@ -62,8 +58,8 @@ fn a_loss_is_repaired(rt: HostRuntime) {
     let alloc = rt.alloc();
     let mut sender = SenderHandle::none(alloc);
     let mut receiver = ReceiverHandle::none(alloc);
-    assert!(&rt; gozdrit_sender_new(alloc, &sender_fields(8), &mut sender) == OK);
-    assert!(&rt; gozdrit_receiver_new(alloc, &receiver_fields(8), &mut receiver) == OK);
+    assert!(&rt; sender_new(alloc, &sender_fields(8), &mut sender) == OK);
+    assert!(&rt; receiver_new(alloc, &receiver_fields(8), &mut receiver) == OK);
     let mut sent = SentPacket {
         place: 0,
         length: 0,
@@ -74,7 +70,7 @@ fn a_loss_is_repaired(rt: HostRuntime) {
     };
     let mut out = [0; 1600];
     for index in 0..3 {
-        let answer = gozdrit_send(
+        let answer = send(
             alloc,
             &mut sender,
             &header(index),
@@ -85,23 +81,18 @@ fn a_loss_is_repaired(rt: HostRuntime) {
         );
         assert!(&rt; answer == OK && sent.length == 14);
         if index != 1 {
-            let answer = gozdrit_on_media(alloc, &mut receiver, &out[..14], 5, &mut taken);
+            let answer = on_media(alloc, &mut receiver, &out[..14], 5, &mut taken);
             assert!(&rt; answer == OK && taken.place == sent.place);
         }
     }
     let mut count = 9;
-    assert!(&rt; gozdrit_missing(alloc, &mut receiver, &mut count) == OK && count == 1);
-    assert!(&rt; gozdrit_ask(alloc, &mut receiver, 5, &mut count, &mut out) == OK && count == 16);
+    assert!(&rt; missing(alloc, &mut receiver, &mut count) == OK && count == 1);
+    assert!(&rt; ask(alloc, &mut receiver, 5, &mut count, &mut out) == OK && count == 16);
     let mut marked = 9;
+    assert!(&rt; on_feedback(alloc, &mut sender, &out[..16], &mut marked) == OK && marked == 1);
+    assert!(&rt; next_repair(alloc, &mut sender, &mut sent, &mut out) == OK && sent.length == 16);
     assert!(&rt;
-        gozdrit_on_feedback(alloc, &mut sender, &out[..16], &mut marked) == OK && marked == 1
-    );
-    assert!(&rt;
-        gozdrit_next_repair(alloc, &mut sender, &mut sent, &mut out) == OK && sent.length == 16
-    );
-    assert!(&rt;
-        gozdrit_on_media(alloc, &mut receiver, &out[..16], 6, &mut taken) == OK
-            && taken.place == sent.place
+        on_media(alloc, &mut receiver, &out[..16], 6, &mut taken) == OK && taken.place == sent.place
     );
     let mut played = PlayedPlace {
         place: 0,
@@ -110,16 +101,14 @@ fn a_loss_is_repaired(rt: HostRuntime) {
         kind: 9,
     };
     for index in 0..3 {
-        assert!(&rt; gozdrit_play(alloc, &mut receiver, 7, &mut played, &mut out) == OK);
+        assert!(&rt; play(alloc, &mut receiver, 7, &mut played, &mut out) == OK);
         assert!(&rt;
             played.kind == 1 && played.length == 2 && out[1] == index && played.header.marker == 1
         );
     }
-    assert!(&rt;
-        gozdrit_play(alloc, &mut receiver, 7, &mut played, &mut out) == OK && played.kind == 0
-    );
-    assert!(&rt; gozdrit_sender_free(alloc, &mut sender) == OK);
-    assert!(&rt; gozdrit_receiver_free(alloc, &mut receiver) == OK);
+    assert!(&rt; play(alloc, &mut receiver, 7, &mut played, &mut out) == OK && played.kind == 0);
+    assert!(&rt; sender_free(alloc, &mut sender) == OK);
+    assert!(&rt; receiver_free(alloc, &mut receiver) == OK);
     sender.end();
     receiver.end();
 }
@@ -133,13 +122,13 @@ fn wrong_calls_are_told(rt: HostRuntime) {
         length: 7,
     };
     let mut out = [1; 1600];
-    assert!(&rt; gozdrit_next_repair(alloc, &mut sender, &mut sent, &mut out) == NO_END);
-    assert!(&rt; gozdrit_sender_new(alloc, &sender_fields(0), &mut sender) == 53);
-    assert!(&rt; gozdrit_sender_new(alloc, &sender_fields(8), &mut sender) == OK);
-    assert!(&rt; gozdrit_sender_new(alloc, &sender_fields(8), &mut sender) == HELD);
-    assert!(&rt; gozdrit_next_repair(alloc, &mut sender, &mut sent, &mut out[..1599]) == NO_ROOM);
+    assert!(&rt; next_repair(alloc, &mut sender, &mut sent, &mut out) == NO_END);
+    assert!(&rt; sender_new(alloc, &sender_fields(0), &mut sender) == 53);
+    assert!(&rt; sender_new(alloc, &sender_fields(8), &mut sender) == OK);
+    assert!(&rt; sender_new(alloc, &sender_fields(8), &mut sender) == HELD);
+    assert!(&rt; next_repair(alloc, &mut sender, &mut sent, &mut out[..1599]) == NO_ROOM);
     assert!(&rt;
-        gozdrit_send(
+        send(
             alloc,
             &mut sender,
             &header(0),
@@ -149,10 +138,10 @@ fn wrong_calls_are_told(rt: HostRuntime) {
             &mut out
         ) == TOO_LARGE
     );
-    assert!(&rt; gozdrit_send(alloc, &mut sender, &header(0), &[], 1, &mut sent, &mut out) == 44);
+    assert!(&rt; send(alloc, &mut sender, &header(0), &[], 1, &mut sent, &mut out) == 44);
     assert!(&rt; sent.place == 7 && sent.length == 7 && out[0] == 1);
-    assert!(&rt; gozdrit_sender_free(alloc, &mut sender) == OK);
-    assert!(&rt; gozdrit_sender_free(alloc, &mut sender) == NO_END);
+    assert!(&rt; sender_free(alloc, &mut sender) == OK);
+    assert!(&rt; sender_free(alloc, &mut sender) == NO_END);
     sender.end();
 }
 
@@ -161,14 +150,14 @@ fn wrong_calls_are_told(rt: HostRuntime) {
 fn refused_growth(rt: HostRuntime) {
     let alloc = rt.alloc();
     let mut sender = SenderHandle::none(alloc);
-    let made = gozdrit_sender_new(alloc, &sender_fields(8), &mut sender);
+    let made = sender_new(alloc, &sender_fields(8), &mut sender);
     assert!(&rt; made == OK || made == OUT_OF_MEMORY);
-    let freed = gozdrit_sender_free(alloc, &mut sender);
+    let freed = sender_free(alloc, &mut sender);
     assert!(&rt; (freed == OK) == (made == OK) && (freed == NO_END) == (made == OUT_OF_MEMORY));
     let mut receiver = ReceiverHandle::none(alloc);
-    let made = gozdrit_receiver_new(alloc, &receiver_fields(8), &mut receiver);
+    let made = receiver_new(alloc, &receiver_fields(8), &mut receiver);
     assert!(&rt; made == OK || made == OUT_OF_MEMORY);
-    let freed = gozdrit_receiver_free(alloc, &mut receiver);
+    let freed = receiver_free(alloc, &mut receiver);
     assert!(&rt; (freed == OK) == (made == OK) && (freed == NO_END) == (made == OUT_OF_MEMORY));
     sender.end();
     receiver.end();

@@ -1,0 +1,215 @@
+//! What C calls of a sender.
+//!
+//! Each export hands the pointers to a function that tests them for null. What the call itself answers is said in `specs`
+//! (docs/LIBRARY.md tells where), and for C in `include/gozdrit.h`.
+ghost use Rattle.std.specs.Prelude.{◌≡◌, ℕ, List, Option};
+ghost use Rattle.std.specs.Borrow.{sem, u32, u8};
+ghost use Rattle.lent.specs.Lying.{slice_lies_at, value_lies_at};
+ghost use Rattle.gozdrit.specs.contracts.header.Header.{the_row as header_row};
+ghost use Rattle.gozdrit.specs.declared.header.Header.{Header};
+ghost use Rattle.gozdrit.specs.contracts.config.SenderFields.{the_row as config_row};
+ghost use Rattle.gozdrit.specs.declared.config.SenderFields.{SenderFields};
+ghost use Rattle.gozdrit.specs.contracts.sender_handle.SenderHandle.{the_row as sender_row};
+ghost use Rattle.gozdrit.specs.declared.sender_handle.SenderHandle.{SenderHandle};
+ghost use Rattle.gozdrit.specs.contracts.answers.SentPacket.{the_row as sent_row};
+ghost use Rattle.gozdrit.specs.declared.answers.SentPacket.{SentPacket};
+ghost use Rattle.gozdrit.specs.Lent.{SenderNewFor, SenderFreeFor, SendFor, FeedbackFor, RepairFor};
+
+use crate::answers::SentPacket;
+use crate::code::NULL;
+use crate::config::SenderFields;
+use crate::header::Header;
+use crate::sender_handle::SenderHandle;
+use crate::sending::{next_repair, on_feedback, send, sender_free, sender_new};
+use lent::{Lent, LentSlice};
+use std::alloc::Global;
+
+#[unsafe(no_mangle)]
+pub unsafe extern "C" fn gozdrit_sender_new(
+    alloc: Global,
+    config: *mut SenderFields,
+    sender: *mut SenderHandle,
+) -> i32
+    ghost before: { Option SenderFields × Option SenderHandle }
+    requires* { sem 𝓛 (value_lies_at config_row config before.0) ∗ sem 𝓛 (value_lies_at sender_row sender before.1) }
+    ensures* { ∃ₛ (λ (after : Option SenderFields × Option SenderHandle). sem 𝓛 (value_lies_at config_row config after.0) ∗ sem 𝓛 (value_lies_at sender_row sender after.1) ∗ ⌜ SenderNewFor before.0 before.1 result after.0 after.1 ⌝) }
+{
+    sender_new_lent(alloc, Lent { at: config }, Lent { at: sender }).0
+}
+
+fn sender_new_lent(
+    alloc: Global,
+    mut config: Lent<SenderFields>,
+    mut sender: Lent<SenderHandle>,
+) -> (i32, Lent<SenderFields>, Lent<SenderHandle>)
+    ensures { ((result.1.at ≡ config.at) × (result.2.at ≡ sender.at)) × SenderNewFor config.value sender.value result.0 result.1.value result.2.value }
+{
+    if config.is_null() || sender.is_null() {
+        return (NULL, config, sender);
+    }
+    let code = sender_new(alloc, config.get(), sender.get());
+    (code, config, sender)
+}
+
+#[unsafe(no_mangle)]
+pub unsafe extern "C" fn gozdrit_sender_free(alloc: Global, sender: *mut SenderHandle) -> i32
+    ghost before: { Option SenderHandle }
+    requires* { sem 𝓛 (value_lies_at sender_row sender before) }
+    ensures* { ∃ₛ (λ (after : Option SenderHandle). sem 𝓛 (value_lies_at sender_row sender after) ∗ ⌜ SenderFreeFor before result after ⌝) }
+{
+    sender_free_lent(alloc, Lent { at: sender }).0
+}
+
+fn sender_free_lent(alloc: Global, mut sender: Lent<SenderHandle>) -> (i32, Lent<SenderHandle>)
+    ensures { (result.1.at ≡ sender.at) × SenderFreeFor sender.value result.0 result.1.value }
+{
+    if sender.is_null() {
+        return (NULL, sender);
+    }
+    let code = sender_free(alloc, sender.get());
+    (code, sender)
+}
+
+#[unsafe(no_mangle)]
+pub unsafe extern "C" fn gozdrit_send(
+    alloc: Global,
+    sender: *mut SenderHandle,
+    header: *mut Header,
+    payload: *mut u8,
+    length: usize,
+    padding: u8,
+    sent: *mut SentPacket,
+    out: *mut u8,
+    room: usize,
+) -> i32
+    ghost before: { Option SenderHandle × Option Header × Option (List ℕ) × Option SentPacket × Option (List ℕ) }
+    requires* { sem 𝓛 (value_lies_at sender_row sender before.0) ∗ sem 𝓛 (value_lies_at header_row header before.1) ∗ sem 𝓛 (slice_lies_at u8 payload length before.2) ∗ sem 𝓛 (value_lies_at sent_row sent before.3) ∗ sem 𝓛 (slice_lies_at u8 out room before.4) }
+    ensures* { ∃ₛ (λ (after : Option SenderHandle × Option Header × Option (List ℕ) × Option SentPacket × Option (List ℕ)). sem 𝓛 (value_lies_at sender_row sender after.0) ∗ sem 𝓛 (value_lies_at header_row header after.1) ∗ sem 𝓛 (slice_lies_at u8 payload length after.2) ∗ sem 𝓛 (value_lies_at sent_row sent after.3) ∗ sem 𝓛 (slice_lies_at u8 out room after.4) ∗ ⌜ SendFor padding before.0 before.1 before.2 before.3 before.4 result after.0 after.1 after.2 after.3 after.4 ⌝) }
+{
+    send_lent(
+        alloc,
+        Lent { at: sender },
+        Lent { at: header },
+        LentSlice {
+            at: payload,
+            len: length,
+        },
+        padding,
+        Lent { at: sent },
+        LentSlice { at: out, len: room },
+    )
+    .0
+}
+
+fn send_lent(
+    alloc: Global,
+    mut sender: Lent<SenderHandle>,
+    mut header: Lent<Header>,
+    mut payload: LentSlice<u8>,
+    padding: u8,
+    mut sent: Lent<SentPacket>,
+    mut out: LentSlice<u8>,
+) -> (
+    i32,
+    Lent<SenderHandle>,
+    Lent<Header>,
+    LentSlice<u8>,
+    Lent<SentPacket>,
+    LentSlice<u8>,
+)
+    ensures { ((result.1.at ≡ sender.at) × (result.2.at ≡ header.at) × (result.3.at ≡ payload.at) × (result.3.len ≡ payload.len) × (result.4.at ≡ sent.at) × (result.5.at ≡ out.at) × (result.5.len ≡ out.len)) × SendFor padding sender.value header.value payload.items sent.value out.items result.0 result.1.value result.2.value result.3.items result.4.value result.5.items }
+{
+    if sender.is_null()
+        || header.is_null()
+        || payload.is_missing()
+        || sent.is_null()
+        || out.is_missing()
+    {
+        return (NULL, sender, header, payload, sent, out);
+    }
+    let code = send(
+        alloc,
+        sender.get(),
+        header.get(),
+        payload.get(),
+        padding,
+        sent.get(),
+        out.get(),
+    );
+    (code, sender, header, payload, sent, out)
+}
+
+#[unsafe(no_mangle)]
+pub unsafe extern "C" fn gozdrit_on_feedback(
+    alloc: Global,
+    sender: *mut SenderHandle,
+    octets: *mut u8,
+    length: usize,
+    marked: *mut u32,
+) -> i32
+    ghost before: { Option SenderHandle × Option (List ℕ) × Option ℕ }
+    requires* { sem 𝓛 (value_lies_at sender_row sender before.0) ∗ sem 𝓛 (slice_lies_at u8 octets length before.1) ∗ sem 𝓛 (value_lies_at u32 marked before.2) }
+    ensures* { ∃ₛ (λ (after : Option SenderHandle × Option (List ℕ) × Option ℕ). sem 𝓛 (value_lies_at sender_row sender after.0) ∗ sem 𝓛 (slice_lies_at u8 octets length after.1) ∗ sem 𝓛 (value_lies_at u32 marked after.2) ∗ ⌜ FeedbackFor before.0 before.1 before.2 result after.0 after.1 after.2 ⌝) }
+{
+    on_feedback_lent(
+        alloc,
+        Lent { at: sender },
+        LentSlice {
+            at: octets,
+            len: length,
+        },
+        Lent { at: marked },
+    )
+    .0
+}
+
+fn on_feedback_lent(
+    alloc: Global,
+    mut sender: Lent<SenderHandle>,
+    mut octets: LentSlice<u8>,
+    mut marked: Lent<u32>,
+) -> (i32, Lent<SenderHandle>, LentSlice<u8>, Lent<u32>)
+    ensures { ((result.1.at ≡ sender.at) × (result.2.at ≡ octets.at) × (result.2.len ≡ octets.len) × (result.3.at ≡ marked.at)) × FeedbackFor sender.value octets.items marked.value result.0 result.1.value result.2.items result.3.value }
+{
+    if sender.is_null() || octets.is_missing() || marked.is_null() {
+        return (NULL, sender, octets, marked);
+    }
+    let code = on_feedback(alloc, sender.get(), octets.get(), marked.get());
+    (code, sender, octets, marked)
+}
+
+#[unsafe(no_mangle)]
+pub unsafe extern "C" fn gozdrit_next_repair(
+    alloc: Global,
+    sender: *mut SenderHandle,
+    sent: *mut SentPacket,
+    out: *mut u8,
+    room: usize,
+) -> i32
+    ghost before: { Option SenderHandle × Option SentPacket × Option (List ℕ) }
+    requires* { sem 𝓛 (value_lies_at sender_row sender before.0) ∗ sem 𝓛 (value_lies_at sent_row sent before.1) ∗ sem 𝓛 (slice_lies_at u8 out room before.2) }
+    ensures* { ∃ₛ (λ (after : Option SenderHandle × Option SentPacket × Option (List ℕ)). sem 𝓛 (value_lies_at sender_row sender after.0) ∗ sem 𝓛 (value_lies_at sent_row sent after.1) ∗ sem 𝓛 (slice_lies_at u8 out room after.2) ∗ ⌜ RepairFor before.0 before.1 before.2 result after.0 after.1 after.2 ⌝) }
+{
+    next_repair_lent(
+        alloc,
+        Lent { at: sender },
+        Lent { at: sent },
+        LentSlice { at: out, len: room },
+    )
+    .0
+}
+
+fn next_repair_lent(
+    alloc: Global,
+    mut sender: Lent<SenderHandle>,
+    mut sent: Lent<SentPacket>,
+    mut out: LentSlice<u8>,
+) -> (i32, Lent<SenderHandle>, Lent<SentPacket>, LentSlice<u8>)
+    ensures { ((result.1.at ≡ sender.at) × (result.2.at ≡ sent.at) × (result.3.at ≡ out.at) × (result.3.len ≡ out.len)) × RepairFor sender.value sent.value out.items result.0 result.1.value result.2.value result.3.items }
+{
+    if sender.is_null() || sent.is_null() || out.is_missing() {
+        return (NULL, sender, sent, out);
+    }
+    let code = next_repair(alloc, sender.get(), sent.get(), out.get());
+    (code, sender, sent, out)
+}

@@ -1,0 +1,30 @@
+-- What a lent value, or slice, is once a borrow of it has ended.
+use Rattle.std.specs.Prelude.{List, [], length, Option, Some, None}
+use Rattle.std.specs.Borrow.{Lends, MutBor, Fml, Array}
+use denote.RattleType.{RattleType}
+use Rattle.lent.specs.declared.Lent.{Lent}
+use Rattle.lent.specs.contracts.Lent.{the_row}
+use Rattle.std.specs.List.{refill}
+use Rattle.lent.specs.declared.LentSlice.{LentSlice}
+use Rattle.lent.specs.contracts.LentSlice.{the_row as slice_row}
+
+-- p with the value w
+abbrev pub with_value : {X : Type 0} → Lent X → X → Lent X
+with_value p w = record p { value = Some w }
+
+-- p ends with the last value behind r
+abbrev pub LendsValue : (R : RattleType) → MutBor (Lent R.Denot) → MutBor R.Denot → Fml
+LendsValue R p r = Lends (the_row R) R p r (with_value p.now)
+
+-- the values, if there are any
+abbrev pub listed : {X : Type 0} → Option (List X) → List X
+listed (Some xs) = xs
+listed None = []
+
+-- s with the values ws, of which as many count as there were
+abbrev pub with_items : {X : Type 0} → LentSlice X → List X → LentSlice X
+with_items s ws = record s { items = Some (refill (length (listed s.items)) (listed s.items) ws) }
+
+-- s ends with the last values behind r
+abbrev pub LendsItems : (R : RattleType) → MutBor (LentSlice R.Denot) → MutBor (List R.Denot) → Fml
+LendsItems R s r = Lends (slice_row R) (Array R 0) s r (with_items s.now)
