@@ -17,6 +17,7 @@ use Rattle.gozdrit.specs.declared.answers.TakenPlace.{TakenPlace}
 use Rattle.gozdrit.specs.Codes.{null_pointer}
 use Rattle.gozdrit.specs.Freeing.{AnswersFree}
 use Rattle.gozdrit.specs.Held.{sender_in, receiver_in}
+use Rattle.gozdrit.specs.Names.{AnswersName}
 use Rattle.gozdrit.specs.Reading.{AnswersMissing, AnswersSource, AnswersCursor, AnswersHighest}
 use Rattle.gozdrit.specs.Receiving.{AnswersReceiverNew, AnswersMedia, AnswersPlay, AnswersAsk}
 use Rattle.gozdrit.specs.Sending.{AnswersSenderNew, AnswersSend, AnswersFeedback, AnswersRepair}
@@ -83,3 +84,7 @@ CursorFor = Answers2 null_pointer (λ receiver place code receiver' place'. Answ
 -- `gozdrit_highest`
 abbrev pub HighestFor : Option ReceiverHandle → Option KnownPlace → ℤ → Option ReceiverHandle → Option KnownPlace → Type 0
 HighestFor = Answers2 null_pointer (λ receiver place code receiver' place'. AnswersHighest (receiver_of receiver) place code (receiver_of receiver') place')
+
+-- `gozdrit_refusal_name`
+abbrev pub NameFor : (number : ℤ) → Option (List ℕ) → Option ℕ → ℤ → Option (List ℕ) → Option ℕ → Type 0
+NameFor number = Answers2 null_pointer (λ name count code name' count'. AnswersName number name count code name' count')

@@ -9,6 +9,7 @@ mod handle;
 mod header;
 mod loose;
 mod names;
+mod names_exports;
 mod playing;
 mod reading;
 mod reading_exports;

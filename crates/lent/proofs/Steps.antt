@@ -16,6 +16,7 @@ pub use types.ByLocal.{alloc_all, pass_all, free_all, look_at, get, get_in, sets
 pub use types.Part.{agg, sub, whole}
 pub use denote.Builtin.{i32, u8, u32, u64, usize}
 pub use denote.Plain.{uint_vals, uint_Tells, uint_Makes}
+pub use denote.Signed.{sint_vals, sint_Tells, sint_Makes, sint_Lawful}
 pub use denote.RattleType.{RattleType}
 pub use denote.RawPtr.{Ptr, RawPtr, rawptr_vals, rawptr_Tells}
 pub use denote.Steps.{nothing, heard, owned}
@@ -28,4 +29,4 @@ pub use Rattle.lent.specs.Lying.{value_lies_at, slice_lies_at}
 pub use Rattle.lent.proofs.Memory.{Lent, ptr_good, value_made}
 pub use Rattle.lent.proofs.Answers.{Back, a_value, a_slice, code_val, answer1_had, answer2_had, answer3_had, answer4_had, answer5_had}
 pub use Rattle.lent.proofs.SliceMemory.{LentSlice, lent_slice_val, lent_slice-Good, slice_made}
-pub use Rattle.lent.proofs.Exports.{drops, answered, gone_ptr, gone_int, gone_heap, alloc_made, moved_to, slice_moved, leave}
+pub use Rattle.lent.proofs.Exports.{drops, answered, gone_ptr, gone_int, gone_sint, gone_heap, alloc_made, moved_to, slice_moved, leave}
