@@ -8,6 +8,7 @@ use crate::code::NULL;
 use crate::names::refusal_name;
 use lent::{Lent, LentSlice};
 
+/// The name of what a call answered, with a zero behind it. `count` is told its length, and 0 where the number has none.
 #[unsafe(no_mangle)]
 pub unsafe extern "C" fn gozdrit_refusal_name(
     number: i32,
@@ -17,7 +18,10 @@ pub unsafe extern "C" fn gozdrit_refusal_name(
 ) -> i32
     ghost before: { Option (List ℕ) × Option ℕ }
     requires* { sem 𝓛 (slice_lies_at u8 name room before.0) ∗ sem 𝓛 (value_lies_at usize count before.1) }
-    ensures* { ∃ₛ (λ (after : Option (List ℕ) × Option ℕ). sem 𝓛 (slice_lies_at u8 name room after.0) ∗ sem 𝓛 (value_lies_at usize count after.1) ∗ ⌜ NameFor number before.0 before.1 result after.0 after.1 ⌝) }
+    ensures* { ∃ₛ (λ (after : Option (List ℕ) × Option ℕ).
+        sem 𝓛 (slice_lies_at u8 name room after.0)
+        ∗ sem 𝓛 (value_lies_at usize count after.1)
+        ∗ ⌜ NameFor number before.0 before.1 result after.0 after.1 ⌝) }
 {
     refusal_name_lent(
         number,
@@ -35,7 +39,8 @@ fn refusal_name_lent(
     mut name: LentSlice<u8>,
     mut count: Lent<usize>,
 ) -> (i32, LentSlice<u8>, Lent<usize>)
-    ensures { ((result.1.at ≡ name.at) × (result.1.len ≡ name.len) × (result.2.at ≡ count.at)) × NameFor number name.items count.value result.0 result.1.items result.2.value }
+    ensures { ((result.1.at ≡ name.at) × (result.1.len ≡ name.len) × (result.2.at ≡ count.at))
+        × NameFor number name.items count.value result.0 result.1.items result.2.value }
 {
     if name.is_missing() || count.is_null() {
         return (NULL, name, count);

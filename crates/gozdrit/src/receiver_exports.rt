@@ -1,7 +1,7 @@
 //! What C calls of a receiver.
 //!
-//! Each export hands the pointers to a function that tests them for null. What the call itself answers is said in `specs`
-//! (docs/LIBRARY.md tells where), and for C in `include/gozdrit.h`.
+//! Each export hands its pointers to a function that tests them for null, and then makes the call. What it answers is
+//! defined in `specs/Lent.antt`, and said for C in `include/gozdrit.h`, with its refusals.
 ghost use Rattle.std.specs.Prelude.{◌≡◌, ℕ, List, Option};
 ghost use Rattle.std.specs.Borrow.{sem, u8, usize};
 ghost use Rattle.lent.specs.Lying.{slice_lies_at, value_lies_at};
@@ -23,6 +23,8 @@ use crate::receiving::{ask, on_media, play, receiver_free, receiver_new};
 use lent::{Lent, LentSlice};
 use std::alloc::Global;
 
+/// Makes a receiver that took nothing, in a handle that holds no end: `Receiver::new` of a session, a configuration and a
+/// ring window, each of which `config` says.
 #[unsafe(no_mangle)]
 pub unsafe extern "C" fn gozdrit_receiver_new(
     alloc: Global,
@@ -31,7 +33,10 @@ pub unsafe extern "C" fn gozdrit_receiver_new(
 ) -> i32
     ghost before: { Option ReceiverFields × Option ReceiverHandle }
     requires* { sem 𝓛 (value_lies_at config_row config before.0) ∗ sem 𝓛 (value_lies_at receiver_row receiver before.1) }
-    ensures* { ∃ₛ (λ (after : Option ReceiverFields × Option ReceiverHandle). sem 𝓛 (value_lies_at config_row config after.0) ∗ sem 𝓛 (value_lies_at receiver_row receiver after.1) ∗ ⌜ ReceiverNewFor before.0 before.1 result after.0 after.1 ⌝) }
+    ensures* { ∃ₛ (λ (after : Option ReceiverFields × Option ReceiverHandle).
+        sem 𝓛 (value_lies_at config_row config after.0)
+        ∗ sem 𝓛 (value_lies_at receiver_row receiver after.1)
+        ∗ ⌜ ReceiverNewFor before.0 before.1 result after.0 after.1 ⌝) }
 {
     receiver_new_lent(alloc, Lent { at: config }, Lent { at: receiver }).0
 }
@@ -41,7 +46,8 @@ fn receiver_new_lent(
     mut config: Lent<ReceiverFields>,
     mut receiver: Lent<ReceiverHandle>,
 ) -> (i32, Lent<ReceiverFields>, Lent<ReceiverHandle>)
-    ensures { ((result.1.at ≡ config.at) × (result.2.at ≡ receiver.at)) × ReceiverNewFor config.value receiver.value result.0 result.1.value result.2.value }
+    ensures { ((result.1.at ≡ config.at) × (result.2.at ≡ receiver.at))
+        × ReceiverNewFor config.value receiver.value result.0 result.1.value result.2.value }
 {
     if config.is_null() || receiver.is_null() {
         return (NULL, config, receiver);
@@ -50,11 +56,14 @@ fn receiver_new_lent(
     (code, config, receiver)
 }
 
+/// Gives a receiver's memory back. The handle then holds no end.
 #[unsafe(no_mangle)]
 pub unsafe extern "C" fn gozdrit_receiver_free(alloc: Global, receiver: *mut ReceiverHandle) -> i32
     ghost before: { Option ReceiverHandle }
     requires* { sem 𝓛 (value_lies_at receiver_row receiver before) }
-    ensures* { ∃ₛ (λ (after : Option ReceiverHandle). sem 𝓛 (value_lies_at receiver_row receiver after) ∗ ⌜ ReceiverFreeFor before result after ⌝) }
+    ensures* { ∃ₛ (λ (after : Option ReceiverHandle).
+        sem 𝓛 (value_lies_at receiver_row receiver after)
+        ∗ ⌜ ReceiverFreeFor before result after ⌝) }
 {
     receiver_free_lent(alloc, Lent { at: receiver }).0
 }
@@ -72,6 +81,7 @@ fn receiver_free_lent(
     (code, receiver)
 }
 
+/// `Receiver::on_media` at the moment `now`, in milliseconds. `taken` is told the place, and how many places were dropped.
 #[unsafe(no_mangle)]
 pub unsafe extern "C" fn gozdrit_on_media(
     alloc: Global,
@@ -82,8 +92,14 @@ pub unsafe extern "C" fn gozdrit_on_media(
     taken: *mut TakenPlace,
 ) -> i32
     ghost before: { Option ReceiverHandle × Option (List ℕ) × Option TakenPlace }
-    requires* { sem 𝓛 (value_lies_at receiver_row receiver before.0) ∗ sem 𝓛 (slice_lies_at u8 octets length before.1) ∗ sem 𝓛 (value_lies_at taken_row taken before.2) }
-    ensures* { ∃ₛ (λ (after : Option ReceiverHandle × Option (List ℕ) × Option TakenPlace). sem 𝓛 (value_lies_at receiver_row receiver after.0) ∗ sem 𝓛 (slice_lies_at u8 octets length after.1) ∗ sem 𝓛 (value_lies_at taken_row taken after.2) ∗ ⌜ MediaFor now before.0 before.1 before.2 result after.0 after.1 after.2 ⌝) }
+    requires* { sem 𝓛 (value_lies_at receiver_row receiver before.0)
+        ∗ sem 𝓛 (slice_lies_at u8 octets length before.1)
+        ∗ sem 𝓛 (value_lies_at taken_row taken before.2) }
+    ensures* { ∃ₛ (λ (after : Option ReceiverHandle × Option (List ℕ) × Option TakenPlace).
+        sem 𝓛 (value_lies_at receiver_row receiver after.0)
+        ∗ sem 𝓛 (slice_lies_at u8 octets length after.1)
+        ∗ sem 𝓛 (value_lies_at taken_row taken after.2)
+        ∗ ⌜ MediaFor now before.0 before.1 before.2 result after.0 after.1 after.2 ⌝) }
 {
     on_media_lent(
         alloc,
@@ -105,7 +121,8 @@ fn on_media_lent(
     now: u64,
     mut taken: Lent<TakenPlace>,
 ) -> (i32, Lent<ReceiverHandle>, LentSlice<u8>, Lent<TakenPlace>)
-    ensures { ((result.1.at ≡ receiver.at) × (result.2.at ≡ octets.at) × (result.2.len ≡ octets.len) × (result.3.at ≡ taken.at)) × MediaFor now receiver.value octets.items taken.value result.0 result.1.value result.2.items result.3.value }
+    ensures { ((result.1.at ≡ receiver.at) × (result.2.at ≡ octets.at) × (result.2.len ≡ octets.len) × (result.3.at ≡ taken.at))
+        × MediaFor now receiver.value octets.items taken.value result.0 result.1.value result.2.items result.3.value }
 {
     if receiver.is_null() || octets.is_missing() || taken.is_null() {
         return (NULL, receiver, octets, taken);
@@ -114,6 +131,8 @@ fn on_media_lent(
     (code, receiver, octets, taken)
 }
 
+/// `Receiver::play` at the moment `now`, in milliseconds. `played` is told what came, and a payload stands at the front of
+/// `payload`.
 #[unsafe(no_mangle)]
 pub unsafe extern "C" fn gozdrit_play(
     alloc: Global,
@@ -124,8 +143,14 @@ pub unsafe extern "C" fn gozdrit_play(
     room: usize,
 ) -> i32
     ghost before: { Option ReceiverHandle × Option PlayedPlace × Option (List ℕ) }
-    requires* { sem 𝓛 (value_lies_at receiver_row receiver before.0) ∗ sem 𝓛 (value_lies_at played_row played before.1) ∗ sem 𝓛 (slice_lies_at u8 payload room before.2) }
-    ensures* { ∃ₛ (λ (after : Option ReceiverHandle × Option PlayedPlace × Option (List ℕ)). sem 𝓛 (value_lies_at receiver_row receiver after.0) ∗ sem 𝓛 (value_lies_at played_row played after.1) ∗ sem 𝓛 (slice_lies_at u8 payload room after.2) ∗ ⌜ PlayFor now before.0 before.1 before.2 result after.0 after.1 after.2 ⌝) }
+    requires* { sem 𝓛 (value_lies_at receiver_row receiver before.0)
+        ∗ sem 𝓛 (value_lies_at played_row played before.1)
+        ∗ sem 𝓛 (slice_lies_at u8 payload room before.2) }
+    ensures* { ∃ₛ (λ (after : Option ReceiverHandle × Option PlayedPlace × Option (List ℕ)).
+        sem 𝓛 (value_lies_at receiver_row receiver after.0)
+        ∗ sem 𝓛 (value_lies_at played_row played after.1)
+        ∗ sem 𝓛 (slice_lies_at u8 payload room after.2)
+        ∗ ⌜ PlayFor now before.0 before.1 before.2 result after.0 after.1 after.2 ⌝) }
 {
     play_lent(
         alloc,
@@ -147,7 +172,8 @@ fn play_lent(
     mut played: Lent<PlayedPlace>,
     mut payload: LentSlice<u8>,
 ) -> (i32, Lent<ReceiverHandle>, Lent<PlayedPlace>, LentSlice<u8>)
-    ensures { ((result.1.at ≡ receiver.at) × (result.2.at ≡ played.at) × (result.3.at ≡ payload.at) × (result.3.len ≡ payload.len)) × PlayFor now receiver.value played.value payload.items result.0 result.1.value result.2.value result.3.items }
+    ensures { ((result.1.at ≡ receiver.at) × (result.2.at ≡ played.at) × (result.3.at ≡ payload.at) × (result.3.len ≡ payload.len))
+        × PlayFor now receiver.value played.value payload.items result.0 result.1.value result.2.value result.3.items }
 {
     if receiver.is_null() || played.is_null() || payload.is_missing() {
         return (NULL, receiver, played, payload);
@@ -156,6 +182,8 @@ fn play_lent(
     (code, receiver, played, payload)
 }
 
+/// `Receiver::ask` at the moment `now`, in milliseconds. `count` is told the datagram's length, or 0 where there is none, and
+/// the datagram stands at the front of `out`.
 #[unsafe(no_mangle)]
 pub unsafe extern "C" fn gozdrit_ask(
     alloc: Global,
@@ -166,8 +194,14 @@ pub unsafe extern "C" fn gozdrit_ask(
     room: usize,
 ) -> i32
     ghost before: { Option ReceiverHandle × Option ℕ × Option (List ℕ) }
-    requires* { sem 𝓛 (value_lies_at receiver_row receiver before.0) ∗ sem 𝓛 (value_lies_at usize count before.1) ∗ sem 𝓛 (slice_lies_at u8 out room before.2) }
-    ensures* { ∃ₛ (λ (after : Option ReceiverHandle × Option ℕ × Option (List ℕ)). sem 𝓛 (value_lies_at receiver_row receiver after.0) ∗ sem 𝓛 (value_lies_at usize count after.1) ∗ sem 𝓛 (slice_lies_at u8 out room after.2) ∗ ⌜ AskFor now before.0 before.1 before.2 result after.0 after.1 after.2 ⌝) }
+    requires* { sem 𝓛 (value_lies_at receiver_row receiver before.0)
+        ∗ sem 𝓛 (value_lies_at usize count before.1)
+        ∗ sem 𝓛 (slice_lies_at u8 out room before.2) }
+    ensures* { ∃ₛ (λ (after : Option ReceiverHandle × Option ℕ × Option (List ℕ)).
+        sem 𝓛 (value_lies_at receiver_row receiver after.0)
+        ∗ sem 𝓛 (value_lies_at usize count after.1)
+        ∗ sem 𝓛 (slice_lies_at u8 out room after.2)
+        ∗ ⌜ AskFor now before.0 before.1 before.2 result after.0 after.1 after.2 ⌝) }
 {
     ask_lent(
         alloc,
@@ -186,7 +220,8 @@ fn ask_lent(
     mut count: Lent<usize>,
     mut out: LentSlice<u8>,
 ) -> (i32, Lent<ReceiverHandle>, Lent<usize>, LentSlice<u8>)
-    ensures { ((result.1.at ≡ receiver.at) × (result.2.at ≡ count.at) × (result.3.at ≡ out.at) × (result.3.len ≡ out.len)) × AskFor now receiver.value count.value out.items result.0 result.1.value result.2.value result.3.items }
+    ensures { ((result.1.at ≡ receiver.at) × (result.2.at ≡ count.at) × (result.3.at ≡ out.at) × (result.3.len ≡ out.len))
+        × AskFor now receiver.value count.value out.items result.0 result.1.value result.2.value result.3.items }
 {
     if receiver.is_null() || count.is_null() || out.is_missing() {
         return (NULL, receiver, count, out);

@@ -1,7 +1,7 @@
 //! What C calls of a sender.
 //!
-//! Each export hands the pointers to a function that tests them for null. What the call itself answers is said in `specs`
-//! (docs/LIBRARY.md tells where), and for C in `include/gozdrit.h`.
+//! Each export hands its pointers to a function that tests them for null, and then makes the call. What it answers is
+//! defined in `specs/Lent.antt`, and said for C in `include/gozdrit.h`, with its refusals.
 ghost use Rattle.std.specs.Prelude.{◌≡◌, ℕ, List, Option};
 ghost use Rattle.std.specs.Borrow.{sem, u32, u8};
 ghost use Rattle.lent.specs.Lying.{slice_lies_at, value_lies_at};
@@ -24,6 +24,8 @@ use crate::sending::{next_repair, on_feedback, send, sender_free, sender_new};
 use lent::{Lent, LentSlice};
 use std::alloc::Global;
 
+/// Makes a sender that sent nothing, in a handle that holds no end: `Sender::new` of a session, a configuration and a
+/// ring history, each of which `config` says.
 #[unsafe(no_mangle)]
 pub unsafe extern "C" fn gozdrit_sender_new(
     alloc: Global,
@@ -32,7 +34,10 @@ pub unsafe extern "C" fn gozdrit_sender_new(
 ) -> i32
     ghost before: { Option SenderFields × Option SenderHandle }
     requires* { sem 𝓛 (value_lies_at config_row config before.0) ∗ sem 𝓛 (value_lies_at sender_row sender before.1) }
-    ensures* { ∃ₛ (λ (after : Option SenderFields × Option SenderHandle). sem 𝓛 (value_lies_at config_row config after.0) ∗ sem 𝓛 (value_lies_at sender_row sender after.1) ∗ ⌜ SenderNewFor before.0 before.1 result after.0 after.1 ⌝) }
+    ensures* { ∃ₛ (λ (after : Option SenderFields × Option SenderHandle).
+        sem 𝓛 (value_lies_at config_row config after.0)
+        ∗ sem 𝓛 (value_lies_at sender_row sender after.1)
+        ∗ ⌜ SenderNewFor before.0 before.1 result after.0 after.1 ⌝) }
 {
     sender_new_lent(alloc, Lent { at: config }, Lent { at: sender }).0
 }
@@ -42,7 +47,8 @@ fn sender_new_lent(
     mut config: Lent<SenderFields>,
     mut sender: Lent<SenderHandle>,
 ) -> (i32, Lent<SenderFields>, Lent<SenderHandle>)
-    ensures { ((result.1.at ≡ config.at) × (result.2.at ≡ sender.at)) × SenderNewFor config.value sender.value result.0 result.1.value result.2.value }
+    ensures { ((result.1.at ≡ config.at) × (result.2.at ≡ sender.at))
+        × SenderNewFor config.value sender.value result.0 result.1.value result.2.value }
 {
     if config.is_null() || sender.is_null() {
         return (NULL, config, sender);
@@ -51,11 +57,14 @@ fn sender_new_lent(
     (code, config, sender)
 }
 
+/// Gives a sender's memory back. The handle then holds no end.
 #[unsafe(no_mangle)]
 pub unsafe extern "C" fn gozdrit_sender_free(alloc: Global, sender: *mut SenderHandle) -> i32
     ghost before: { Option SenderHandle }
     requires* { sem 𝓛 (value_lies_at sender_row sender before) }
-    ensures* { ∃ₛ (λ (after : Option SenderHandle). sem 𝓛 (value_lies_at sender_row sender after) ∗ ⌜ SenderFreeFor before result after ⌝) }
+    ensures* { ∃ₛ (λ (after : Option SenderHandle).
+        sem 𝓛 (value_lies_at sender_row sender after)
+        ∗ ⌜ SenderFreeFor before result after ⌝) }
 {
     sender_free_lent(alloc, Lent { at: sender }).0
 }
@@ -70,6 +79,8 @@ fn sender_free_lent(alloc: Global, mut sender: Lent<SenderHandle>) -> (i32, Lent
     (code, sender)
 }
 
+/// `Sender::send` of the content that header and payload say. `sent` is told its place and the datagram's length, and the
+/// datagram stands at the front of `out`.
 #[unsafe(no_mangle)]
 pub unsafe extern "C" fn gozdrit_send(
     alloc: Global,
@@ -83,8 +94,18 @@ pub unsafe extern "C" fn gozdrit_send(
     room: usize,
 ) -> i32
     ghost before: { Option SenderHandle × Option Header × Option (List ℕ) × Option SentPacket × Option (List ℕ) }
-    requires* { sem 𝓛 (value_lies_at sender_row sender before.0) ∗ sem 𝓛 (value_lies_at header_row header before.1) ∗ sem 𝓛 (slice_lies_at u8 payload length before.2) ∗ sem 𝓛 (value_lies_at sent_row sent before.3) ∗ sem 𝓛 (slice_lies_at u8 out room before.4) }
-    ensures* { ∃ₛ (λ (after : Option SenderHandle × Option Header × Option (List ℕ) × Option SentPacket × Option (List ℕ)). sem 𝓛 (value_lies_at sender_row sender after.0) ∗ sem 𝓛 (value_lies_at header_row header after.1) ∗ sem 𝓛 (slice_lies_at u8 payload length after.2) ∗ sem 𝓛 (value_lies_at sent_row sent after.3) ∗ sem 𝓛 (slice_lies_at u8 out room after.4) ∗ ⌜ SendFor padding before.0 before.1 before.2 before.3 before.4 result after.0 after.1 after.2 after.3 after.4 ⌝) }
+    requires* { sem 𝓛 (value_lies_at sender_row sender before.0)
+        ∗ sem 𝓛 (value_lies_at header_row header before.1)
+        ∗ sem 𝓛 (slice_lies_at u8 payload length before.2)
+        ∗ sem 𝓛 (value_lies_at sent_row sent before.3)
+        ∗ sem 𝓛 (slice_lies_at u8 out room before.4) }
+    ensures* { ∃ₛ (λ (after : Option SenderHandle × Option Header × Option (List ℕ) × Option SentPacket × Option (List ℕ)).
+        sem 𝓛 (value_lies_at sender_row sender after.0)
+        ∗ sem 𝓛 (value_lies_at header_row header after.1)
+        ∗ sem 𝓛 (slice_lies_at u8 payload length after.2)
+        ∗ sem 𝓛 (value_lies_at sent_row sent after.3)
+        ∗ sem 𝓛 (slice_lies_at u8 out room after.4)
+        ∗ ⌜ SendFor padding before.0 before.1 before.2 before.3 before.4 result after.0 after.1 after.2 after.3 after.4 ⌝) }
 {
     send_lent(
         alloc,
@@ -117,7 +138,8 @@ fn send_lent(
     Lent<SentPacket>,
     LentSlice<u8>,
 )
-    ensures { ((result.1.at ≡ sender.at) × (result.2.at ≡ header.at) × (result.3.at ≡ payload.at) × (result.3.len ≡ payload.len) × (result.4.at ≡ sent.at) × (result.5.at ≡ out.at) × (result.5.len ≡ out.len)) × SendFor padding sender.value header.value payload.items sent.value out.items result.0 result.1.value result.2.value result.3.items result.4.value result.5.items }
+    ensures { ((result.1.at ≡ sender.at) × (result.2.at ≡ header.at) × (result.3.at ≡ payload.at) × (result.3.len ≡ payload.len) × (result.4.at ≡ sent.at) × (result.5.at ≡ out.at) × (result.5.len ≡ out.len))
+        × SendFor padding sender.value header.value payload.items sent.value out.items result.0 result.1.value result.2.value result.3.items result.4.value result.5.items }
 {
     if sender.is_null()
         || header.is_null()
@@ -139,6 +161,7 @@ fn send_lent(
     (code, sender, header, payload, sent, out)
 }
 
+/// `Sender::on_feedback`. `marked` is told how many packets are to be retransmitted that were not before.
 #[unsafe(no_mangle)]
 pub unsafe extern "C" fn gozdrit_on_feedback(
     alloc: Global,
@@ -148,8 +171,14 @@ pub unsafe extern "C" fn gozdrit_on_feedback(
     marked: *mut u32,
 ) -> i32
     ghost before: { Option SenderHandle × Option (List ℕ) × Option ℕ }
-    requires* { sem 𝓛 (value_lies_at sender_row sender before.0) ∗ sem 𝓛 (slice_lies_at u8 octets length before.1) ∗ sem 𝓛 (value_lies_at u32 marked before.2) }
-    ensures* { ∃ₛ (λ (after : Option SenderHandle × Option (List ℕ) × Option ℕ). sem 𝓛 (value_lies_at sender_row sender after.0) ∗ sem 𝓛 (slice_lies_at u8 octets length after.1) ∗ sem 𝓛 (value_lies_at u32 marked after.2) ∗ ⌜ FeedbackFor before.0 before.1 before.2 result after.0 after.1 after.2 ⌝) }
+    requires* { sem 𝓛 (value_lies_at sender_row sender before.0)
+        ∗ sem 𝓛 (slice_lies_at u8 octets length before.1)
+        ∗ sem 𝓛 (value_lies_at u32 marked before.2) }
+    ensures* { ∃ₛ (λ (after : Option SenderHandle × Option (List ℕ) × Option ℕ).
+        sem 𝓛 (value_lies_at sender_row sender after.0)
+        ∗ sem 𝓛 (slice_lies_at u8 octets length after.1)
+        ∗ sem 𝓛 (value_lies_at u32 marked after.2)
+        ∗ ⌜ FeedbackFor before.0 before.1 before.2 result after.0 after.1 after.2 ⌝) }
 {
     on_feedback_lent(
         alloc,
@@ -169,7 +198,8 @@ fn on_feedback_lent(
     mut octets: LentSlice<u8>,
     mut marked: Lent<u32>,
 ) -> (i32, Lent<SenderHandle>, LentSlice<u8>, Lent<u32>)
-    ensures { ((result.1.at ≡ sender.at) × (result.2.at ≡ octets.at) × (result.2.len ≡ octets.len) × (result.3.at ≡ marked.at)) × FeedbackFor sender.value octets.items marked.value result.0 result.1.value result.2.items result.3.value }
+    ensures { ((result.1.at ≡ sender.at) × (result.2.at ≡ octets.at) × (result.2.len ≡ octets.len) × (result.3.at ≡ marked.at))
+        × FeedbackFor sender.value octets.items marked.value result.0 result.1.value result.2.items result.3.value }
 {
     if sender.is_null() || octets.is_missing() || marked.is_null() {
         return (NULL, sender, octets, marked);
@@ -178,6 +208,7 @@ fn on_feedback_lent(
     (code, sender, octets, marked)
 }
 
+/// `Sender::next_repair`, told as a send; where there is none, the length is 0.
 #[unsafe(no_mangle)]
 pub unsafe extern "C" fn gozdrit_next_repair(
     alloc: Global,
@@ -187,8 +218,14 @@ pub unsafe extern "C" fn gozdrit_next_repair(
     room: usize,
 ) -> i32
     ghost before: { Option SenderHandle × Option SentPacket × Option (List ℕ) }
-    requires* { sem 𝓛 (value_lies_at sender_row sender before.0) ∗ sem 𝓛 (value_lies_at sent_row sent before.1) ∗ sem 𝓛 (slice_lies_at u8 out room before.2) }
-    ensures* { ∃ₛ (λ (after : Option SenderHandle × Option SentPacket × Option (List ℕ)). sem 𝓛 (value_lies_at sender_row sender after.0) ∗ sem 𝓛 (value_lies_at sent_row sent after.1) ∗ sem 𝓛 (slice_lies_at u8 out room after.2) ∗ ⌜ RepairFor before.0 before.1 before.2 result after.0 after.1 after.2 ⌝) }
+    requires* { sem 𝓛 (value_lies_at sender_row sender before.0)
+        ∗ sem 𝓛 (value_lies_at sent_row sent before.1)
+        ∗ sem 𝓛 (slice_lies_at u8 out room before.2) }
+    ensures* { ∃ₛ (λ (after : Option SenderHandle × Option SentPacket × Option (List ℕ)).
+        sem 𝓛 (value_lies_at sender_row sender after.0)
+        ∗ sem 𝓛 (value_lies_at sent_row sent after.1)
+        ∗ sem 𝓛 (slice_lies_at u8 out room after.2)
+        ∗ ⌜ RepairFor before.0 before.1 before.2 result after.0 after.1 after.2 ⌝) }
 {
     next_repair_lent(
         alloc,
@@ -205,7 +242,8 @@ fn next_repair_lent(
     mut sent: Lent<SentPacket>,
     mut out: LentSlice<u8>,
 ) -> (i32, Lent<SenderHandle>, Lent<SentPacket>, LentSlice<u8>)
-    ensures { ((result.1.at ≡ sender.at) × (result.2.at ≡ sent.at) × (result.3.at ≡ out.at) × (result.3.len ≡ out.len)) × RepairFor sender.value sent.value out.items result.0 result.1.value result.2.value result.3.items }
+    ensures { ((result.1.at ≡ sender.at) × (result.2.at ≡ sent.at) × (result.3.at ≡ out.at) × (result.3.len ≡ out.len))
+        × RepairFor sender.value sent.value out.items result.0 result.1.value result.2.value result.3.items }
 {
     if sender.is_null() || sent.is_null() || out.is_missing() {
         return (NULL, sender, sent, out);
