@@ -1,0 +1,161 @@
+/* Receives a file that `send` sends, over UDP, and asks for what was lost.
+ *
+ *   receive FILE PORT [--loss N] [--seed N] [--seconds N]
+ *
+ * The packets are described at the top of send.c. Feedback goes to where the first packet came from; its losses are
+ * drawn as those of the sender's datagrams are. At the end one line of counts is printed.
+ *
+ * The status is 0 where the whole file was received and written, 2 for a wrong command line, and else 1. */
+#define _POSIX_C_SOURCE 200809L
+#include "udp.h"
+
+#include <inttypes.h>
+
+enum {
+    BURST = 64,     /* datagrams taken at once at most */
+    ASK = 5,        /* milliseconds between two looks for what is due */
+    GOODBYES = 40,  /* how often BYE is said, since some of them may be lost */
+    PATIENCE = 1000 /* milliseconds that a missing packet is waited for */
+};
+
+typedef struct receiving {
+    gozdrit_receiver end;
+    FILE *file;
+    int at;
+    options chosen;
+    bool heard; /* a packet was taken, and the socket sends to where it came from */
+    bool ended; /* the packet that ends the file was played, or the file can't be written */
+    bool whole; /* nothing of the file is missing so far */
+    uint64_t packets, repairs, played, gaps, refused, octets;
+} receiving;
+
+/* Takes what came. What is refused is counted, and nothing else: late and double packets are no failure. */
+static void take_packets(receiving *r, uint64_t now) {
+    static uint8_t octets[65536];
+    for (int i = 0; i < BURST; i++) {
+        struct sockaddr_storage from;
+        socklen_t size = sizeof from;
+        gozdrit_taken taken;
+        ssize_t length = recvfrom(r->at, octets, sizeof octets, MSG_DONTWAIT, (struct sockaddr *)&from, &size);
+        if (length < 0) return;
+        if (gozdrit_on_media(&r->end, octets, (size_t)length, now, &taken) != GOZDRIT_OK) {
+            r->refused++;
+            continue;
+        }
+        if ((octets[1] & 0x7f) == SESSION.repair_type) r->repairs++;
+        else r->packets++;
+        if (taken.overrun > 0) fprintf(stderr, "overrun: %" PRIu64 " places\n", taken.overrun);
+        if (!r->heard) r->heard = connect(r->at, (struct sockaddr *)&from, size) == 0;
+    }
+}
+
+/* Writes what a packet carries. Its timestamp shows whether anything before it was lost. */
+static void write_packet(receiving *r, const gozdrit_played *played, const uint8_t *payload) {
+    r->played++;
+    if (played->header.timestamp != (uint32_t)r->octets) r->whole = false;
+    if (fwrite(payload, 1, played->length, r->file) != played->length) {
+        perror("receive");
+        r->whole = false;
+    }
+    r->octets += played->length;
+    r->ended = played->header.marker || ferror(r->file);
+}
+
+/* Plays what can be played. */
+static int32_t play(receiving *r, uint64_t now) {
+    while (!r->ended) {
+        gozdrit_played played;
+        uint8_t payload[GOZDRIT_MAX_PAYLOAD];
+        int32_t number = gozdrit_play(&r->end, now, &played, payload, sizeof payload);
+        if (number != GOZDRIT_OK) return number;
+        if (played.kind == GOZDRIT_WAIT) return GOZDRIT_OK;
+        if (played.kind == GOZDRIT_PACKET) {
+            write_packet(r, &played, payload);
+        } else {
+            r->gaps++;
+            fprintf(stderr, "gap: place %" PRIu64 "\n", played.place);
+        }
+    }
+    return GOZDRIT_OK;
+}
+
+/* Asks for all that is due. */
+static int32_t ask(receiving *r, uint64_t now) {
+    for (;;) {
+        uint8_t out[GOZDRIT_MAX_DATAGRAM];
+        size_t length;
+        int32_t number = gozdrit_ask(&r->end, now, &length, out, sizeof out);
+        if (number != GOZDRIT_OK || length == 0) return number;
+        lossy_send(r->at, &r->chosen, out, length);
+    }
+}
+
+/* Receives until the file has ended, the time is over, or something fails. */
+static void receive_file(receiving *r) {
+    uint64_t start = moment(), asked = start;
+    while (!r->ended && moment() - start < r->chosen.seconds * 1000) {
+        wait_for_datagram(r->at);
+        uint64_t now = moment();
+        take_packets(r, now);
+        int32_t number = play(r, now);
+        if (number == GOZDRIT_OK && now - asked >= ASK) {
+            asked = now;
+            number = ask(r, now);
+        }
+        if (number != GOZDRIT_OK) {
+            tell_refusal("receive", number);
+            return;
+        }
+    }
+    if (!r->ended) fprintf(stderr, "receive: the file has not ended in time\n");
+    r->whole = r->whole && r->ended;
+}
+
+/* Says BYE, each time as a datagram of its own. */
+static void say_goodbye(receiving *r) {
+    for (int i = 0; r->heard && i < GOODBYES; i++) {
+        const struct timespec pause = {0, 10 * 1000 * 1000};
+        lossy_send(r->at, &r->chosen, r->whole ? BYE_WHOLE : BYE_BROKEN, BYE_LENGTH);
+        nanosleep(&pause, NULL);
+    }
+}
+
+/* Makes the receiver, receives the file with it, and gives its memory back. */
+static void run(receiving *r) {
+    gozdrit_receiver_config config = {SESSION, PATIENCE, 20, 4096, 255, 0};
+    int32_t number = gozdrit_receiver_new(&config, &r->end);
+    if (number != GOZDRIT_OK) {
+        tell_refusal("gozdrit_receiver_new", number);
+        return;
+    }
+    r->whole = true;
+    receive_file(r);
+    gozdrit_receiver_free(&r->end);
+    if (fflush(r->file) != 0) r->whole = false;
+    say_goodbye(r);
+    printf("packets %" PRIu64 " retransmissions %" PRIu64 " played %" PRIu64 " gaps %" PRIu64, r->packets, r->repairs,
+           r->played, r->gaps);
+    printf(" refused %" PRIu64 " octets %" PRIu64 "\n", r->refused, r->octets);
+}
+
+int main(int count, char **words) {
+    receiving r = {0};
+    if (count < 3 || !options_of(words + 3, &r.chosen)) {
+        fprintf(stderr, "usage: receive FILE PORT [--loss N] [--seed N] [--seconds N]\n");
+        return 2;
+    }
+    r.at = open_socket(NULL, words[2]);
+    if (r.at < 0) {
+        fprintf(stderr, "receive: no socket at port %s\n", words[2]);
+        return 1;
+    }
+    r.file = fopen(words[1], "wb");
+    if (r.file) {
+        run(&r);
+        fclose(r.file);
+    } else {
+        perror(words[1]);
+    }
+    close(r.at);
+    return r.whole ? 0 : 1;
+}
