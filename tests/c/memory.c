@@ -47,7 +47,7 @@ static void use_sender(gozdrit_sender *sender) {
     uint8_t out[GOZDRIT_MAX_DATAGRAM], nack[NACK_LENGTH];
     gozdrit_sent sent;
     uint32_t marked;
-    write_nack(nack, 0x33333333, 0x11111111, 10, 0xffff);
+    write_nack(nack, 0x33333333, 0x11111111, 50, 0xffff);
     for (int i = 0; i < 100; i++) {
         ANSWERS(GOZDRIT_OK, gozdrit_send(sender, &header, payload, sizeof payload, 0, &sent, out, sizeof out));
     }

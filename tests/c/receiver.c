@@ -59,8 +59,9 @@ static void test_configs(void) {
     for (size_t i = 0; i < sizeof rows / sizeof *rows; i++) {
         gozdrit_receiver receiver = NONE;
         ANSWERS(rows[i].number, gozdrit_receiver_new(&rows[i].config, &receiver));
-        CHECK(receiver.held == (rows[i].number == GOZDRIT_OK) && (receiver.at != NULL) == receiver.held);
-        ANSWERS(receiver.held ? GOZDRIT_OK : GOZDRIT_NO_END, gozdrit_receiver_free(&receiver));
+        const bool made = rows[i].number == GOZDRIT_OK;
+        CHECK(receiver.held == made && (receiver.at != NULL) == made);
+        ANSWERS(made ? GOZDRIT_OK : GOZDRIT_NO_END, gozdrit_receiver_free(&receiver));
     }
 }
 
@@ -69,11 +70,11 @@ static void test_new_twice(void) {
     gozdrit_receiver receiver = NONE, before;
     size_t count = 9;
     ANSWERS(GOZDRIT_OK, gozdrit_receiver_new(&CONFIG, &receiver));
-    memcpy(&before, &receiver, sizeof receiver);
+    before = receiver;
     bad.asks = 0;
     ANSWERS(GOZDRIT_HELD, gozdrit_receiver_new(&CONFIG, &receiver));
     ANSWERS(GOZDRIT_HELD, gozdrit_receiver_new(&bad, &receiver));
-    CHECK(memcmp(&before, &receiver, sizeof receiver) == 0);
+    CHECK(before.at == receiver.at && before.held == receiver.held);
     ANSWERS(GOZDRIT_OK, gozdrit_receiver_free(&receiver));
     /* from here on there is none, until one is made anew */
     CHECK(!receiver.held);

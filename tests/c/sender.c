@@ -57,8 +57,9 @@ static void test_configs(void) {
     for (size_t i = 0; i < sizeof rows / sizeof *rows; i++) {
         gozdrit_sender sender = NONE;
         ANSWERS(rows[i].number, gozdrit_sender_new(&rows[i].config, &sender));
-        CHECK(sender.held == (rows[i].number == GOZDRIT_OK) && (sender.at != NULL) == sender.held);
-        ANSWERS(sender.held ? GOZDRIT_OK : GOZDRIT_NO_END, gozdrit_sender_free(&sender));
+        const bool made = rows[i].number == GOZDRIT_OK;
+        CHECK(sender.held == made && (sender.at != NULL) == made);
+        ANSWERS(made ? GOZDRIT_OK : GOZDRIT_NO_END, gozdrit_sender_free(&sender));
     }
 }
 
@@ -67,11 +68,11 @@ static void test_new_twice(void) {
     gozdrit_sender sender = NONE, before;
     lent l;
     ANSWERS(GOZDRIT_OK, gozdrit_sender_new(&CONFIG, &sender));
-    memcpy(&before, &sender, sizeof sender);
+    before = sender;
     bad.history = 0;
     ANSWERS(GOZDRIT_HELD, gozdrit_sender_new(&CONFIG, &sender));
     ANSWERS(GOZDRIT_HELD, gozdrit_sender_new(&bad, &sender));
-    CHECK(memcmp(&before, &sender, sizeof sender) == 0);
+    CHECK(before.at == sender.at && before.held == sender.held);
     ANSWERS(GOZDRIT_OK, gozdrit_sender_free(&sender));
     CHECK(!sender.held);
     /* from here on there is none, until one is made anew */
