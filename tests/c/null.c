@@ -16,6 +16,21 @@ static struct lent {
     uint8_t out[GOZDRIT_MAX_DATAGRAM];
 } l;
 
+/* Null comes before a handle that holds no end. */
+static void test_no_end(void) {
+    const gozdrit_header header = {0, {0}, {0}, 0, 0, 0, 0, 0};
+    ANSWERS(GOZDRIT_NULL, gozdrit_send(&sender, &header, NULL, 1, 0, &l.sent, l.out, sizeof l.out));
+    ANSWERS(GOZDRIT_NULL, gozdrit_on_feedback(&sender, NULL, 1, &l.marked));
+    ANSWERS(GOZDRIT_NULL, gozdrit_next_repair(&sender, NULL, l.out, sizeof l.out));
+    ANSWERS(GOZDRIT_NULL, gozdrit_on_media(&receiver, NULL, 1, 0, &l.taken));
+    ANSWERS(GOZDRIT_NULL, gozdrit_play(&receiver, 0, &l.played, NULL, sizeof l.out));
+    ANSWERS(GOZDRIT_NULL, gozdrit_ask(&receiver, 0, NULL, l.out, sizeof l.out));
+    ANSWERS(GOZDRIT_NULL, gozdrit_missing(&receiver, NULL));
+    ANSWERS(GOZDRIT_NO_END, gozdrit_on_feedback(&sender, NULL, 0, &l.marked));
+    ANSWERS(GOZDRIT_NO_END, gozdrit_on_media(&receiver, NULL, 0, 0, &l.taken));
+    CHECK(UNTOUCHED(l));
+}
+
 static void test_new(void) {
     const gozdrit_sender_config sending = {SESSION, 4, 0, 0, 1};
     const gozdrit_receiver_config receiving = {SESSION, 100, 20, 4, 2, 0};
@@ -83,6 +98,7 @@ static void test_receiving(void) {
 
 void test_null(void) {
     FILL(l);
+    test_no_end();
     test_new();
     test_receiving();
     test_sending();

@@ -71,13 +71,13 @@ static void test_new_twice(void) {
     size_t count = 9;
     ANSWERS(GOZDRIT_OK, gozdrit_receiver_new(&CONFIG, &receiver));
     before = receiver;
-    bad.asks = 0;
+    bad.session.media_type = 0, bad.asks = 0;
     ANSWERS(GOZDRIT_HELD, gozdrit_receiver_new(&CONFIG, &receiver));
     ANSWERS(GOZDRIT_HELD, gozdrit_receiver_new(&bad, &receiver));
     CHECK(before.at == receiver.at && before.held == receiver.held);
     ANSWERS(GOZDRIT_OK, gozdrit_receiver_free(&receiver));
     /* from here on there is none, until one is made anew */
-    CHECK(!receiver.held);
+    CHECK(!receiver.held && receiver.at == NULL);
     ANSWERS(GOZDRIT_NO_END, gozdrit_receiver_free(&receiver));
     ANSWERS(GOZDRIT_NO_END, gozdrit_missing(&receiver, &count));
     CHECK(count == 9);

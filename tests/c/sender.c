@@ -69,12 +69,12 @@ static void test_new_twice(void) {
     lent l;
     ANSWERS(GOZDRIT_OK, gozdrit_sender_new(&CONFIG, &sender));
     before = sender;
-    bad.history = 0;
+    bad.session.media_type = 0, bad.history = 0;
     ANSWERS(GOZDRIT_HELD, gozdrit_sender_new(&CONFIG, &sender));
     ANSWERS(GOZDRIT_HELD, gozdrit_sender_new(&bad, &sender));
     CHECK(before.at == sender.at && before.held == sender.held);
     ANSWERS(GOZDRIT_OK, gozdrit_sender_free(&sender));
-    CHECK(!sender.held);
+    CHECK(!sender.held && sender.at == NULL);
     /* from here on there is none, until one is made anew */
     FILL(l);
     ANSWERS(GOZDRIT_NO_END, gozdrit_sender_free(&sender));

@@ -67,6 +67,7 @@ static void repair(session *s) {
         ANSWERS(GOZDRIT_OK, gozdrit_next_repair(&s->sender, &sent, out, sizeof out));
         if (sent.length == 0) return;
         s->repairs++;
+        CHECK((out[0] & 0x20) == 0); /* it has no padding, whether the original had or not */
         if (is_lost(s)) continue;
         ANSWERS(GOZDRIT_OK, gozdrit_on_media(&s->receiver, out, sent.length, s->now, &taken));
         CHECK(taken.place == sent.place && taken.overrun == 0);
