@@ -58,7 +58,7 @@ static void write_packet(receiving *r, const gozdrit_played *played, const uint8
         r->whole = false;
     }
     r->octets += played->length;
-    r->ended = played->header.marker || ferror(r->file);
+    r->ended = (played->header.marker && played->length == 0) || ferror(r->file);
 }
 
 /* Plays what can be played. */
