@@ -17,8 +17,8 @@
 /* The streams of the session. Real ends agree on them by signalling (RFC 4588, section 8). */
 static const gozdrit_session SESSION = {0x11111111, 0x22222222, 0x33333333, 96, 97};
 
-/* The receiver's last word: RTCP BYE from its SSRC (RFC 3550, section 6.6), with the reason "all" where it has the whole
- * file, and "gap" where not. The library makes and takes generic NACKs alone, so the examples write these themselves. */
+/* The receiver's last word: RTCP BYE from its SSRC (RFC 3550, section 6.6), with the reason "all" where it has the
+ * whole file, and "gap" where not. The library makes and takes generic NACKs alone, so the examples write these. */
 enum { BYE_LENGTH = 12 };
 static const uint8_t BYE_WHOLE[BYE_LENGTH] = {0x81, 203, 0, 2, 0x33, 0x33, 0x33, 0x33, 3, 'a', 'l', 'l'};
 static const uint8_t BYE_BROKEN[BYE_LENGTH] = {0x81, 203, 0, 2, 0x33, 0x33, 0x33, 0x33, 3, 'g', 'a', 'p'};

@@ -5,6 +5,7 @@
 #include "checks.h"
 
 #include <stdio.h>
+#include <stdlib.h>
 
 static int checks, failures;
 
@@ -28,6 +29,13 @@ bool is_pattern(const void *from, size_t length) {
         if (octets[i] != PATTERN) return false;
     }
     return true;
+}
+
+uint8_t *boxed(const uint8_t *octets, size_t length) {
+    uint8_t *lent = (uint8_t *)malloc(length);
+    if (!lent) abort();
+    memcpy(lent, octets, length);
+    return lent;
 }
 
 static void write_u16(uint8_t *out, uint16_t number) {

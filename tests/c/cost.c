@@ -29,7 +29,8 @@ static bool make(gozdrit_sender *sender) {
     static const uint8_t payload[GOZDRIT_MAX_PAYLOAD] = {1, 2, 3};
     for (int i = 0; i < PACKETS; i++) {
         gozdrit_sent sent;
-        if (gozdrit_send(sender, &header, payload, sizeof payload, 0, &sent, datagrams[i], sizeof datagrams[i])) return false;
+        uint8_t *out = datagrams[i];
+        if (gozdrit_send(sender, &header, payload, sizeof payload, 0, &sent, out, sizeof *datagrams)) return false;
         lengths[i] = sent.length;
     }
     return true;
@@ -40,7 +41,8 @@ static bool take(gozdrit_receiver *receiver, gozdrit_played *played, uint8_t *pa
     for (int i = 0; i < PACKETS; i++) {
         gozdrit_taken taken;
         if (gozdrit_on_media(receiver, datagrams[i], lengths[i], 0, &taken)) return false;
-        if (gozdrit_play(receiver, 0, played, payload, GOZDRIT_MAX_PAYLOAD) || played->kind != GOZDRIT_PACKET) return false;
+        if (gozdrit_play(receiver, 0, played, payload, GOZDRIT_MAX_PAYLOAD)) return false;
+        if (played->kind != GOZDRIT_PACKET) return false;
     }
     return true;
 }

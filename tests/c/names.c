@@ -61,7 +61,8 @@ static void test_number(int32_t number, const char *expected) {
 }
 
 void test_names(void) {
-    static const int32_t others[] = {INT32_MIN, -1, 7, 10, 20, 30, 40, 43, 46, 50, 54, 70, 77, 256, 257, 332, INT32_MAX};
+    static const int32_t others[] = {INT32_MIN, -1, 7,  10, 20,  30,  40,  43,       46,
+                                     50,        54, 70, 77, 256, 257, 332, INT32_MAX};
     for (size_t i = 0; i < sizeof NAMES / sizeof *NAMES; i++) test_number(NAMES[i].number, NAMES[i].name);
     for (size_t i = 0; i < sizeof others / sizeof *others; i++) test_number(others[i], "");
 }

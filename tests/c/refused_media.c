@@ -1,6 +1,8 @@
 /* Datagrams that a receiver refuses, each by its number, and a receiver that learns. */
 #include "checks.h"
 
+#include <stdlib.h>
+
 static const gozdrit_receiver NONE = {NULL, false};
 
 /* What a receiver tells of itself, to see whether it changed. */
@@ -21,18 +23,20 @@ static state state_of(gozdrit_receiver *r) {
 }
 
 static bool is_same_state(const state *a, const state *b) {
-    return a->cursor.known == b->cursor.known && a->cursor.place == b->cursor.place && a->highest.known == b->highest.known
-           && a->highest.place == b->highest.place && a->source.known == b->source.known
-           && a->source.ssrc == b->source.ssrc && a->missing == b->missing;
+    return a->cursor.known == b->cursor.known && a->cursor.place == b->cursor.place
+           && a->highest.known == b->highest.known && a->highest.place == b->highest.place
+           && a->source.known == b->source.known && a->source.ssrc == b->source.ssrc && a->missing == b->missing;
 }
 
 /* The datagram is refused by this number, and nothing has changed. */
 static void refuses(gozdrit_receiver *r, int32_t number, const uint8_t *octets, size_t length) {
     const state before = state_of(r);
+    uint8_t *lent = boxed(octets, length);
     gozdrit_taken taken;
     FILL(taken);
-    ANSWERS(number, gozdrit_on_media(r, octets, length, 50, &taken));
+    ANSWERS(number, gozdrit_on_media(r, lent, length, 50, &taken));
     CHECK(UNTOUCHED(taken));
+    free(lent);
     const state after = state_of(r);
     CHECK(is_same_state(&before, &after));
 }
