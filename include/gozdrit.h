@@ -9,7 +9,7 @@
  *            carries. An end begins at 65536 + the first packet's sequence number. The places of the two ends differ by
  *            a multiple of 65536.
  *   moment   a time in milliseconds that the caller hands in as `now`, of one clock for one receiver. Moments need not
- *            rise: one that lies before an earlier one is no refusal, and nothing is due yet at it.
+ *            rise: at one before its beginning, no span of time has passed.
  *   missing  a place is missing from the packet on that shows that it was passed over, and until it is taken, given up
  *            or overrun.
  *   number   of a refusal: docs/PROTOCOL.md has them all.

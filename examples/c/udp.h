@@ -14,7 +14,8 @@
 #include <time.h>
 #include <unistd.h>
 
-/* The streams of the session. Real ends agree on them by signalling (RFC 4588, section 8). */
+/* The streams of the session. Real ends draw SSRCs at random, and agree on them and on the types by signalling
+ * (RFC 4588, section 8). */
 static const gozdrit_session SESSION = {0x11111111, 0x22222222, 0x33333333, 96, 97};
 
 /* The receiver's last word: RTCP BYE from its SSRC (RFC 3550, section 6.6), with the reason "all" where it has the
