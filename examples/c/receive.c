@@ -2,8 +2,9 @@
  *
  *   receive FILE PORT [--loss N] [--seed N] [--seconds N]
  *
- * The packets are described at the top of send.c. Feedback goes to where the first packet came from; its losses are
- * drawn as those of the sender's datagrams are. At the end one line of counts is printed.
+ * The packets are described at the top of send.c. Feedback goes to where the first packet came from. The options are
+ * those of `send`: here it is feedback that is lost. At the end one line of counts is printed: the packets and
+ * retransmissions that were taken, what was played and given up, the datagrams that were refused, and octets written.
  *
  * The status is 0 where the whole file was received and written, 2 for a wrong command line, and else 1. */
 #define _POSIX_C_SOURCE 200809L
@@ -133,8 +134,8 @@ static void run(receiving *r) {
     gozdrit_receiver_free(&r->end);
     if (fflush(r->file) != 0) r->whole = false;
     say_goodbye(r);
-    printf("packets %" PRIu64 " retransmissions %" PRIu64 " played %" PRIu64 " gaps %" PRIu64, r->packets, r->repairs,
-           r->played, r->gaps);
+    printf("receive: packets %" PRIu64 " retransmissions %" PRIu64, r->packets, r->repairs);
+    printf(" played %" PRIu64 " gaps %" PRIu64, r->played, r->gaps);
     printf(" refused %" PRIu64 " octets %" PRIu64 "\n", r->refused, r->octets);
 }
 

@@ -2,6 +2,9 @@
  *
  *   send FILE HOST PORT [--loss N] [--seed N] [--seconds N]
  *
+ * It loses N in 1000 of the datagrams that it sends (0), drawn by a seed (1), and ends after so many seconds (60) at
+ * the latest. At the end one line of counts is printed.
+ *
  * How a file becomes packets: a packet's timestamp says where in the file its payload begins, modulo 2^32.
  *
  *   - First come LEAD packets without payload. A receiver starts at the first packet that it gets, and never asks for
@@ -123,7 +126,7 @@ static void run(sending *s) {
     }
     send_file(s);
     gozdrit_sender_free(&s->end);
-    printf("packets %" PRIu64 " retransmissions %" PRIu64 "\n", s->packets, s->repairs);
+    printf("send: packets %" PRIu64 " retransmissions %" PRIu64 "\n", s->packets, s->repairs);
 }
 
 int main(int count, char **words) {
