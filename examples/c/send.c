@@ -62,6 +62,7 @@ static int32_t next_packet(sending *s, uint64_t now, gozdrit_sent *sent, uint8_t
     sent->length = 0;
     if (!leads && !s->header.marker) {
         length = fread(payload, 1, sizeof payload, s->file);
+        if (ferror(s->file)) return GOZDRIT_OK; /* it is no end of the file, and send_file tells it */
         s->header.marker = length == 0;
     }
     if (length == 0) {
