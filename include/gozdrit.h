@@ -30,9 +30,8 @@
  *
  * Null
  *
- *   No pointer may be null, but for one case: `payload` of gozdrit_send and `octets` of gozdrit_on_feedback and
- *   gozdrit_on_media may be null where their `length` is 0. Each other null pointer is refused with 76, also where
- *   `room` is 0.
+ *   A pointer may be null where the `length` or `room` beside it is 0: no octet stands behind it. (For a room of 0 the
+ *   refusal is then 75.) Each other null pointer is refused with 76.
  *
  * Memory
  *

@@ -1,4 +1,4 @@
-/* Null pointers: each one is refused, whatever else is wrong with the call, but for those of a length of 0. */
+/* Null pointers: each one is refused, whatever else is wrong with the call, but for those of a length or room of 0. */
 #include "checks.h"
 
 static gozdrit_sender sender = {NULL, false};
@@ -28,6 +28,7 @@ static void test_no_end(void) {
     ANSWERS(GOZDRIT_NULL, gozdrit_missing(&receiver, NULL));
     ANSWERS(GOZDRIT_NO_END, gozdrit_on_feedback(&sender, NULL, 0, &l.marked));
     ANSWERS(GOZDRIT_NO_END, gozdrit_on_media(&receiver, NULL, 0, 0, &l.taken));
+    ANSWERS(GOZDRIT_NO_END, gozdrit_ask(&receiver, 0, &l.length, NULL, 0));
     CHECK(UNTOUCHED(l));
 }
 
@@ -59,13 +60,17 @@ static void test_sending(void) {
     ANSWERS(GOZDRIT_NULL, gozdrit_send(&sender, &header, NULL, 1201, 0, &l.sent, l.out, 0));
     ANSWERS(GOZDRIT_NULL, gozdrit_send(&sender, &header, octets, 1, 0, NULL, l.out, sizeof l.out));
     ANSWERS(GOZDRIT_NULL, gozdrit_send(&sender, &header, octets, 1, 0, &l.sent, NULL, sizeof l.out));
-    ANSWERS(GOZDRIT_NULL, gozdrit_send(&sender, &header, octets, sizeof octets, 0, &l.sent, NULL, 0));
+    ANSWERS(GOZDRIT_NULL, gozdrit_send(&sender, &header, octets, sizeof octets, 0, &l.sent, NULL, 1));
+    ANSWERS(GOZDRIT_TOO_LARGE, gozdrit_send(&sender, &header, octets, sizeof octets, 0, &l.sent, NULL, 0));
+    ANSWERS(GOZDRIT_NO_ROOM, gozdrit_send(&sender, &header, octets, 1, 0, &l.sent, NULL, 0));
     ANSWERS(GOZDRIT_NULL, gozdrit_on_feedback(NULL, octets, 1, &l.marked));
     ANSWERS(GOZDRIT_NULL, gozdrit_on_feedback(&sender, NULL, 1, &l.marked));
     ANSWERS(GOZDRIT_NULL, gozdrit_on_feedback(&sender, octets, 1, NULL));
     ANSWERS(GOZDRIT_NULL, gozdrit_next_repair(NULL, &l.sent, l.out, sizeof l.out));
     ANSWERS(GOZDRIT_NULL, gozdrit_next_repair(&sender, NULL, l.out, sizeof l.out));
-    ANSWERS(GOZDRIT_NULL, gozdrit_next_repair(&sender, &l.sent, NULL, 0));
+    ANSWERS(GOZDRIT_NULL, gozdrit_next_repair(&sender, &l.sent, NULL, 1));
+    ANSWERS(GOZDRIT_NULL, gozdrit_next_repair(&sender, &l.sent, NULL, sizeof l.out));
+    ANSWERS(GOZDRIT_NO_ROOM, gozdrit_next_repair(&sender, &l.sent, NULL, 0));
     ANSWERS(GOZDRIT_FEEDBACK_SHORT, gozdrit_on_feedback(&sender, NULL, 0, &l.marked));
     CHECK(UNTOUCHED(l));
     /* nothing was sent so far */
@@ -80,10 +85,14 @@ static void test_receiving(void) {
     ANSWERS(GOZDRIT_NULL, gozdrit_on_media(&receiver, octets, sizeof octets, 0, NULL));
     ANSWERS(GOZDRIT_NULL, gozdrit_play(NULL, 0, &l.played, l.out, sizeof l.out));
     ANSWERS(GOZDRIT_NULL, gozdrit_play(&receiver, 0, NULL, l.out, sizeof l.out));
-    ANSWERS(GOZDRIT_NULL, gozdrit_play(&receiver, 0, &l.played, NULL, 0));
+    ANSWERS(GOZDRIT_NULL, gozdrit_play(&receiver, 0, &l.played, NULL, 1));
+    ANSWERS(GOZDRIT_NULL, gozdrit_play(&receiver, 0, &l.played, NULL, sizeof l.out));
+    ANSWERS(GOZDRIT_NO_ROOM, gozdrit_play(&receiver, 0, &l.played, NULL, 0));
     ANSWERS(GOZDRIT_NULL, gozdrit_ask(NULL, 0, &l.length, l.out, sizeof l.out));
     ANSWERS(GOZDRIT_NULL, gozdrit_ask(&receiver, 0, NULL, l.out, sizeof l.out));
-    ANSWERS(GOZDRIT_NULL, gozdrit_ask(&receiver, 0, &l.length, NULL, 0));
+    ANSWERS(GOZDRIT_NULL, gozdrit_ask(&receiver, 0, &l.length, NULL, 1));
+    ANSWERS(GOZDRIT_NULL, gozdrit_ask(&receiver, 0, &l.length, NULL, sizeof l.out));
+    ANSWERS(GOZDRIT_NO_ROOM, gozdrit_ask(&receiver, 0, &l.length, NULL, 0));
     ANSWERS(GOZDRIT_NULL, gozdrit_missing(NULL, &l.length));
     ANSWERS(GOZDRIT_NULL, gozdrit_missing(&receiver, NULL));
     ANSWERS(GOZDRIT_NULL, gozdrit_repair_source(NULL, &l.source));
@@ -104,7 +113,9 @@ void test_null(void) {
     test_sending();
     FILL(l);
     ANSWERS(GOZDRIT_NULL, gozdrit_refusal_name(1, NULL, GOZDRIT_MAX_NAME, &l.length));
-    ANSWERS(GOZDRIT_NULL, gozdrit_refusal_name(1, NULL, 0, &l.length));
+    ANSWERS(GOZDRIT_NULL, gozdrit_refusal_name(1, NULL, 1, &l.length));
+    ANSWERS(GOZDRIT_NULL, gozdrit_refusal_name(1, NULL, 0, NULL));
+    ANSWERS(GOZDRIT_NO_ROOM, gozdrit_refusal_name(1, NULL, 0, &l.length));
     ANSWERS(GOZDRIT_NULL, gozdrit_refusal_name(1, l.out, sizeof l.out, NULL));
     CHECK(UNTOUCHED(l));
     ANSWERS(GOZDRIT_OK, gozdrit_sender_free(&sender));
