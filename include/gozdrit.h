@@ -30,8 +30,8 @@
  *
  * Null
  *
- *   A pointer may be null where the `length` or `room` beside it is 0: no octet stands behind it. (For a room of 0 the
- *   refusal is then 75.) Each other null pointer is refused with 76.
+ *   A pointer may be null where the `length` or `room` beside it is 0, since no octet stands behind it. (A room of 0 fails
+ *   the check for 75.) Each other null pointer is refused with 76.
  *
  * Memory
  *
