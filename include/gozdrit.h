@@ -46,7 +46,8 @@
  *   - One call at a time on a handle, each on the thread that made its end. Two handles are independent of each other.
  *   - A pointer that is not null is aligned for its type and valid for all that it stands for: one struct or number, or
  *     as many octets as the `length` or `room` beside it says. What is read through it was written before.
- *   - No two of a call's pointers overlap where one of them is written through.
+ *   - No two of a call's pointers overlap, and nobody else reads or writes what they point to while the call runs. What
+ *     a pointer to const points to is not written by the call.
  *   - malloc, realloc and free belong to one allocator, which aligns a block to each power of two up to 16 that divides
  *     its size.
  *   - No call is made from a signal handler, nor in the forked child of a process with threads.
