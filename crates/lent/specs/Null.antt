@@ -1,6 +1,6 @@
 -- What a call answers that is lent values by pointers which may be null: where nothing lies for one of them, this code, and
 -- nothing changes; else what it answers to the values, which lie where they lay.
-use Rattle.std.specs.Prelude.{◌≡◌, ℤ, Option, Some, None, IsSomeAnd}
+use Rattle.std.specs.Prelude.{◌≡◌, ℤ, Option, Some, IsSomeAnd}
 
 abbrev pub Answers1 : {A : Type 0} → (null : ℤ) → (A → ℤ → A → Type 0) → Option A → ℤ → Option A → Type 0
 Answers1 null Ran (Some a) code a' = IsSomeAnd a' (Ran a code)

@@ -1,5 +1,5 @@
-// Access to what lies there.
-ghost use Rattle.std.specs.Prelude.{◌≡◌, ◌⊎◌, ◌<◌, [], Option, Some, None, IsSome, is_none, MatchBool};
+// Whether anything lies there, and a reference to it.
+ghost use Rattle.std.specs.Prelude.{◌≡◌, Some, IsSome, is_none};
 ghost use Rattle.std.specs.Borrow.{sem};
 ghost use Rattle.lent.specs.Lends.{LendsValue, LendsItems};
 
@@ -7,12 +7,14 @@ use crate::{Lent, LentSlice};
 use std::slice;
 
 impl<T> Lent<T> {
+    /// Whether nothing lies there.
     pub fn is_null(&mut self) -> bool
         ensures { (result ≡ is_none self.old.value) × (self.new ≡ self.old) }
     {
         self.at.is_null()
     }
 
+    /// The value that lies there. What is written to it is written to C's memory.
     pub fn get(&mut self) -> &mut T
         requires { IsSome self.old.value }
         ensures* writes_back { sem 𝓛 (LendsValue T.row self.entry result) }
@@ -23,26 +25,15 @@ impl<T> Lent<T> {
 }
 
 impl<T> LentSlice<T> {
-    fn at_null(&mut self) -> bool
-        ensures { MatchBool result (((self.old.items ≡ None) × (0 < self.old.len)) ⊎ ((self.old.items ≡ Some []) × (self.old.len ≡ 0))) (IsSome self.old.items) × (self.new ≡ self.old) }
-    {
-        self.at.is_null()
-    }
-
-    pub fn len(&mut self) -> usize
-        ensures { (result ≡ self.old.len) × (self.new ≡ self.old) }
-    {
-        self.len
-    }
-
-    /// Whether the pointer is null though values are to lie there.
+    /// Whether the pointer is null though values are to lie there. A slice of none is not missing.
     pub fn is_missing(&mut self) -> bool
         ensures answer { result ≡ is_none self.old.items }
         ensures unchanged { self.new ≡ self.old }
     {
-        self.at_null() && self.len() != 0
+        self.at.is_null() & (self.len != 0)
     }
 
+    /// The values that lie there, or an empty slice where the length is 0.
     pub fn get(&mut self) -> &mut [T]
         requires { IsSome self.old.items }
         ensures* writes_back { sem 𝓛 (LendsItems T.row self.entry result) }
