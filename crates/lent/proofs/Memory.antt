@@ -1,4 +1,9 @@
 -- The machine value of a `Lent`, and what it owns. Assumes `Logic`.
+--     ptr_good                    a pointer's machine value has its type
+--     value_had, value_made       a `Lent` is its word and what lies at the pointer
+--     value_tested, value_there   what lies there lets the pointer be compared with null;  where there is a value, it lies in a block
+--     value_opens, value_lends    a method's `self` is opened;  and the value in it is lent, so that `self` follows it
+--     nowhere                     a case that cannot be
 use Rattle.std.proofs.Common.{◌≡◌, ℕ, ◌<◌, ◌^◌, List, [], ◌∷◌, ◌++◌, refl, sym, ap, ◌∙◌, arith}
 use Rattle.std.specs.Prelude.{Option, Some, None, IsSome, is_none}
 use lib.Dec.{T, lit<}

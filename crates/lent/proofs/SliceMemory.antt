@@ -1,4 +1,8 @@
 -- The machine value of a `LentSlice`, and what it owns. Assumes `Logic`.
+--     lent_slice-Good             its machine value has its type
+--     slice_had, slice_made       a `LentSlice` is its pointer, its length and what lies at the pointer
+--     slice_tested, slice_begins  what lies there tells whether values are missing;  where none are, they begin in a block, or are none at null
+--     slice_opens, slice_lends    a method's `self` is opened;  and the values in it are lent, so that `self` follows them
 use Rattle.std.proofs.Common.{◌≡◌, ℕ, zero, suc, length, ◌*◌, ◌^◌, ◌<◌, List, [], ◌∷◌, ◌++◌, refl, sym, ap, ◌∙◌, w64, arith}
 use mathlib.Core.Bool.{Bool, not}
 use lib.Dec.{eqb-suc-zero}

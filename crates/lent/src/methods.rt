@@ -30,6 +30,7 @@ impl<T> LentSlice<T> {
         ensures answer { result ≡ is_none self.old.items }
         ensures unchanged { self.new ≡ self.old }
     {
+        // Both are only read, so no branch is needed.
         self.at.is_null() & (self.len != 0)
     }
 
