@@ -34,10 +34,14 @@ Sender = sender.the_row history.the_row history_impl.ghosts
 abbrev pub Receiver : RattleType
 Receiver = receiver.the_row window.the_row window_impl.ghosts
 
+-- a block with a value, as its box owns it
+abbrev pub boxed_at : (R : RattleType) → global.the_row.Denot → Ptr → R.Denot → Fml
+boxed_at R alloc at value = box_owns (ghosts.dealloc_token alloc) R at value
+
 abbrev pub held_at : global.the_row.Denot → Ptr → End → Fml
 held_at alloc at Nothing = ftrue
-held_at alloc at (ASender sender) = box_owns (ghosts.dealloc_token alloc) Sender at sender
-held_at alloc at (AReceiver receiver) = box_owns (ghosts.dealloc_token alloc) Receiver at receiver
+held_at alloc at (ASender sender) = boxed_at Sender alloc at sender
+held_at alloc at (AReceiver receiver) = boxed_at Receiver alloc at receiver
 
 -- The sender or the receiver in a handle, if there is one.
 abbrev pub sender_in : End → Option Sending

@@ -2,7 +2,7 @@
 ghost use Rattle.std.specs.Prelude.{◌≡◌};
 ghost use Rattle.gozdrit.specs.Held.{End, Nothing, ASender, AReceiver, IsSender, IsReceiver};
 
-use crate::loose::Loose;
+use crate::unboxed::Unboxed;
 use receiver::Receiver;
 use sender::Sender;
 use std::alloc::Global;
@@ -45,68 +45,68 @@ impl Handle {
     pub fn of_sender(sender: Box<Sender<RingHistory>>) -> Handle
         ensures { result.inside ≡ ASender sender.value }
     {
-        Handle::of_loose_sender(Loose::of(sender))
+        Handle::holding_sender(Unboxed::take_apart(sender))
     }
 
     pub fn into_sender(self) -> Box<Sender<RingHistory>>
         requires { IsSender self.inside }
         ensures { ASender result.value ≡ self.inside }
     {
-        self.into_loose_sender().into_box()
+        self.held_sender().put_together()
     }
 
     pub fn of_receiver(receiver: Box<Receiver<RingWindow>>) -> Handle
         ensures { result.inside ≡ AReceiver receiver.value }
     {
-        Handle::of_loose_receiver(Loose::of(receiver))
+        Handle::holding_receiver(Unboxed::take_apart(receiver))
     }
 
     pub fn into_receiver(self) -> Box<Receiver<RingWindow>>
         requires { IsReceiver self.inside }
         ensures { AReceiver result.value ≡ self.inside }
     {
-        self.into_loose_receiver().into_box()
+        self.held_receiver().put_together()
     }
 
-    fn of_loose_sender(loose: Loose<Sender<RingHistory>, Global>) -> Handle
-        ensures { result.inside ≡ ASender loose.value }
+    fn holding_sender(parts: Unboxed<Sender<RingHistory>>) -> Handle
+        ensures { result.inside ≡ ASender parts.content }
     {
-        let Loose { at, alloc } = loose;
+        let Unboxed { place, heap } = parts;
         Handle {
-            at: at as *mut u8,
-            alloc,
+            at: place as *mut u8,
+            alloc: heap,
         }
     }
 
-    fn into_loose_sender(self) -> Loose<Sender<RingHistory>, Global>
+    fn held_sender(self) -> Unboxed<Sender<RingHistory>>
         requires { IsSender self.inside }
-        ensures { ASender result.value ≡ self.inside }
+        ensures { ASender result.content ≡ self.inside }
     {
         let Handle { at, alloc } = self;
-        Loose {
-            at: at as *mut Sender<RingHistory>,
-            alloc,
+        Unboxed {
+            place: at as *mut Sender<RingHistory>,
+            heap: alloc,
         }
     }
 
-    fn of_loose_receiver(loose: Loose<Receiver<RingWindow>, Global>) -> Handle
-        ensures { result.inside ≡ AReceiver loose.value }
+    fn holding_receiver(parts: Unboxed<Receiver<RingWindow>>) -> Handle
+        ensures { result.inside ≡ AReceiver parts.content }
     {
-        let Loose { at, alloc } = loose;
+        let Unboxed { place, heap } = parts;
         Handle {
-            at: at as *mut u8,
-            alloc,
+            at: place as *mut u8,
+            alloc: heap,
         }
     }
 
-    fn into_loose_receiver(self) -> Loose<Receiver<RingWindow>, Global>
+    fn held_receiver(self) -> Unboxed<Receiver<RingWindow>>
         requires { IsReceiver self.inside }
-        ensures { AReceiver result.value ≡ self.inside }
+        ensures { AReceiver result.content ≡ self.inside }
     {
         let Handle { at, alloc } = self;
-        Loose {
-            at: at as *mut Receiver<RingWindow>,
-            alloc,
+        Unboxed {
+            place: at as *mut Receiver<RingWindow>,
+            heap: alloc,
         }
     }
 }

@@ -7,7 +7,6 @@ mod config;
 mod front;
 mod handle;
 mod header;
-mod loose;
 mod names;
 mod names_exports;
 mod playing;
@@ -19,5 +18,6 @@ mod receiving;
 mod sender_exports;
 mod sender_handle;
 mod sending;
+mod unboxed;
 #[cfg(test)]
 mod tests;

@@ -1,39 +1,40 @@
--- `end` lets the bits go.
-use Rattle.std.proofs.Common.{List, [], ◌∷◌, ◌++◌, refl, sym, subst}
-use mir.Val.{Val, vunit}
-use base.Logic.{SProp, ent, id⊢}
-use prog.Wp.{WpFn}
-use types.Kit.{‵, raw, ◌⊛◌, ◌$◌, ◌∵◌, !, qed, by, move, keep, drop, split, fsplit, fjoin, feq_i, suffices}
-use types.Run.{stop, fld, of_opd, unit_lit, returns, enter}
-use types.ByLocal.{alloc_all, pass_all, free_all, look_at, get_in, sets}
-use types.Part.{sub, whole}
+-- `end` lets the fields go.
+use Rattle.std.proofs.Common.{◌≡◌, [], ◌∷◌, refl, sym}
+use base.Fml.{ftrue}
+use base.Logic.{emp, id⊢}
+use contract.Monad.{fact, fact_i}
 use contract.Running.{tables}
-use denote.RattleType.{owns}
+use denote.RattleType.{RattleType, owns}
+use denote.RawPtr.{null_ptr}
 use denote.Signature.{types_at, plain}
-use denote.RawPtr.{ptr_val}
-use denote.Steps.{nothing}
-use denote.Triple.Entry.{alive}
-use denote.Triple.Walked.{Stays, stay_dropped, walk_of}
+use denote.Steps.{nothing, heard}
+use mir.Val.{vunit}
+use types.ByLocal.{alloc_all, pass_all, free_all, look_at, get, get_in, sets}
+use types.Kit.{‵, raw, ◌⊛◌, ◌$◌, ◌∵◌, !, qed, by, move, keep, drop, use0, split, fsplit, fjoin, feq_i, rewrite}
+use types.Part.{agg, sub, whole}
+use types.Run.{enter, of_opd, lit, unit_lit, stop, fld, no_more, and_then, returns}
 use Rattle.std.proofs.alloc.Calls.{Goes-blank}
-use Rattle.std.proofs.raw_atomic.Walks.{proved_at, leaves}
-use Rattle.gozdrit.proofs.Values.{both}
-use Rattle.gozdrit.proofs.HandleValues.{Handle, handle_good, ptr_good, handle_bits}
-use Rattle.gozdrit.specs.contracts.handle.Handle.end.{ended, clauses}
-use Rattle.gozdrit.specs.contracts.handle.Handle.end.Key.{name as #self}
+use Rattle.std.proofs.Handle.{heap_val, heap_Tells}
+use Rattle.std.proofs.raw_atomic.Walks.{proved}
+use Rattle.lent.proofs.Exports.{drops, leave, gone_heap}
+use Rattle.lent.proofs.Memory.{ptr_good}
+use Rattle.gozdrit.specs.Held.{End, Nothing, ASender, AReceiver, Sender, Receiver, IsSender, IsReceiver, held_at}
+use Rattle.gozdrit.proofs.Fields.{held_val, heap_good, held-Good, held_told, heap_in, held_made}
+use Rattle.gozdrit.specs.contracts.handle.Handle as handle
+use Rattle.gozdrit.specs.contracts.unboxed.Unboxed as unboxed
+use Rattle.gozdrit.specs.contracts.handle.Handle.end as f
 use Rattle.gozdrit.proofs.handle.Handle.end.Statement.{statement}
 use Rattle.gozdrit.proofs.handle.Handle.end.Code as code
 
 pub end_spec : {M : Type 1} → statement M
 end_spec 𝓤 𝓛 𝓜 𝓡 wired =
-    let H = 𝓛.H in let 𝓣 = tables 𝓤 H 𝓜 𝓡 𝓡.env in let c = clauses 𝓛 𝓜.mem 𝓡.returns in let fn = code.function in
-    let hs : Stays ended.signature.params ended.kept = (stay_dropped (plain (λ _. Handle)) ended.kept.0, tt) in
-    proved_at 𝓛 ended hs c 𝓜 𝓡 (Goes-blank 𝓛 0 (plain (λ _. Handle)) ended.kept.0 (λ κs x f. tt), tt) #self fn (code.unfolded 𝓤 H 𝓜 𝓡 wired) (λ z are.
-    let v = z.0.3.0 in let Post : Val → SProp 𝓤 = (walk_of 𝓛 ended hs c).post z in let Run : List Val → SProp 𝓤 = λ ws. WpFn 𝓤 H 𝓣.C 𝓣.Λ fn ws Post in
-    qed 𝓛 ((raw (alive 𝓛 ended.signature z.0.0 z.0.1) ⊛ ‵ (owns (types_at ended.signature.params z.0.0) z.0.3 z.0.4)) ∷ raw ((c z.0.0 z.0.3).requires z.1) ∷ []) ∵ move ! (1 ∷ []) $ drop ! $ split ! $ move ! (1 ∷ []) $ fsplit ! $
-    handle_bits ! v z.0.4.0 (λ h ws fits. let w : Val = both (ptr_val v.at) h in
-    suffices ! (Run (w ∷ [])) (subst (λ (us : List Val). ent 𝓤 (Run (w ∷ [])) (Run us)) (sym (λ i. ws i ++ [])) (id⊢ 𝓤 (Run (w ∷ [])))) $
-    enter ! 𝓣.C 𝓣.Λ fn (w ∷ []) Post $ alloc_all ! (λ l. pass_all ! refl (handle_good v.at h fits, tt) $
-    sets ! (of_opd ! (get_in ! (fld ! refl (stop !)) (sub ! 0 refl (whole !)))) refl (ptr_good v.at) $ sets ! (of_opd ! (get_in ! (fld ! refl (stop !)) (sub ! 1 refl (whole !)))) refl fits $
-    sets ! (of_opd ! (unit_lit !)) refl (tt, tt) $
-    nothing ! $ feq_i ! (List Val) (vunit ∷ []) (vunit ∷ []) refl $ nothing ! $ nothing ! $ fjoin ! $
-    returns ! (look_at ! 0 refl) $ free_all ! refl $ keep ! (5 ∷ 0 ∷ 1 ∷ 2 ∷ []) $ by ! (leaves 𝓛 ended hs c z vunit tt (tt, tt) (tt, tt)))))
+    let E = f.ended in let c = f.clauses 𝓛 𝓜.mem 𝓡.returns in let 𝓣 = tables 𝓤 𝓛.H 𝓜 𝓡 𝓡.env in
+    proved 𝓛 E (drops E.signature.params E.kept) c 𝓜 𝓡 (Goes-blank 𝓛 0 (plain (λ _. handle.the_row)) E.kept.0 (λ κs x w. tt), tt) f.Key.name code.function (code.unfolded 𝓤 𝓛.H 𝓜 𝓡 wired)
+    (λ κs. ((λ d. held_val d.at ∷ []), tt)) (λ κs. ((λ d vs is. held_told d.at d.alloc vs is.0), tt)) (λ κs qs bounds a x are.
+    let d = a.0 in let vals = held_val d.at ∷ [] in
+    qed 𝓛 ((‵ ftrue ⊛ ‵ (owns (types_at E.signature.params κs) a (vals, tt))) ∷ raw (fact 𝓤 (d.inside ≡ Nothing)) ∷ []) ∵ move ! (1 ∷ []) $ drop ! $ split ! $ drop ! $ drop ! $
+    enter ! _ _ _ _ _ $ alloc_all ! (λ l. pass_all ! refl (held-Good d.at, tt) $
+    sets ! (of_opd ! (get_in ! (fld ! refl (stop !)) (sub ! 0 refl (whole !)))) refl (ptr_good d.at) $
+    sets ! (of_opd ! (get_in ! (fld ! refl (stop !)) (sub ! 1 refl (whole !)))) refl heap_good $
+    sets ! (of_opd ! (unit_lit !)) refl (tt, tt) $ feq_i ! _ (vunit ∷ []) _ refl $ nothing ! $
+    returns ! (look_at ! 0 refl) $ free_all ! refl $ keep ! (1 ∷ 0 ∷ []) $ by ! (leave 𝓛 E c ((κs, qs, bounds, a, (vals, tt)), x) vunit tt (tt, tt) (id⊢ 𝓤 (emp 𝓤)))))

@@ -1,41 +1,40 @@
 -- `none` owns nothing.
-use Rattle.std.proofs.Common.{◌≡◌, List, [], ◌∷◌, ◌++◌, refl, sym, subst}
-use Rattle.gozdrit.specs.Held.{Nothing}
-use mir.Val.{Val}
-use base.Logic.{SProp, ent, emp, id⊢}
-use prog.Wp.{WpFn}
-use types.Kit.{‵, raw, ◌⊛◌, ◌$◌, ◌∵◌, !, qed, by, move, keep, drop, split, fsplit, fjoin, suffices, use0}
-use types.Run.{lit, no_more, and_then, returns, enter}
-use types.ByLocal.{alloc_all, pass_all, free_all, look_at, get, sets}
-use types.Part.{agg}
+use Rattle.std.proofs.Common.{◌≡◌, [], ◌∷◌, refl, sym}
+use base.Fml.{ftrue}
+use base.Logic.{emp, id⊢}
 use contract.Monad.{fact, fact_i}
 use contract.Running.{tables}
-use denote.RattleType.{owns}
+use denote.RattleType.{RattleType, owns}
+use denote.RawPtr.{null_ptr}
 use denote.Signature.{types_at, plain}
-use denote.RawPtr.{null_ptr, ptr_val}
-use denote.Steps.{nothing}
-use denote.Triple.Entry.{alive}
-use denote.Triple.Walked.{Stays, stay_dropped, walk_of}
-use Rattle.std.proofs.alloc.Calls.{Goes-blank, handle_tells}
-use Rattle.std.proofs.raw_atomic.Walks.{proved_at, leaves}
-use Rattle.gozdrit.proofs.Values.{both}
-use Rattle.gozdrit.proofs.HandleValues.{Handle, Z, al, handle_good, handle_in}
-use Rattle.gozdrit.specs.contracts.handle.Handle.none.{ended, clauses}
-use Rattle.gozdrit.specs.contracts.handle.Handle.none.Key.{name as #self}
+use denote.Steps.{nothing, heard}
+use mir.Val.{vunit}
+use types.ByLocal.{alloc_all, pass_all, free_all, look_at, get, get_in, sets}
+use types.Kit.{‵, raw, ◌⊛◌, ◌$◌, ◌∵◌, !, qed, by, move, keep, drop, use0, split, fsplit, fjoin, feq_i, rewrite}
+use types.Part.{agg, sub, whole}
+use types.Run.{enter, of_opd, lit, unit_lit, stop, fld, no_more, and_then, returns}
+use Rattle.std.proofs.alloc.Calls.{Goes-blank}
+use Rattle.std.proofs.Handle.{heap_val, heap_Tells}
+use Rattle.std.proofs.raw_atomic.Walks.{proved}
+use Rattle.lent.proofs.Exports.{drops, leave, gone_heap}
+use Rattle.lent.proofs.Memory.{ptr_good}
+use Rattle.gozdrit.specs.Held.{End, Nothing, ASender, AReceiver, Sender, Receiver, IsSender, IsReceiver, held_at}
+use Rattle.gozdrit.proofs.Fields.{held_val, heap_good, held-Good, held_told, heap_in, held_made}
+use Rattle.gozdrit.specs.contracts.handle.Handle as handle
+use Rattle.gozdrit.specs.contracts.unboxed.Unboxed as unboxed
+use Rattle.gozdrit.specs.contracts.handle.Handle.none as f
 use Rattle.gozdrit.proofs.handle.Handle.none.Statement.{statement}
 use Rattle.gozdrit.proofs.handle.Handle.none.Code as code
 
 pub none_spec : {M : Type 1} → statement M
 none_spec 𝓤 𝓛 𝓜 𝓡 wired =
-    let H = 𝓛.H in let 𝓣 = tables 𝓤 H 𝓜 𝓡 𝓡.env in let c = clauses 𝓛 𝓜.mem 𝓡.returns in let fn = code.function in
-    let hs : Stays ended.signature.params ended.kept = (stay_dropped (plain (λ _. Z)) ended.kept.0, tt) in
-    proved_at 𝓛 ended hs c 𝓜 𝓡 (Goes-blank 𝓛 0 (plain (λ _. Z)) ended.kept.0 (λ κs x f. tt), tt) #self fn (code.unfolded 𝓤 H 𝓜 𝓡 wired) (λ z are.
-    let v = z.0.3.0 in let Post : Val → SProp 𝓤 = (walk_of 𝓛 ended hs c).post z in let Run : List Val → SProp 𝓤 = λ ws. WpFn 𝓤 H 𝓣.C 𝓣.Λ fn ws Post in
-    qed 𝓛 ((raw (alive 𝓛 ended.signature z.0.0 z.0.1) ⊛ ‵ (owns (types_at ended.signature.params z.0.0) z.0.3 z.0.4)) ∷ raw ((c z.0.0 z.0.3).requires z.1) ∷ []) ∵ move ! (1 ∷ []) $ drop ! $ split ! $ move ! (1 ∷ []) $ fsplit ! $
-    handle_tells al ! v z.0.4.0 (λ h ws fits. let w : Val = both (ptr_val null_ptr) h in let made : Handle.Denot = record { at = null_ptr; alloc = v; inside = Nothing } in
-    suffices ! (Run (h ∷ [])) (subst (λ (us : List Val). ent 𝓤 (Run (h ∷ [])) (Run us)) (sym (λ i. ws i ++ [])) (id⊢ 𝓤 (Run (h ∷ [])))) $
-    enter ! 𝓣.C 𝓣.Λ fn (h ∷ []) Post $ alloc_all ! (λ l. pass_all ! refl (fits, tt) $
-    sets ! (agg ! (and_then ! (lit ! tt) (and_then ! (get ! refl) (no_more !)))) refl (handle_good null_ptr h fits) $
-    nothing ! $ handle_in ! null_ptr h v Nothing $
-    use0 𝓛 (raw (fact 𝓤 (made.inside ≡ Nothing))) (fact_i 𝓤 (made.inside ≡ Nothing) (emp 𝓤) (refl)) $ nothing ! $ nothing ! $ fjoin ! $
-    returns ! (look_at ! 0 refl) $ free_all ! refl $ keep ! (4 ∷ 0 ∷ 2 ∷ 1 ∷ []) $ by ! (leaves 𝓛 ended hs c z w (made) (tt, tt) (tt, tt)))))
+    let E = f.ended in let c = f.clauses 𝓛 𝓜.mem 𝓡.returns in let 𝓣 = tables 𝓤 𝓛.H 𝓜 𝓡 𝓡.env in
+    proved 𝓛 E (drops E.signature.params E.kept) c 𝓜 𝓡 (gone_heap 𝓛, tt) f.Key.name code.function (code.unfolded 𝓤 𝓛.H 𝓜 𝓡 wired)
+    (λ κs. ((λ d. heap_val ∷ []), tt)) (λ κs. (heap_Tells, tt)) (λ κs qs bounds a x are.
+    let d = a.0 in let vals = heap_val ∷ [] in
+    qed 𝓛 ((‵ ftrue ⊛ ‵ (owns (types_at E.signature.params κs) a (vals, tt))) ∷ ‵ ftrue ∷ []) ∵ move ! (1 ∷ []) $ drop ! $ split ! $ drop ! $ drop ! $
+    enter ! _ _ _ _ _ $ alloc_all ! (λ l. pass_all ! refl (heap_good, tt) $
+    sets ! (agg ! (and_then ! (lit ! tt) (and_then ! (get ! refl) (no_more !)))) refl (held-Good null_ptr) $
+    nothing ! $ held_made null_ptr d ! are.0 $ fjoin ! $
+    returns ! (look_at ! 0 refl) $ free_all ! refl $ use0 𝓛 (raw (fact 𝓤 (Nothing ≡ Nothing))) (fact_i 𝓤 (Nothing ≡ Nothing) (emp 𝓤) (refl)) $
+    keep ! (1 ∷ 0 ∷ []) $ by ! (leave 𝓛 E c ((κs, qs, bounds, a, (vals, tt)), x) (held_val null_ptr) (record { at = null_ptr; alloc = d; inside = Nothing }) (tt, tt) (id⊢ 𝓤 (emp 𝓤)))))

@@ -1,0 +1,43 @@
+-- `held_sender` hands the block back.
+use Rattle.std.proofs.Common.{◌≡◌, [], ◌∷◌, refl, sym}
+use base.Fml.{ftrue}
+use base.Logic.{emp, id⊢}
+use contract.Monad.{fact, fact_i}
+use contract.Running.{tables}
+use denote.RattleType.{RattleType, owns}
+use denote.RawPtr.{null_ptr}
+use denote.Signature.{types_at, plain}
+use denote.Steps.{nothing, heard}
+use mir.Val.{vunit}
+use types.ByLocal.{alloc_all, pass_all, free_all, look_at, get, get_in, sets}
+use types.Kit.{‵, raw, ◌⊛◌, ◌$◌, ◌∵◌, !, qed, by, move, keep, drop, use0, split, fsplit, fjoin, feq_i, rewrite}
+use types.Part.{agg, sub, whole}
+use types.Run.{enter, of_opd, lit, unit_lit, stop, fld, no_more, and_then, returns}
+use Rattle.std.proofs.alloc.Calls.{Goes-blank}
+use Rattle.std.proofs.Handle.{heap_val, heap_Tells}
+use Rattle.std.proofs.raw_atomic.Walks.{proved}
+use Rattle.lent.proofs.Exports.{drops, leave, gone_heap}
+use Rattle.lent.proofs.Memory.{ptr_good}
+use Rattle.gozdrit.specs.Held.{End, Nothing, ASender, AReceiver, Sender, Receiver, IsSender, IsReceiver, held_at}
+use Rattle.gozdrit.proofs.Fields.{held_val, heap_good, held-Good, held_told, heap_in, held_made}
+use Rattle.gozdrit.specs.contracts.handle.Handle as handle
+use Rattle.gozdrit.specs.contracts.unboxed.Unboxed as unboxed
+use Rattle.gozdrit.specs.contracts.handle.Handle.held_sender as f
+use Rattle.gozdrit.proofs.handle.Handle.held_sender.Statement.{statement}
+use Rattle.gozdrit.proofs.handle.Handle.held_sender.Code as code
+
+pub held_sender_spec : {M : Type 1} → statement M
+held_sender_spec 𝓤 𝓛 𝓜 𝓡 wired =
+    let E = f.ended in let c = f.clauses 𝓛 𝓜.mem 𝓡.returns in let 𝓣 = tables 𝓤 𝓛.H 𝓜 𝓡 𝓡.env in
+    proved 𝓛 E (drops E.signature.params E.kept) c 𝓜 𝓡 (Goes-blank 𝓛 0 (plain (λ _. handle.the_row)) E.kept.0 (λ κs x w. tt), tt) f.Key.name code.function (code.unfolded 𝓤 𝓛.H 𝓜 𝓡 wired)
+    (λ κs. ((λ d. held_val d.at ∷ []), tt)) (λ κs. ((λ d vs is. held_told d.at d.alloc vs is.0), tt)) (λ κs qs bounds a x are.
+    let d = a.0 in let vals = held_val d.at ∷ [] in
+    qed 𝓛 ((‵ ftrue ⊛ ‵ (owns (types_at E.signature.params κs) a (vals, tt))) ∷ raw (fact 𝓤 (IsSender d.inside)) ∷ []) ∵ move ! (1 ∷ []) $ heard ! (IsSender d.inside) (λ is. split ! $ drop ! $ fsplit ! $ fsplit ! $ drop ! $
+    rewrite ! 0 (λ (o : End). ‵ (held_at d.alloc d.at o)) is.1 refl $
+    enter ! _ _ _ _ _ $ alloc_all ! (λ l. pass_all ! refl (held-Good d.at, tt) $
+    sets ! (of_opd ! (get_in ! (fld ! refl (stop !)) (sub ! 0 refl (whole !)))) refl (ptr_good d.at) $
+    sets ! (of_opd ! (get_in ! (fld ! refl (stop !)) (sub ! 1 refl (whole !)))) refl heap_good $
+    sets ! (of_opd ! (get ! refl)) refl (ptr_good d.at) $ sets ! (agg ! (and_then ! (get ! refl) (and_then ! (get ! refl) (no_more !)))) refl (held-Good d.at) $
+    held_made d.at d.alloc ! (heap_in d.at d.alloc vals are.0.0) $ fjoin ! $
+    returns ! (look_at ! 0 refl) $ free_all ! refl $ use0 𝓛 (raw (fact 𝓤 (ASender is.0 ≡ d.inside))) (fact_i 𝓤 (ASender is.0 ≡ d.inside) (emp 𝓤) (sym is.1)) $
+    keep ! (1 ∷ 0 ∷ []) $ by ! (leave 𝓛 E c ((κs, qs, bounds, a, (vals, tt)), x) (held_val d.at) (record { place = d.at; heap = d.alloc; content = is.0 }) (tt, tt) (id⊢ 𝓤 (emp 𝓤))))))
