@@ -6,7 +6,7 @@ use seplogic.Ra.Ura.{Ura}
 use base.Fml.{Lft, Share, ftrue, flft}
 use base.Fraction.{full_share}
 use base.Logic.{emp, id⊢}
-use contract.BorrowLft.{◌⊑◌, ⊑_static}
+use contract.BorrowLft.{◌⊑◌}
 use contract.Monad.{fact, fact_i}
 use denote.Exit.{no}
 use denote.Param.{arg, layout}

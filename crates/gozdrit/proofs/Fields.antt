@@ -3,17 +3,16 @@
 --     Held, held_told, heap_in         the fields as a row: they tell that value, and that the heap's handle is one
 --     held_made                        they own nothing, so they are made of nothing
 use Rattle.std.proofs.Common.{◌≡◌, List, [], ◌∷◌, ◌++◌, refl, subst, ◌∙◌}
-use lib.Dec.{T}
 use seplogic.Ra.Ura.{Ura}
-use mir.Syntax.{Sym, Ty, ty_ptr, ty_struct, tcons, tnil}
-use mir.Val.{Val, vstruct, vcons, vnil, of_list, has_ty, WT}
+use mir.Syntax.{Ty, ty_ptr, ty_struct, tcons, tnil}
+use mir.Val.{Val, vstruct, vcons, vnil, of_list}
 use types.Logic.{Logic}
 use types.Kit.{Item, Goal, Step, ‵}
 use denote.Laws.{Is}
 use denote.Param.{layout}
 use denote.RattleType.{RattleType}
 use denote.RawPtr.{RawPtr, Ptr, ptr_val}
-use denote.Shadow.{Pure, shadow, pure_i}
+use denote.Shadow.{pure_i}
 use denote.Struct.Struct.{Struct, as_fields}
 use Rattle.std.proofs.Handle.{heap_val, heap_Tells}
 use Rattle.std.proofs.RcSteps.{Good}

@@ -18,6 +18,6 @@ mod receiving;
 mod sender_exports;
 mod sender_handle;
 mod sending;
-mod unboxed;
 #[cfg(test)]
 mod tests;
+mod unboxed;

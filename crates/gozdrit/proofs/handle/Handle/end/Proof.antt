@@ -1,27 +1,24 @@
 -- `end` lets the fields go.
-use Rattle.std.proofs.Common.{◌≡◌, [], ◌∷◌, refl, sym}
+use Rattle.std.proofs.Common.{◌≡◌, [], ◌∷◌, refl}
 use base.Fml.{ftrue}
 use base.Logic.{emp, id⊢}
-use contract.Monad.{fact, fact_i}
+use contract.Monad.{fact}
 use contract.Running.{tables}
-use denote.RattleType.{RattleType, owns}
-use denote.RawPtr.{null_ptr}
+use denote.RattleType.{owns}
 use denote.Signature.{types_at, plain}
-use denote.Steps.{nothing, heard}
+use denote.Steps.{nothing}
 use mir.Val.{vunit}
-use types.ByLocal.{alloc_all, pass_all, free_all, look_at, get, get_in, sets}
-use types.Kit.{‵, raw, ◌⊛◌, ◌$◌, ◌∵◌, !, qed, by, move, keep, drop, use0, split, fsplit, fjoin, feq_i, rewrite}
-use types.Part.{agg, sub, whole}
-use types.Run.{enter, of_opd, lit, unit_lit, stop, fld, no_more, and_then, returns}
+use types.ByLocal.{alloc_all, pass_all, free_all, look_at, get_in, sets}
+use types.Kit.{‵, raw, ◌⊛◌, ◌$◌, ◌∵◌, !, qed, by, move, keep, drop, split, feq_i}
+use types.Part.{sub, whole}
+use types.Run.{enter, of_opd, unit_lit, stop, fld, returns}
 use Rattle.std.proofs.alloc.Calls.{Goes-blank}
-use Rattle.std.proofs.Handle.{heap_val, heap_Tells}
 use Rattle.std.proofs.raw_atomic.Walks.{proved}
-use Rattle.lent.proofs.Exports.{drops, leave, gone_heap}
+use Rattle.lent.proofs.Exports.{drops, leave}
 use Rattle.lent.proofs.Memory.{ptr_good}
-use Rattle.gozdrit.specs.Held.{End, Nothing, ASender, AReceiver, Sender, Receiver, IsSender, IsReceiver, held_at}
-use Rattle.gozdrit.proofs.Fields.{held_val, heap_good, held-Good, held_told, heap_in, held_made}
+use Rattle.gozdrit.specs.Held.{Nothing}
+use Rattle.gozdrit.proofs.Fields.{held_val, heap_good, held-Good, held_told}
 use Rattle.gozdrit.specs.contracts.handle.Handle as handle
-use Rattle.gozdrit.specs.contracts.unboxed.Unboxed as unboxed
 use Rattle.gozdrit.specs.contracts.handle.Handle.end as f
 use Rattle.gozdrit.proofs.handle.Handle.end.Statement.{statement}
 use Rattle.gozdrit.proofs.handle.Handle.end.Code as code

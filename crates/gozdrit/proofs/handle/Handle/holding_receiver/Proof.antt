@@ -1,26 +1,21 @@
 -- `holding_receiver` hands the block on.
-use Rattle.std.proofs.Common.{◌≡◌, [], ◌∷◌, refl, sym}
+use Rattle.std.proofs.Common.{◌≡◌, [], ◌∷◌, refl}
 use base.Fml.{ftrue}
 use base.Logic.{emp, id⊢}
 use contract.Monad.{fact, fact_i}
 use contract.Running.{tables}
-use denote.RattleType.{RattleType, owns}
-use denote.RawPtr.{null_ptr}
+use denote.RattleType.{owns}
 use denote.Signature.{types_at, plain}
-use denote.Steps.{nothing, heard}
-use mir.Val.{vunit}
 use types.ByLocal.{alloc_all, pass_all, free_all, look_at, get, get_in, sets}
-use types.Kit.{‵, raw, ◌⊛◌, ◌$◌, ◌∵◌, !, qed, by, move, keep, drop, use0, split, fsplit, fjoin, feq_i, rewrite}
+use types.Kit.{‵, raw, ◌⊛◌, ◌$◌, ◌∵◌, !, qed, by, move, keep, drop, use0, split, fsplit, fjoin}
 use types.Part.{agg, sub, whole}
-use types.Run.{enter, of_opd, lit, unit_lit, stop, fld, no_more, and_then, returns}
+use types.Run.{enter, of_opd, stop, fld, no_more, and_then, returns}
 use Rattle.std.proofs.alloc.Calls.{Goes-blank}
-use Rattle.std.proofs.Handle.{heap_val, heap_Tells}
 use Rattle.std.proofs.raw_atomic.Walks.{proved}
-use Rattle.lent.proofs.Exports.{drops, leave, gone_heap}
+use Rattle.lent.proofs.Exports.{drops, leave}
 use Rattle.lent.proofs.Memory.{ptr_good}
-use Rattle.gozdrit.specs.Held.{End, Nothing, ASender, AReceiver, Sender, Receiver, IsSender, IsReceiver, held_at}
+use Rattle.gozdrit.specs.Held.{AReceiver, Receiver}
 use Rattle.gozdrit.proofs.Fields.{held_val, heap_good, held-Good, held_told, heap_in, held_made}
-use Rattle.gozdrit.specs.contracts.handle.Handle as handle
 use Rattle.gozdrit.specs.contracts.unboxed.Unboxed as unboxed
 use Rattle.gozdrit.specs.contracts.handle.Handle.holding_receiver as f
 use Rattle.gozdrit.proofs.handle.Handle.holding_receiver.Statement.{statement}

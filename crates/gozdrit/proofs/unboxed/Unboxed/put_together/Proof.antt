@@ -47,8 +47,8 @@ put_together_spec 𝓤 𝓛 𝓜 𝓡 wired T L =
     let E = f.ended T in let c = f.clauses T 𝓛 𝓜.mem 𝓡.returns in let hs = drops E.signature.params E.kept in let W = walk_of 𝓛 E hs c in
     let 𝓣 = tables 𝓤 𝓛.H 𝓜 𝓡 𝓡.env in let args = layouts (a_type ∷ []) (T, tt) in let fn = inst_fn args code.function in
     let known = met 𝓤 𝓛 𝓜 𝓡 (code.calls-std_alloc::boxed::Box::from_raw 𝓡.env wired) T Passed L passed_laws ghosts dict let_go
-        (passed 𝓡.env (code.calls-std_heap::GlobalAllocator::allocate 𝓡.env wired) (code.calls-std_heap::GlobalAllocator::deallocate 𝓡.env wired) (code.calls-std_heap::GlobalAllocator::grow 𝓡.env wired) (code.calls-std_heap::GlobalAllocator::shrink 𝓡.env wired) _ 𝓤 𝓛 𝓜 𝓡)
-        (none.glues 𝓡.env (code.calls-gozdrit::Destruct++none::drop 𝓡.env wired) Passed passed_laws _ 𝓤 𝓛 𝓜 𝓡) in
+    (passed 𝓡.env (code.calls-std_heap::GlobalAllocator::allocate 𝓡.env wired) (code.calls-std_heap::GlobalAllocator::deallocate 𝓡.env wired) (code.calls-std_heap::GlobalAllocator::grow 𝓡.env wired) (code.calls-std_heap::GlobalAllocator::shrink 𝓡.env wired) _ 𝓤 𝓛 𝓜 𝓡)
+    (none.glues 𝓡.env (code.calls-gozdrit::Destruct++none::drop 𝓡.env wired) Passed passed_laws _ 𝓤 𝓛 𝓜 𝓡) in
     proved 𝓛 E hs c 𝓜 𝓡 (Goes-blank 𝓛 1 (plain (λ _. unboxed.the_row (param 0 T))) E.kept.0 (λ κs x w. tt), tt) (f.Key.name args) fn (code.unfolded 𝓤 𝓛.H 𝓜 𝓡 wired (T, tt))
     (λ κs. ((λ d. held_val d.place ∷ []), tt)) (λ κs. ((λ d vs is. held_told d.place d.heap vs is.0), tt)) (λ κs qs bounds a x are.
     let d = a.0 in let κ = κs.0 in let q = qs.0 in let vals : List Val = held_val d.place ∷ [] in

@@ -7,14 +7,13 @@ use contract.BorrowLft.{◌⊑◌}
 use contract.Monad.{fact, fact_i}
 use contract.Running.{tables}
 use denote.Laws.{Is, shows}
-use denote.Param.{param, layout, bounded}
-use denote.RattleType.{RattleType, owns}
+use denote.Param.{param, bounded}
+use denote.RattleType.{owns}
 use denote.Signature.{types_at, type_at, plain}
 use denote.Steps.{nothing, facts, only}
 use denote.Triple.Call.{calls_at}
 use denote.Triple.Spec.{triple_of}
 use denote.Triple.Table.{framed}
-use denote.Triple.Walked.{Stays, walk_of}
 use mir.MapTy.{inst_fn}
 use mir.Syntax.{a_type, dcons, dnil}
 use types.Kit.{‵, raw, ◌⊛◌, ◌$◌, ◌∵◌, !, qed, move, drop, use0, use1, split, join, fjoin, suffices, done}
@@ -44,8 +43,8 @@ take_apart_spec 𝓤 𝓛 𝓜 𝓡 wired T L dx glue =
     let E = f.ended T dx in let c = f.clauses T dx 𝓛 𝓜.mem 𝓡.returns in let hs = drops E.signature.params E.kept in
     let 𝓣 = tables 𝓤 𝓛.H 𝓜 𝓡 𝓡.env in let args = bounded (a_type ∷ []) (T, tt) (dcons dx dnil) in let fn = inst_fn args code.function in
     let known = met 𝓤 𝓛 𝓜 𝓡 (code.calls-std_alloc::boxed::Box::into_raw_with_allocator 𝓡.env wired) T Passed L passed_laws ghosts dict let_go dx
-        (passed 𝓡.env (code.calls-std_heap::GlobalAllocator::allocate 𝓡.env wired) (code.calls-std_heap::GlobalAllocator::deallocate 𝓡.env wired) (code.calls-std_heap::GlobalAllocator::grow 𝓡.env wired) (code.calls-std_heap::GlobalAllocator::shrink 𝓡.env wired) _ 𝓤 𝓛 𝓜 𝓡)
-        (none.glues 𝓡.env (code.calls-gozdrit::Destruct++none::drop 𝓡.env wired) Passed passed_laws _ 𝓤 𝓛 𝓜 𝓡) glue in
+    (passed 𝓡.env (code.calls-std_heap::GlobalAllocator::allocate 𝓡.env wired) (code.calls-std_heap::GlobalAllocator::deallocate 𝓡.env wired) (code.calls-std_heap::GlobalAllocator::grow 𝓡.env wired) (code.calls-std_heap::GlobalAllocator::shrink 𝓡.env wired) _ 𝓤 𝓛 𝓜 𝓡)
+    (none.glues 𝓡.env (code.calls-gozdrit::Destruct++none::drop 𝓡.env wired) Passed passed_laws _ 𝓤 𝓛 𝓜 𝓡) glue in
     proved 𝓛 E hs c 𝓜 𝓡 (Goes-blank 𝓛 1 (plain (λ _. box.the_row (param 0 T) Heap ghosts)) E.kept.0 (λ κs x w. tt), tt) (f.Key.name args) fn (code.unfolded 𝓤 𝓛.H 𝓜 𝓡 wired (T, tt) dx)
     (λ κs. ((λ d. held_val d.ptr ∷ []), tt)) (λ κs. ((λ d vs is. held_told d.ptr d.alloc vs is.0), tt)) (λ κs qs bounds a x are.
     let v = a.0 in let κ = κs.0 in let q = qs.0 in let G = triple_of 𝓛 (g.signature T Passed ghosts dict let_go dx) (g.spec T Passed ghosts dict let_go dx 𝓛 𝓜.mem 𝓡.returns) in
