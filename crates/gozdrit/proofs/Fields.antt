@@ -17,7 +17,7 @@ use denote.Struct.Struct.{Struct, as_fields}
 use Rattle.std.proofs.Handle.{heap_val, heap_Tells}
 use Rattle.std.proofs.RcSteps.{Good}
 use Rattle.std.specs.contracts.alloc.Global.{the_row as Heap}
-use Rattle.lent.proofs.Memory.{ptr_good}
+use Rattle.gozdrit.proofs.LentMemory.{ptr_good}
 
 abbrev pub held_val : Ptr → Val
 held_val p = vstruct (vcons (ptr_val p) (vcons heap_val vnil))

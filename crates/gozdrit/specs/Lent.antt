@@ -3,7 +3,7 @@
 use Rattle.std.specs.Prelude.{◌≡◌, ℕ, ℤ, List, Option}
 use Rattle.sender.specs.Sender.{Sending}
 use Rattle.receiver.specs.Receiver.{Receiving}
-use Rattle.lent.specs.Null.{Answers1, Answers2, Answers3, Answers5}
+use Rattle.gozdrit.specs.Null.{Answers1, Answers2, Answers3, Answers5}
 use Rattle.gozdrit.specs.declared.header.Header.{Header}
 use Rattle.gozdrit.specs.declared.answers.KnownPlace.{KnownPlace}
 use Rattle.gozdrit.specs.declared.answers.KnownSource.{KnownSource}

@@ -2,8 +2,11 @@ pub mod Codes
 pub mod Config
 pub mod Freeing
 pub mod Held
+pub mod Lends
 pub mod Lent
+pub mod Lying
 pub mod Names
+pub mod Null
 pub mod Packet
 pub mod Reading
 pub mod Receiving

@@ -24,6 +24,7 @@ impl Model for Handle {
 }
 
 impl Handle {
+    /// One that owns nothing.
     pub fn none(alloc: Global) -> Handle
         ensures { result.inside ≡ Nothing }
     {
@@ -33,6 +34,7 @@ impl Handle {
         }
     }
 
+    /// Ends one that owns nothing.
     pub fn end(self)
         requires { self.inside ≡ Nothing }
     {
@@ -42,12 +44,14 @@ impl Handle {
         } = self;
     }
 
+    /// One that owns this sender.
     pub fn of_sender(sender: Box<Sender<RingHistory>>) -> Handle
         ensures { result.inside ≡ ASender sender.value }
     {
         Handle::holding_sender(Unboxed::take_apart(sender))
     }
 
+    /// The sender that it owns.
     pub fn into_sender(self) -> Box<Sender<RingHistory>>
         requires { IsSender self.inside }
         ensures { ASender result.value ≡ self.inside }
@@ -55,12 +59,14 @@ impl Handle {
         self.held_sender().put_together()
     }
 
+    /// One that owns this receiver.
     pub fn of_receiver(receiver: Box<Receiver<RingWindow>>) -> Handle
         ensures { result.inside ≡ AReceiver receiver.value }
     {
         Handle::holding_receiver(Unboxed::take_apart(receiver))
     }
 
+    /// The receiver that it owns.
     pub fn into_receiver(self) -> Box<Receiver<RingWindow>>
         requires { IsReceiver self.inside }
         ensures { AReceiver result.value ≡ self.inside }
@@ -71,9 +77,9 @@ impl Handle {
     fn holding_sender(parts: Unboxed<Sender<RingHistory>>) -> Handle
         ensures { result.inside ≡ ASender parts.content }
     {
-        let Unboxed { place, heap } = parts;
+        let Unboxed { at, heap } = parts;
         Handle {
-            at: place as *mut u8,
+            at: at as *mut u8,
             alloc: heap,
         }
     }
@@ -84,7 +90,7 @@ impl Handle {
     {
         let Handle { at, alloc } = self;
         Unboxed {
-            place: at as *mut Sender<RingHistory>,
+            at: at as *mut Sender<RingHistory>,
             heap: alloc,
         }
     }
@@ -92,9 +98,9 @@ impl Handle {
     fn holding_receiver(parts: Unboxed<Receiver<RingWindow>>) -> Handle
         ensures { result.inside ≡ AReceiver parts.content }
     {
-        let Unboxed { place, heap } = parts;
+        let Unboxed { at, heap } = parts;
         Handle {
-            at: place as *mut u8,
+            at: at as *mut u8,
             alloc: heap,
         }
     }
@@ -105,7 +111,7 @@ impl Handle {
     {
         let Handle { at, alloc } = self;
         Unboxed {
-            place: at as *mut Receiver<RingWindow>,
+            at: at as *mut Receiver<RingWindow>,
             heap: alloc,
         }
     }

@@ -7,6 +7,7 @@ mod config;
 mod front;
 mod handle;
 mod header;
+mod lent;
 mod names;
 mod names_exports;
 mod playing;

@@ -1,12 +1,12 @@
 //! What C asks of a number.
 ghost use Rattle.std.specs.Prelude.{◌≡◌, ℕ, List, Option};
 ghost use Rattle.std.specs.Borrow.{sem, u8, usize};
-ghost use Rattle.lent.specs.Lying.{slice_lies_at, value_lies_at};
+ghost use Rattle.gozdrit.specs.Lying.{slice_lies_at, value_lies_at};
 ghost use Rattle.gozdrit.specs.Lent.{NameFor};
 
 use crate::code::NULL;
+use crate::lent::{Lent, LentSlice};
 use crate::names::refusal_name;
-use lent::{Lent, LentSlice};
 
 /// The name of what a call answered, with a zero behind it. `count` is told its length, and 0 where the number has none.
 #[unsafe(no_mangle)]

@@ -4,7 +4,7 @@
 //! defined in `specs/Lent.antt`, and said for C in `include/gozdrit.h`, with its refusals.
 ghost use Rattle.std.specs.Prelude.{◌≡◌, ℕ, List, Option};
 ghost use Rattle.std.specs.Borrow.{sem, u8, usize};
-ghost use Rattle.lent.specs.Lying.{slice_lies_at, value_lies_at};
+ghost use Rattle.gozdrit.specs.Lying.{slice_lies_at, value_lies_at};
 ghost use Rattle.gozdrit.specs.contracts.answers.KnownPlace.{the_row as place_row};
 ghost use Rattle.gozdrit.specs.declared.answers.KnownPlace.{KnownPlace};
 ghost use Rattle.gozdrit.specs.contracts.answers.KnownSource.{the_row as source_row};
@@ -15,9 +15,9 @@ ghost use Rattle.gozdrit.specs.Lent.{MissingFor, SourceFor, CursorFor, HighestFo
 
 use crate::answers::{KnownPlace, KnownSource};
 use crate::code::NULL;
+use crate::lent::{Lent, LentSlice};
 use crate::reading::{cursor, highest, missing, repair_source};
 use crate::receiver_handle::ReceiverHandle;
-use lent::{Lent, LentSlice};
 use std::alloc::Global;
 
 /// `Receiver::missing`: how many places are missing.

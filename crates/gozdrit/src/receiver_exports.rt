@@ -4,7 +4,7 @@
 //! defined in `specs/Lent.antt`, and said for C in `include/gozdrit.h`, with its refusals.
 ghost use Rattle.std.specs.Prelude.{◌≡◌, ℕ, List, Option};
 ghost use Rattle.std.specs.Borrow.{sem, u8, usize};
-ghost use Rattle.lent.specs.Lying.{slice_lies_at, value_lies_at};
+ghost use Rattle.gozdrit.specs.Lying.{slice_lies_at, value_lies_at};
 ghost use Rattle.gozdrit.specs.contracts.answers.PlayedPlace.{the_row as played_row};
 ghost use Rattle.gozdrit.specs.declared.answers.PlayedPlace.{PlayedPlace};
 ghost use Rattle.gozdrit.specs.contracts.config.ReceiverFields.{the_row as config_row};
@@ -18,9 +18,9 @@ ghost use Rattle.gozdrit.specs.Lent.{ReceiverNewFor, ReceiverFreeFor, MediaFor, 
 use crate::answers::{PlayedPlace, TakenPlace};
 use crate::code::NULL;
 use crate::config::ReceiverFields;
+use crate::lent::{Lent, LentSlice};
 use crate::receiver_handle::ReceiverHandle;
 use crate::receiving::{ask, on_media, play, receiver_free, receiver_new};
-use lent::{Lent, LentSlice};
 use std::alloc::Global;
 
 /// Makes a receiver that took nothing, in a handle that holds no end: `Receiver::new` of a session, a configuration and a

@@ -4,7 +4,7 @@
 //! defined in `specs/Lent.antt`, and said for C in `include/gozdrit.h`, with its refusals.
 ghost use Rattle.std.specs.Prelude.{◌≡◌, ℕ, List, Option};
 ghost use Rattle.std.specs.Borrow.{sem, u32, u8};
-ghost use Rattle.lent.specs.Lying.{slice_lies_at, value_lies_at};
+ghost use Rattle.gozdrit.specs.Lying.{slice_lies_at, value_lies_at};
 ghost use Rattle.gozdrit.specs.contracts.header.Header.{the_row as header_row};
 ghost use Rattle.gozdrit.specs.declared.header.Header.{Header};
 ghost use Rattle.gozdrit.specs.contracts.config.SenderFields.{the_row as config_row};
@@ -19,9 +19,9 @@ use crate::answers::SentPacket;
 use crate::code::NULL;
 use crate::config::SenderFields;
 use crate::header::Header;
+use crate::lent::{Lent, LentSlice};
 use crate::sender_handle::SenderHandle;
 use crate::sending::{next_repair, on_feedback, send, sender_free, sender_new};
-use lent::{Lent, LentSlice};
 use std::alloc::Global;
 
 /// Makes a sender that sent nothing, in a handle that holds no end: `Sender::new` of a session, a configuration and a

@@ -1,5 +1,5 @@
 -- `gozdrit_refusal_name` hands what it was passed to `refusal_name_lent`, and gives the memory back.
-use Rattle.lent.proofs.Steps.{ℕ, ℤ, List, Option, [], ◌∷◌, refl, w32, w64, proved, word, word-Good, id⊢, emp, ex, ex_i, sep, fact, fact_i, tables, sem, ‵, raw, ◌⊛◌, ◌$◌, ◌∵◌, !, qed, by, move, drop, use0, use1, split, join, fjoin, enter, of_opd, stop, fld, no_more, and_then, returns, alloc_all, pass_all, free_all, look_at, get, get_in, sets, lands_as, agg, sub, whole, u8, usize, uint_vals, uint_Tells, sint_vals, sint_Tells, sint_Makes, sint_Lawful, i32, gone_sint, rawptr_vals, rawptr_Tells, nothing, heard, owned, calls_at, on_entry, Vals, triple_of, framed, gone_ptr, gone_int, value_lies_at, slice_lies_at, Lent, LentSlice, lent_slice_val, lent_slice-Good, slice_made, ptr_good, value_made, code_val, a_value, a_slice, answer2_had, drops, answered, moved_to, slice_moved, leave}
+use Rattle.gozdrit.proofs.Steps.{ℕ, ℤ, List, Option, [], ◌∷◌, refl, w32, w64, proved, word, word-Good, id⊢, emp, ex, ex_i, sep, fact, fact_i, tables, sem, ‵, raw, ◌⊛◌, ◌$◌, ◌∵◌, !, qed, by, move, drop, use0, use1, split, join, fjoin, enter, of_opd, stop, fld, no_more, and_then, returns, alloc_all, pass_all, free_all, look_at, get, get_in, sets, lands_as, agg, sub, whole, u8, usize, uint_vals, uint_Tells, sint_vals, sint_Tells, sint_Makes, sint_Lawful, i32, gone_sint, rawptr_vals, rawptr_Tells, nothing, heard, owned, calls_at, on_entry, Vals, triple_of, framed, gone_ptr, gone_int, value_lies_at, slice_lies_at, Lent, LentSlice, lent_slice_val, lent_slice-Good, slice_made, ptr_good, value_made, code_val, a_value, a_slice, answer2_had, drops, answered, moved_to, slice_moved, leave}
 use Rattle.gozdrit.specs.Lent.{NameFor}
 use Rattle.gozdrit.specs.contracts.names_exports.gozdrit_refusal_name as f
 use Rattle.gozdrit.proofs.names_exports.gozdrit_refusal_name.Statement.{statement}

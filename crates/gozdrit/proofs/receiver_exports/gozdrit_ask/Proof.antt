@@ -1,5 +1,5 @@
 -- `gozdrit_ask` hands what it was passed to `ask_lent`, and gives the memory back.
-use Rattle.lent.proofs.Steps.{ℕ, ℤ, List, Option, [], ◌∷◌, refl, w64, proved, word, word-Good, heap_val, heap_Tells, id⊢, emp, ex, ex_i, sep, fact, fact_i, tables, sem, ‵, raw, ◌⊛◌, ◌$◌, ◌∵◌, !, qed, by, move, drop, use0, use1, split, join, fjoin, enter, of_opd, stop, fld, no_more, and_then, returns, alloc_all, pass_all, free_all, look_at, get, get_in, sets, lands_as, agg, sub, whole, u8, u64, usize, uint_vals, uint_Tells, uint_Makes, rawptr_vals, rawptr_Tells, nothing, heard, owned, calls_at, on_entry, Vals, triple_of, framed, gone_ptr, gone_int, gone_heap, value_lies_at, slice_lies_at, Lent, LentSlice, lent_slice_val, lent_slice-Good, slice_made, ptr_good, value_made, code_val, a_value, a_slice, answer3_had, drops, answered, alloc_made, moved_to, slice_moved, leave}
+use Rattle.gozdrit.proofs.Steps.{ℕ, ℤ, List, Option, [], ◌∷◌, refl, w64, proved, word, word-Good, heap_val, heap_Tells, id⊢, emp, ex, ex_i, sep, fact, fact_i, tables, sem, ‵, raw, ◌⊛◌, ◌$◌, ◌∵◌, !, qed, by, move, drop, use0, use1, split, join, fjoin, enter, of_opd, stop, fld, no_more, and_then, returns, alloc_all, pass_all, free_all, look_at, get, get_in, sets, lands_as, agg, sub, whole, u8, u64, usize, uint_vals, uint_Tells, uint_Makes, rawptr_vals, rawptr_Tells, nothing, heard, owned, calls_at, on_entry, Vals, triple_of, framed, gone_ptr, gone_int, gone_heap, value_lies_at, slice_lies_at, Lent, LentSlice, lent_slice_val, lent_slice-Good, slice_made, ptr_good, value_made, code_val, a_value, a_slice, answer3_had, drops, answered, alloc_made, moved_to, slice_moved, leave}
 use Rattle.gozdrit.specs.Lent.{AskFor}
 use Rattle.gozdrit.specs.contracts.receiver_handle.ReceiverHandle.{the_row as receiver_row}
 use Rattle.gozdrit.specs.declared.receiver_handle.ReceiverHandle.{ReceiverHandle}

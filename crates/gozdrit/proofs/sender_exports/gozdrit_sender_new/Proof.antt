@@ -1,5 +1,5 @@
 -- `gozdrit_sender_new` hands what it was passed to `sender_new_lent`, and gives the memory back.
-use Rattle.lent.proofs.Steps.{ℤ, Option, [], ◌∷◌, refl, proved, word, word-Good, heap_val, heap_Tells, id⊢, emp, ex, ex_i, sep, fact, fact_i, tables, sem, ‵, raw, ◌⊛◌, ◌$◌, ◌∵◌, !, qed, by, move, drop, use0, use1, split, join, fjoin, enter, of_opd, stop, fld, no_more, and_then, returns, alloc_all, pass_all, free_all, look_at, get, get_in, sets, lands_as, agg, sub, whole, rawptr_vals, rawptr_Tells, nothing, heard, calls_at, on_entry, Vals, triple_of, framed, gone_ptr, gone_heap, value_lies_at, Lent, ptr_good, value_made, code_val, a_value, answer2_had, drops, answered, alloc_made, moved_to, leave}
+use Rattle.gozdrit.proofs.Steps.{ℤ, Option, [], ◌∷◌, refl, proved, word, word-Good, heap_val, heap_Tells, id⊢, emp, ex, ex_i, sep, fact, fact_i, tables, sem, ‵, raw, ◌⊛◌, ◌$◌, ◌∵◌, !, qed, by, move, drop, use0, use1, split, join, fjoin, enter, of_opd, stop, fld, no_more, and_then, returns, alloc_all, pass_all, free_all, look_at, get, get_in, sets, lands_as, agg, sub, whole, rawptr_vals, rawptr_Tells, nothing, heard, calls_at, on_entry, Vals, triple_of, framed, gone_ptr, gone_heap, value_lies_at, Lent, ptr_good, value_made, code_val, a_value, answer2_had, drops, answered, alloc_made, moved_to, leave}
 use Rattle.gozdrit.specs.Lent.{SenderNewFor}
 use Rattle.gozdrit.specs.contracts.config.SenderFields.{the_row as config_row}
 use Rattle.gozdrit.specs.declared.config.SenderFields.{SenderFields}

@@ -14,8 +14,8 @@ use types.Part.{sub, whole}
 use types.Run.{enter, of_opd, unit_lit, stop, fld, returns}
 use Rattle.std.proofs.alloc.Calls.{Goes-blank}
 use Rattle.std.proofs.raw_atomic.Walks.{proved}
-use Rattle.lent.proofs.Exports.{drops, leave}
-use Rattle.lent.proofs.Memory.{ptr_good}
+use Rattle.gozdrit.proofs.Exports.{drops, leave}
+use Rattle.gozdrit.proofs.LentMemory.{ptr_good}
 use Rattle.gozdrit.specs.Held.{Nothing}
 use Rattle.gozdrit.proofs.Fields.{held_val, heap_good, held-Good, held_told}
 use Rattle.gozdrit.specs.contracts.handle.Handle as handle

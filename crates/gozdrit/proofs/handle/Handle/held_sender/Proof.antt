@@ -13,8 +13,8 @@ use types.Part.{agg, sub, whole}
 use types.Run.{enter, of_opd, stop, fld, no_more, and_then, returns}
 use Rattle.std.proofs.alloc.Calls.{Goes-blank}
 use Rattle.std.proofs.raw_atomic.Walks.{proved}
-use Rattle.lent.proofs.Exports.{drops, leave}
-use Rattle.lent.proofs.Memory.{ptr_good}
+use Rattle.gozdrit.proofs.Exports.{drops, leave}
+use Rattle.gozdrit.proofs.LentMemory.{ptr_good}
 use Rattle.gozdrit.specs.Held.{End, ASender, IsSender, held_at}
 use Rattle.gozdrit.proofs.Fields.{held_val, heap_good, held-Good, held_told, heap_in, held_made}
 use Rattle.gozdrit.specs.contracts.handle.Handle as handle
@@ -36,4 +36,4 @@ held_sender_spec 𝓤 𝓛 𝓜 𝓡 wired =
     sets ! (of_opd ! (get ! refl)) refl (ptr_good d.at) $ sets ! (agg ! (and_then ! (get ! refl) (and_then ! (get ! refl) (no_more !)))) refl (held-Good d.at) $
     held_made d.at d.alloc ! (heap_in d.at d.alloc vals are.0.0) $ fjoin ! $
     returns ! (look_at ! 0 refl) $ free_all ! refl $ use0 𝓛 (raw (fact 𝓤 (ASender is.0 ≡ d.inside))) (fact_i 𝓤 (ASender is.0 ≡ d.inside) (emp 𝓤) (sym is.1)) $
-    keep ! (1 ∷ 0 ∷ []) $ by ! (leave 𝓛 E c ((κs, qs, bounds, a, (vals, tt)), x) (held_val d.at) (record { place = d.at; heap = d.alloc; content = is.0 }) (tt, tt) (id⊢ 𝓤 (emp 𝓤))))))
+    keep ! (1 ∷ 0 ∷ []) $ by ! (leave 𝓛 E c ((κs, qs, bounds, a, (vals, tt)), x) (held_val d.at) (record { at = d.at; heap = d.alloc; content = is.0 }) (tt, tt) (id⊢ 𝓤 (emp 𝓤))))))

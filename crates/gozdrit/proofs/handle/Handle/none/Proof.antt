@@ -14,7 +14,7 @@ use types.Part.{agg}
 use types.Run.{enter, lit, no_more, and_then, returns}
 use Rattle.std.proofs.Handle.{heap_val, heap_Tells}
 use Rattle.std.proofs.raw_atomic.Walks.{proved}
-use Rattle.lent.proofs.Exports.{drops, leave, gone_heap}
+use Rattle.gozdrit.proofs.Exports.{drops, leave, gone_heap}
 use Rattle.gozdrit.specs.Held.{Nothing}
 use Rattle.gozdrit.proofs.Fields.{held_val, heap_good, held-Good, held_made}
 use Rattle.gozdrit.specs.contracts.handle.Handle.none as f

@@ -31,8 +31,8 @@ use Rattle.std.proofs.raw_atomic.Walks.{proved, leaves}
 use Rattle.std.specs.contracts.impls.GlobalAllocator.TheImpl.{ghosts, dict}
 use Rattle.std.proofs.impls.GlobalAllocator.TheImpl.Met.{passed}
 use Rattle.gozdrit.proofs.Destruct++none.drop.Symbol as none
-use Rattle.lent.proofs.Exports.{drops, alloc_made}
-use Rattle.lent.proofs.Memory.{ptr_good}
+use Rattle.gozdrit.proofs.Exports.{drops, alloc_made}
+use Rattle.gozdrit.proofs.LentMemory.{ptr_good}
 use Rattle.gozdrit.proofs.Fields.{held_val, held_ty, heap_good, held-Good, held_told, heap_in}
 use Rattle.gozdrit.proofs.Calls.{Passed, passed_laws, let_go, both_tokens, asks_heap, gives_back, answer}
 use Rattle.std.specs.contracts.boxed.Box.from_raw as g
@@ -50,19 +50,19 @@ put_together_spec 𝓤 𝓛 𝓜 𝓡 wired T L =
     (passed 𝓡.env (code.calls-std_heap::GlobalAllocator::allocate 𝓡.env wired) (code.calls-std_heap::GlobalAllocator::deallocate 𝓡.env wired) (code.calls-std_heap::GlobalAllocator::grow 𝓡.env wired) (code.calls-std_heap::GlobalAllocator::shrink 𝓡.env wired) _ 𝓤 𝓛 𝓜 𝓡)
     (none.glues 𝓡.env (code.calls-gozdrit::Destruct++none::drop 𝓡.env wired) Passed passed_laws _ 𝓤 𝓛 𝓜 𝓡) in
     proved 𝓛 E hs c 𝓜 𝓡 (Goes-blank 𝓛 1 (plain (λ _. unboxed.the_row (param 0 T))) E.kept.0 (λ κs x w. tt), tt) (f.Key.name args) fn (code.unfolded 𝓤 𝓛.H 𝓜 𝓡 wired (T, tt))
-    (λ κs. ((λ d. held_val d.place ∷ []), tt)) (λ κs. ((λ d vs is. held_told d.place d.heap vs is.0), tt)) (λ κs qs bounds a x are.
-    let d = a.0 in let κ = κs.0 in let q = qs.0 in let vals : List Val = held_val d.place ∷ [] in
+    (λ κs. ((λ d. held_val d.at ∷ []), tt)) (λ κs. ((λ d vs is. held_told d.at d.heap vs is.0), tt)) (λ κs qs bounds a x are.
+    let d = a.0 in let κ = κs.0 in let q = qs.0 in let vals : List Val = held_val d.at ∷ [] in
     let G = triple_of 𝓛 (g.signature T Passed ghosts dict let_go) (g.spec T Passed ghosts dict let_go 𝓛 𝓜.mem 𝓡.returns) in
-    let z : G.Ghost = (((κ, ([], tt)), (q, (full_share, tt)), tt, (d.heap, (d.place, tt)), (heap_val ∷ [], (ptr_val d.place ∷ [], tt))), d.content) in
+    let z : G.Ghost = (((κ, ([], tt)), (q, (full_share, tt)), tt, (d.heap, (d.at, tt)), (heap_val ∷ [], (ptr_val d.at ∷ [], tt))), d.content) in
     let y : W.Ghost = ((κs, qs, bounds, a, (vals, tt)), x) in
     qed 𝓛 (((‵ (flft κ q) ⊛ ‵ ftrue) ⊛ ‵ (owns (types_at E.signature.params κs) a (vals, tt))) ∷ (raw (fact 𝓤 (κ ⊑ T.lives)) ⊛ ‵ ftrue) ∷ []) ∵ split ! $ move ! (0 ∷ 2 ∷ []) $
     asks_heap T κ q ! $ move ! (1 ∷ 2 ∷ []) $ split3 ! $ move ! (3 ∷ []) $ fsplit ! $ fsplit ! $
     -- [the fields; the block; nothing; two bounds; nothing; the tokens]
     move ! (3 ∷ 4 ∷ 1 ∷ []) $ group ! 3 $ move ! (1 ∷ 2 ∷ []) $ drop ! $ drop ! $
-    move ! (1 ∷ []) $ feq_i ! (List Val) (ptr_val d.place ∷ []) (ptr_val d.place ∷ []) refl $ fjoin ! $ alloc_made ! d.heap (heap_in d.place d.heap vals are.0.0) $ fjoin ! $
+    move ! (1 ∷ []) $ feq_i ! (List Val) (ptr_val d.at ∷ []) (ptr_val d.at ∷ []) refl $ fjoin ! $ alloc_made ! d.heap (heap_in d.at d.heap vals are.0.0) $ fjoin ! $
     move ! (2 ∷ 0 ∷ []) $ join ! $ join ! $ use1 𝓛 (raw (G.pre z)) (id⊢ 𝓤 _) $
-    enter ! _ _ _ _ _ $ alloc_all ! (λ l. pass_all ! refl (held-Good d.place, tt) $
-    sets ! (of_opd ! (get_in ! (fld ! refl (stop !)) (sub ! 0 refl (whole !)))) refl (ptr_good d.place) $
+    enter ! _ _ _ _ _ $ alloc_all ! (λ l. pass_all ! refl (held-Good d.at, tt) $
+    sets ! (of_opd ! (get_in ! (fld ! refl (stop !)) (sub ! 0 refl (whole !)))) refl (ptr_good d.at) $
     sets ! (of_opd ! (get_in ! (fld ! refl (stop !)) (sub ! 1 refl (whole !)))) refl heap_good $ first ! $ blocks ! $
     calls_at_last ! (framed 𝓤 𝓛.H 𝓜 𝓣) G known z (and_then ! (get ! refl) (and_then ! (get ! refl) (no_more !))) (λ u.
     answer ! tt (g.ended T Passed ghosts dict let_go) (g.clauses T Passed ghosts dict let_go 𝓛 𝓜.mem 𝓡.returns) z u (λ r ws.

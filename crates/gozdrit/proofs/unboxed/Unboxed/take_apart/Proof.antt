@@ -26,8 +26,8 @@ use Rattle.std.specs.contracts.alloc.Global.{the_row as Heap}
 use Rattle.std.specs.contracts.impls.GlobalAllocator.TheImpl.{ghosts, dict}
 use Rattle.std.proofs.impls.GlobalAllocator.TheImpl.Met.{passed}
 use Rattle.gozdrit.proofs.Destruct++none.drop.Symbol as none
-use Rattle.lent.proofs.Exports.{drops}
-use Rattle.lent.proofs.Memory.{ptr_good}
+use Rattle.gozdrit.proofs.Exports.{drops}
+use Rattle.gozdrit.proofs.LentMemory.{ptr_good}
 use Rattle.gozdrit.specs.Held.{boxed_at}
 use Rattle.gozdrit.proofs.Fields.{held_val, heap_good, held-Good, held_told, heap_in, held_made}
 use Rattle.gozdrit.proofs.Calls.{Passed, passed_laws, let_go, both_tokens, asks_heap, gives_back, answer}
@@ -64,6 +64,6 @@ take_apart_spec 𝓤 𝓛 𝓜 𝓡 wired T L dx glue =
     held_made r.0 r.1 ! (heap_in r.0 r.1 (u ∷ []) is) $ fjoin ! $ move ! (1 ∷ []) $
     use1 𝓛 (both_tokens κ q) (id⊢ 𝓤 _) $ gives_back T κ q ! $
     returns ! (look_at ! 0 refl) $ free_all ! refl $
-    suffices ! _ (leaves 𝓛 E hs c ((κs, qs, bounds, a, (held_val v.ptr ∷ [], tt)), x) (held_val r.0) (record { place = r.0; heap = r.1; content = v.value }) (tt, tt) (tt, tt)) $
+    suffices ! _ (leaves 𝓛 E hs c ((κs, qs, bounds, a, (held_val v.ptr ∷ [], tt)), x) (held_val r.0) (record { at = r.0; heap = r.1; content = v.value }) (tt, tt) (tt, tt)) $
     use0 𝓛 (raw (fact 𝓤 (v.value ≡ v.value))) (fact_i 𝓤 (v.value ≡ v.value) (emp 𝓤) refl) $ move ! (2 ∷ 0 ∷ []) $ join ! $
     nothing ! $ nothing ! $ fjoin ! $ join ! $ move ! (1 ∷ []) $ join ! $ done !)))))

@@ -12,7 +12,6 @@
 //! of the type as are said, in one block, whole and set. While the call runs nothing else reads
 //! or writes them. They begin fewer than 2^63 bytes into their block, and the values of a slice
 //! take fewer than 2^63 bytes.
-#![tactic(auto)]
 
 ghost use Rattle.std.specs.Prelude.{Option, List};
 
@@ -30,7 +29,7 @@ pub struct Lent<T> {
 }
 
 impl<T> Model for Lent<T> {
-    ghost use Rattle.lent.specs.Lying.{value_lies_at};
+    ghost use Rattle.gozdrit.specs.Lying.{value_lies_at};
 
     ghost also_owns = { λ p. value_lies_at T.row p.at p.value };
 }
@@ -48,7 +47,7 @@ pub struct LentSlice<T> {
 }
 
 impl<T> Model for LentSlice<T> {
-    ghost use Rattle.lent.specs.Lying.{slice_lies_at};
+    ghost use Rattle.gozdrit.specs.Lying.{slice_lies_at};
 
     ghost also_owns = { λ s. slice_lies_at T.row s.at s.len s.items };
 }

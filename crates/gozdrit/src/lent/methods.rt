@@ -1,9 +1,9 @@
 // Whether anything lies there, and a reference to it.
 ghost use Rattle.std.specs.Prelude.{◌≡◌, Some, IsSome, is_none};
 ghost use Rattle.std.specs.Borrow.{sem};
-ghost use Rattle.lent.specs.Lends.{LendsValue, LendsItems};
+ghost use Rattle.gozdrit.specs.Lends.{LendsValue, LendsItems};
 
-use crate::{Lent, LentSlice};
+use crate::lent::{Lent, LentSlice};
 use std::slice;
 
 impl<T> Lent<T> {

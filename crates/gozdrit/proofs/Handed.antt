@@ -17,9 +17,9 @@ use denote.Steps.{peeks, only}
 use denote.Struct.Struct.{as_fields, to_tys}
 use denote.Struct.Tuple.{Tuple}
 use Rattle.std.proofs.RcSteps.{Good, word, word_ty, word-Good}
-use Rattle.lent.specs.Lying.{value_lies_at, slice_lies_at}
-use Rattle.lent.proofs.Memory.{Lent, value_had}
-use Rattle.lent.proofs.SliceMemory.{LentSlice, lent_slice_val, lent_slice_ty, lent_slice-Good, slice_had}
+use Rattle.gozdrit.specs.Lying.{value_lies_at, slice_lies_at}
+use Rattle.gozdrit.proofs.LentMemory.{Lent, value_had}
+use Rattle.gozdrit.proofs.SliceMemory.{LentSlice, lent_slice_val, lent_slice_ty, lent_slice-Good, slice_had}
 
 pub data Back : Type 2 where
   a_value : RattleType → Back

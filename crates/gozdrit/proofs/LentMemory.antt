@@ -27,10 +27,10 @@ use denote.Steps.{facts}
 use denote.Struct.Struct.{Struct}
 use denote.Struct.Owning.{shape}
 use Rattle.std.proofs.RcSteps.{word}
-use Rattle.lent.specs.Lying.{value_lies_at}
-use Rattle.lent.specs.contracts.Lent as lent
-use Rattle.lent.proofs.Method.{Self, Cell, Open, self_opens, laid}
-use Rattle.lent.specs.Lends.{with_value}
+use Rattle.gozdrit.specs.Lying.{value_lies_at}
+use Rattle.gozdrit.specs.contracts.lent.Lent as lent
+use Rattle.gozdrit.proofs.Method.{Self, Cell, Open, self_opens, laid}
+use Rattle.gozdrit.specs.Lends.{with_value}
 
 -- what is there is something
 pub some_of : {X : Type 0} (o : Option X) → IsSome o → (x : X) × (o ≡ Some x)

@@ -1,8 +1,8 @@
 -- `is_missing` compares the pointer with null, and the length with 0.
-use Rattle.lent.proofs.Walks.{[], ◌∷◌, refl, is_none, emp, fact_i, bool, yes, param, layouts, bool_Makes, tests_null, plain, Goes-ref, says, inst_fn, a_type, raw, ◌$◌, ◌∵◌, !, qed, by, move, drop, whole, sub, look_in, enter, of_opd, lit, bin, load, stop, fld, returns, alloc_all, pass_all, free_all, look_at, get, through, sets, is, stays, Self, walks, unchanged, self_closes, LentSlice, lent_slice_val, ptr_good, slice_made, slice_tested, slice_opens}
-use Rattle.lent.specs.contracts.LentSlice.is_missing as f
-use Rattle.lent.proofs.LentSlice.is_missing.Statement.{statement}
-use Rattle.lent.proofs.LentSlice.is_missing.Code as code
+use Rattle.gozdrit.proofs.Walks.{[], ◌∷◌, refl, is_none, emp, fact_i, bool, yes, param, layouts, bool_Makes, tests_null, plain, Goes-ref, says, inst_fn, a_type, raw, ◌$◌, ◌∵◌, !, qed, by, move, drop, whole, sub, look_in, enter, of_opd, lit, bin, load, stop, fld, returns, alloc_all, pass_all, free_all, look_at, get, through, sets, is, stays, Self, walks, unchanged, self_closes, LentSlice, lent_slice_val, ptr_good, slice_made, slice_tested, slice_opens}
+use Rattle.gozdrit.specs.contracts.lent.LentSlice.is_missing as f
+use Rattle.gozdrit.proofs.lent.LentSlice.is_missing.Statement.{statement}
+use Rattle.gozdrit.proofs.lent.LentSlice.is_missing.Code as code
 
 pub is_missing_spec : {M : Type 1} → statement M
 is_missing_spec 𝓤 𝓛 𝓜 𝓡 wired X LX =

@@ -1,10 +1,10 @@
 -- `get` lends the values, and the slice follows them.
-use Rattle.lent.proofs.Walks.{[], ◌∷◌, refl, sym, subst, arith, ℕ, ◌<◌, ◌*◌, ◌^◌, lit<, tables, no, param, layouts, Ptr, block_ptr, null_ptr, slice_val, tests_null, after, plain, mut_slice_of, says, asked, Goes-spent_ref, inst_fn, a_type, raw, at_ret, ‵, ◌$◌, ◌∵◌, !, qed, by, move, done, nothing, rewrite, whole, sub, look_in, agg, enter, of_opd, lit, bin, load, addr, stop, fld, first, blocks, branches, exec, no_more, and_then, returns, alloc_all, pass_all, free_all, look_at, get, through, sets, sets_last, env, leaves_it, Walk, bound, Self, Cell, walks, lent_out, Array, follows, with_items, LentSlice, lent_slice_val, slice_opens, slice_begins, slice_lends}
+use Rattle.gozdrit.proofs.Walks.{[], ◌∷◌, refl, sym, subst, arith, ℕ, ◌<◌, ◌*◌, ◌^◌, lit<, tables, no, param, layouts, Ptr, block_ptr, null_ptr, slice_val, tests_null, after, plain, mut_slice_of, says, asked, Goes-spent_ref, inst_fn, a_type, raw, at_ret, ‵, ◌$◌, ◌∵◌, !, qed, by, move, done, nothing, rewrite, whole, sub, look_in, agg, enter, of_opd, lit, bin, load, addr, stop, fld, first, blocks, branches, exec, no_more, and_then, returns, alloc_all, pass_all, free_all, look_at, get, through, sets, sets_last, env, leaves_it, Walk, bound, Self, Cell, walks, lent_out, Array, follows, with_items, LentSlice, lent_slice_val, slice_opens, slice_begins, slice_lends}
 use native.Mathlib.Nat.{zero-mul}
 use Rattle.std.specs.Mem.{type_size}
-use Rattle.lent.specs.contracts.LentSlice.get as f
-use Rattle.lent.proofs.LentSlice.get.Statement.{statement}
-use Rattle.lent.proofs.LentSlice.get.Code as code
+use Rattle.gozdrit.specs.contracts.lent.LentSlice.get as f
+use Rattle.gozdrit.proofs.lent.LentSlice.get.Statement.{statement}
+use Rattle.gozdrit.proofs.lent.LentSlice.get.Code as code
 
 pub get_spec : {M : Type 1} → statement M
 get_spec 𝓤 𝓛 𝓜 𝓡 wired X LX =

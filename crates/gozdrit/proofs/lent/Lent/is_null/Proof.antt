@@ -1,8 +1,8 @@
 -- `is_null` compares the pointer with null.
-use Rattle.lent.proofs.Walks.{[], ◌∷◌, refl, is_none, word, emp, fact_i, bool, yes, param, layouts, bool_Makes, tests_null, plain, Goes-ref, inst_fn, a_type, raw, ◌$◌, ◌∵◌, !, qed, by, move, drop, whole, sub, look_in, enter, of_opd, lit, bin, load, stop, fld, returns, alloc_all, pass_all, free_all, look_at, get, through, sets, is, stays, Self, walks, unchanged, self_closes, Lent, ptr_good, value_made, value_opens}
-use Rattle.lent.specs.contracts.Lent.is_null as f
-use Rattle.lent.proofs.Lent.is_null.Statement.{statement}
-use Rattle.lent.proofs.Lent.is_null.Code as code
+use Rattle.gozdrit.proofs.Walks.{[], ◌∷◌, refl, is_none, word, emp, fact_i, bool, yes, param, layouts, bool_Makes, tests_null, plain, Goes-ref, inst_fn, a_type, raw, ◌$◌, ◌∵◌, !, qed, by, move, drop, whole, sub, look_in, enter, of_opd, lit, bin, load, stop, fld, returns, alloc_all, pass_all, free_all, look_at, get, through, sets, is, stays, Self, walks, unchanged, self_closes, Lent, ptr_good, value_made, value_opens}
+use Rattle.gozdrit.specs.contracts.lent.Lent.is_null as f
+use Rattle.gozdrit.proofs.lent.Lent.is_null.Statement.{statement}
+use Rattle.gozdrit.proofs.lent.Lent.is_null.Code as code
 
 pub is_null_spec : {M : Type 1} → statement M
 is_null_spec 𝓤 𝓛 𝓜 𝓡 wired X LX =

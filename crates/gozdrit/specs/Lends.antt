@@ -2,11 +2,11 @@
 use Rattle.std.specs.Prelude.{List, [], length, Option, Some, None}
 use Rattle.std.specs.Borrow.{Lends, MutBor, Fml, Array}
 use denote.RattleType.{RattleType}
-use Rattle.lent.specs.declared.Lent.{Lent}
-use Rattle.lent.specs.contracts.Lent.{the_row}
+use Rattle.gozdrit.specs.declared.lent.Lent.{Lent}
+use Rattle.gozdrit.specs.contracts.lent.Lent.{the_row}
 use Rattle.std.specs.List.{refill}
-use Rattle.lent.specs.declared.LentSlice.{LentSlice}
-use Rattle.lent.specs.contracts.LentSlice.{the_row as slice_row}
+use Rattle.gozdrit.specs.declared.lent.LentSlice.{LentSlice}
+use Rattle.gozdrit.specs.contracts.lent.LentSlice.{the_row as slice_row}
 
 -- p with the value w
 abbrev pub with_value : {X : Type 0} → Lent X → X → Lent X

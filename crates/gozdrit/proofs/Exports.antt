@@ -30,7 +30,7 @@ use denote.Triple.Spec.{triple_of}
 use denote.Triple.Walked.{Stays, stay_dropped, fits_of, has_of, walk_of, ends_at, Goes, Goes-dropped}
 use Rattle.std.specs.contracts.alloc.Global as heap
 use Rattle.std.proofs.Handle.{heap_val}
-use Rattle.lent.specs.Lying.{value_lies_at, slice_lies_at}
+use Rattle.gozdrit.specs.Lying.{value_lies_at, slice_lies_at}
 
 module _ {n : ℕ} where
   abbrev pub drops : (ss : List (Slot n)) (ks : Kepts ss) → Stays ss ks

@@ -1,8 +1,8 @@
 -- `get` lends the value, and `self` follows it.
-use Rattle.lent.proofs.Walks.{ℕ, [], ◌∷◌, refl, sym, word, tables, no, param, layouts, Ptr, vptr, after, plain, mut_ref_to, says, asked, Goes-spent_ref, inst_fn, a_type, raw, at_ret, ‵, ◌$◌, ◌∵◌, !, qed, by, move, done, rewrite, whole, sub, look_in, enter, of_opd, addr, stop, fld, hop, first, blocks, exec, returns, alloc_all, pass_all, free_all, look_at, get, through, sets, sets_last, env, leaves_it, Walk, bound, Self, Cell, walks, lent_out, follows, with_value, Lent, value_opens, value_there, value_lends}
-use Rattle.lent.specs.contracts.Lent.get as f
-use Rattle.lent.proofs.Lent.get.Statement.{statement}
-use Rattle.lent.proofs.Lent.get.Code as code
+use Rattle.gozdrit.proofs.Walks.{ℕ, [], ◌∷◌, refl, sym, word, tables, no, param, layouts, Ptr, vptr, after, plain, mut_ref_to, says, asked, Goes-spent_ref, inst_fn, a_type, raw, at_ret, ‵, ◌$◌, ◌∵◌, !, qed, by, move, done, rewrite, whole, sub, look_in, enter, of_opd, addr, stop, fld, hop, first, blocks, exec, returns, alloc_all, pass_all, free_all, look_at, get, through, sets, sets_last, env, leaves_it, Walk, bound, Self, Cell, walks, lent_out, follows, with_value, Lent, value_opens, value_there, value_lends}
+use Rattle.gozdrit.specs.contracts.lent.Lent.get as f
+use Rattle.gozdrit.proofs.lent.Lent.get.Statement.{statement}
+use Rattle.gozdrit.proofs.lent.Lent.get.Code as code
 
 pub get_spec : {M : Type 1} → statement M
 get_spec 𝓤 𝓛 𝓜 𝓡 wired X LX =

@@ -35,11 +35,11 @@ use denote.Steps.{facts}
 use denote.Struct.Struct.{Struct, as_fields}
 use denote.Struct.Owning.{shape}
 use Rattle.std.proofs.RcSteps.{Good}
-use Rattle.lent.specs.Lying.{slice_lies_at}
-use Rattle.lent.specs.contracts.LentSlice as slice
-use Rattle.lent.proofs.Memory.{ptr_good, nowhere}
-use Rattle.lent.proofs.Method.{Self, Cell, Open, self_opens, laid}
-use Rattle.lent.specs.Lends.{listed, with_items}
+use Rattle.gozdrit.specs.Lying.{slice_lies_at}
+use Rattle.gozdrit.specs.contracts.lent.LentSlice as slice
+use Rattle.gozdrit.proofs.LentMemory.{ptr_good, nowhere}
+use Rattle.gozdrit.proofs.Method.{Self, Cell, Open, self_opens, laid}
+use Rattle.gozdrit.specs.Lends.{listed, with_items}
 
 abbrev pub lent_slice_val : Ptr → ℕ → Val
 lent_slice_val p n = vstruct (of_list (ptr_val p ∷ vint w64 n ∷ []))

@@ -25,9 +25,9 @@ pub use types.Kit.{‵, raw, at_ret, ◌⊛◌, ◌$◌, ◌∵◌, !, qed, by, 
 pub use types.Part.{whole, sub, look_in, agg}
 pub use types.Run.{enter, of_opd, lit, bin, load, addr, stop, fld, hop, first, blocks, branches, exec, no_more, and_then, returns}
 pub use types.ByLocal.{alloc_all, pass_all, free_all, look_at, get, through, sets, sets_last, is, env}
-pub use Rattle.lent.proofs.Method.{Method, stays, leaves_it, Self, walks, unchanged, lent_out, self_closes, Cell, asked, Walk, bound}
-pub use Rattle.lent.proofs.Memory.{Lent, ptr_good, value_made, value_opens, value_there, value_lends}
-pub use Rattle.lent.proofs.SliceMemory.{LentSlice, lent_slice_val, slice_made, slice_tested, slice_opens, slice_begins, slice_lends}
+pub use Rattle.gozdrit.proofs.Method.{Method, stays, leaves_it, Self, walks, unchanged, lent_out, self_closes, Cell, asked, Walk, bound}
+pub use Rattle.gozdrit.proofs.LentMemory.{Lent, ptr_good, value_made, value_opens, value_there, value_lends}
+pub use Rattle.gozdrit.proofs.SliceMemory.{LentSlice, lent_slice_val, slice_made, slice_tested, slice_opens, slice_begins, slice_lends}
 pub use denote.Array.{Array}
 pub use denote.Follow.{follows}
-pub use Rattle.lent.specs.Lends.{with_value, with_items}
+pub use Rattle.gozdrit.specs.Lends.{with_value, with_items}

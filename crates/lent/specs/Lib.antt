@@ -1,3 +1,0 @@
-pub mod Lying
-pub mod Lends
-pub mod Null
