@@ -72,13 +72,21 @@ show_asked name c rest h = shows name c rest (ne_eqb c 45 h)
 pub show_taken : (name : Text) (c : ℕ) (rest : Text) → c ≢ 45 → takes tool (name ∷ codes "show" ∷ (c ∷ rest) ∷ []) ≡ true
 show_taken name c rest h = shows_taken name c rest (ne_eqb c 45 h)
 
-pub hyphen_asked : (name : Text) → asked (name ∷ codes "sim" ∷ codes "-" ∷ []) ≡ Some (Sims (codes "-"))
+pub sim_hyphen_asked : (name : Text) → asked (name ∷ codes "sim" ∷ codes "-" ∷ []) ≡ Some (Sims (codes "-"))
 unfolding clap_on_literals
-hyphen_asked name = refl
+sim_hyphen_asked name = refl
 
-pub hyphen_taken : (name : Text) → takes tool (name ∷ codes "sim" ∷ codes "-" ∷ []) ≡ true
+pub sim_hyphen_taken : (name : Text) → takes tool (name ∷ codes "sim" ∷ codes "-" ∷ []) ≡ true
 unfolding clap_on_literals
-hyphen_taken name = refl
+sim_hyphen_taken name = refl
+
+pub show_hyphen_asked : (name : Text) → asked (name ∷ codes "show" ∷ codes "-" ∷ []) ≡ Some (Shows (codes "-"))
+unfolding clap_on_literals
+show_hyphen_asked name = refl
+
+pub show_hyphen_taken : (name : Text) → takes tool (name ∷ codes "show" ∷ codes "-" ∷ []) ≡ true
+unfolding clap_on_literals
+show_hyphen_taken name = refl
 
 -- a plain command has no argument for its subcommands too
 third : (a b c d : Bool) → (a && (not b && (not c && d))) ≡ true → c ≡ false
