@@ -7,8 +7,7 @@ use Rattle.clap.specs.declared.error.ErrorKind.TheVariants.{DisplayHelp, Display
 use Rattle.rtpwire.specs.declared.fault.FrameFault.TheVariants.{Truncated, FrameTooLong}
 use Rattle.runs.specs.declared.link.Transfer.{Transfer}
 use Rattle.runs.specs.declared.tally.Tally.{Tally}
-use Rattle.rand_core.specs.Stream.{Stream}
-use Rattle.runs.specs.Soak.{Draws}
+use Rattle.runs.specs.Soak.{Draws, seeded}
 use Rattle.rtxtool.specs.declared.command_line.ChooseFault.TheVariants.{Line, Value}
 use Rattle.rtxtool.specs.declared.drop_list.ListFault.TheVariants.{BadList}
 use Rattle.rtxtool.specs.declared.fault.SimFault.{SimFault}
@@ -40,10 +39,10 @@ PrintedAll text old new = (count : ℕ) × IsDone count text old new
 abbrev pub ShowedAll : List ℕ → (old new : Option (List ℕ)) → Type 0
 ShowedAll trace old new = (count : ℕ) × IsShown count trace old new
 
--- the tally of a run drawn with these words was written
-abbrev pub PrintedTally : (words : Stream) → (packets loss : ℕ) → (old new : Option (List ℕ)) → Type 0
-PrintedTally words packets loss old new =
-    (tally : Tally) × Draws loss packets words tally × Appends old new (tally_line (codes "lost") tally)
+-- the tally of the run that is drawn from this seed was written
+abbrev pub PrintedTally : (seed packets loss : ℕ) → (old new : Option (List ℕ)) → Type 0
+PrintedTally seed packets loss old new =
+    (tally : Tally) × Draws loss packets (seeded seed) tally × Appends old new (tally_line (codes "lost") tally)
 
 -- the tally of a run over some link was written, in which the packets that the text lists were dropped
 abbrev pub PrintedLoop : (packets : ℕ) → (drops : Text) → (old new : Option (List ℕ)) → Type 0
@@ -51,22 +50,17 @@ PrintedLoop packets drops old new =
     (list : List ℕ) × (told : Option (List Transfer)) × (telling : Option (List Transfer)) × (tally : Tally)
     × (drops_of drops packets ≡ Some list) × Loops packets list told telling tally × Appends old new (tally_line (codes "dropped") tally)
 
--- What the program finds where it runs: the octets of its files, where they are known, and the words that its generator
--- draws from a seed.
-pub record Found : Type 0 where
-  pub octets : Text → Option (List ℕ)
-  pub drawn : ℕ → Stream
-
-abbrev pub found_in : (Text → Option (List ℕ)) → (ℕ → Stream) → Found
-found_in octets drawn = record { octets = octets; drawn = drawn }
+-- What stands in each file, where that is known.
+abbrev pub Files : Type 0
+Files = Text → Option (List ℕ)
 
 -- All that was asked for was done.
-abbrev pub Does : Asked → Found → (old new : Option (List ℕ)) → Type 0
-Does (Sims file) found old new = IfSome (found.octets file) (λ text. PrintedAll text old new)
-Does (Shows file) found old new = IfSome (found.octets file) (λ trace. ShowedAll trace old new)
-Does (Packs places) found old new = WrotePacking places old new
-Does (Soaks seed packets loss) found old new = PrintedTally (found.drawn seed) packets loss old new
-Does (asks.Loops packets drops) found old new = PrintedLoop packets drops old new
+abbrev pub Does : Asked → Files → (old new : Option (List ℕ)) → Type 0
+Does (Sims file) files old new = IfSome (files file) (λ text. PrintedAll text old new)
+Does (Shows file) files old new = IfSome (files file) (λ trace. ShowedAll trace old new)
+Does (Packs places) files old new = WrotePacking places old new
+Does (Soaks seed packets loss) files old new = PrintedTally seed packets loss old new
+Does (asks.Loops packets drops) files old new = PrintedLoop packets drops old new
 
 -- ---- what each prints of an input that is refused
 
@@ -84,12 +78,12 @@ RefusesPacking NotRising places old new = WroteNone places old new
 RefusesPacking _ places old new = Unit {0}
 
 -- The input was refused: the line or the frame is told, and what stands before it was printed. A drawn run has no input.
-abbrev pub Refuses : Asked → Found → (old new : Option (List ℕ)) → Type 0
-Refuses (Sims file) found old new = IfSome (found.octets file) (λ text. (line : ℕ) × PrintedBefore (BadLine line) text old new)
-Refuses (Shows file) found old new = IfSome (found.octets file) (λ trace. (number : ℕ) × (IsCut number trace old new ⊎ IsTooLong number trace old new))
-Refuses (Packs places) found old new = WroteNone places old new
-Refuses (Soaks seed packets loss) found old new = ⊥
-Refuses (asks.Loops packets drops) found old new = (drops_of drops packets ≡ None) × Appends old new []
+abbrev pub Refuses : Asked → Files → (old new : Option (List ℕ)) → Type 0
+Refuses (Sims file) files old new = IfSome (files file) (λ text. (line : ℕ) × PrintedBefore (BadLine line) text old new)
+Refuses (Shows file) files old new = IfSome (files file) (λ trace. (number : ℕ) × (IsCut number trace old new ⊎ IsTooLong number trace old new))
+Refuses (Packs places) files old new = WroteNone places old new
+Refuses (Soaks seed packets loss) files old new = ⊥
+Refuses (asks.Loops packets drops) files old new = (drops_of drops packets ≡ None) × Appends old new []
 
 -- ---- what a run says of its words
 
@@ -101,13 +95,13 @@ AsksForHelp words = IsAmong DisplayHelp (fault_of tool words) ⊎ IsAmong Displa
 abbrev pub AskFor : List Text → (Asked → Type 0) → Type 0
 AskFor words P = (said : Asked) × (asked words ≡ Some said) × P said
 
-abbrev pub Succeeds : Found → List Text → (old new : Option (List ℕ)) → Type 0
-Succeeds found words old new = AsksForHelp words ⊎ AskFor words (λ said. Does said found old new)
+abbrev pub Succeeds : Files → List Text → (old new : Option (List ℕ)) → Type 0
+Succeeds files words old new = AsksForHelp words ⊎ AskFor words (λ said. Does said files old new)
 
 -- What an exit status says of a command line and of what was written.
-pub record Ends (status : ℕ) (found : Found) (words : List Text) (old new : Option (List ℕ)) : Type 0 where
-  pub done : status ≡ 0 → Succeeds found words old new
-  pub refused : status ≡ 1 → AskFor words (λ said. Refuses said found old new)
+pub record Ends (status : ℕ) (files : Files) (words : List Text) (old new : Option (List ℕ)) : Type 0 where
+  pub done : status ≡ 0 → Succeeds files words old new
+  pub refused : status ≡ 1 → AskFor words (λ said. Refuses said files old new)
   pub command_line : status ≡ 2 → (takes tool words ≡ false) ⊎ (asked words ≡ None)
   pub others : (status ≡ 0) ⊎ (status ≡ 1) ⊎ (status ≡ 2) ⊎ (status ≡ 3) ⊎ (status ≡ 4)
 
@@ -123,19 +117,19 @@ FailsToLoop (tool_fault.Drive fault) packets drops old new = Unit {0}
 FailsToLoop _ packets drops old new = ⊥
 
 -- the fault of what was asked for
-abbrev pub FailsIn : ToolFault → Asked → Found → (old new : Option (List ℕ)) → Type 0
-FailsIn (Sim (BadLine line)) said found old new = Refuses said found old new
-FailsIn (Show (Frame fault number)) said found old new = Refuses said found old new
-FailsIn (Pack NotRising) said found old new = Refuses said found old new
-FailsIn (tool_fault.List BadList) said found old new = Refuses said found old new
-FailsIn (Choose fault) said found old new = ⊥
-FailsIn _ said found old new = Unit {0}
+abbrev pub FailsIn : ToolFault → Asked → Files → (old new : Option (List ℕ)) → Type 0
+FailsIn (Sim (BadLine line)) said files old new = Refuses said files old new
+FailsIn (Show (Frame fault number)) said files old new = Refuses said files old new
+FailsIn (Pack NotRising) said files old new = Refuses said files old new
+FailsIn (tool_fault.List BadList) said files old new = Refuses said files old new
+FailsIn (Choose fault) said files old new = ⊥
+FailsIn _ said files old new = Unit {0}
 
-abbrev pub Fails : ToolFault → Found → List Text → (old new : Option (List ℕ)) → Type 0
-Fails (Sim (BadLine line)) found words old new = AskFor words (λ said. Refuses said found old new)
-Fails (Show (Frame fault number)) found words old new = AskFor words (λ said. Refuses said found old new)
-Fails (Pack NotRising) found words old new = AskFor words (λ said. Refuses said found old new)
-Fails (tool_fault.List BadList) found words old new = AskFor words (λ said. Refuses said found old new)
-Fails (Choose (Line error)) found words old new = takes tool words ≡ false
-Fails (Choose Value) found words old new = asked words ≡ None
-Fails _ found words old new = Unit {0}
+abbrev pub Fails : ToolFault → Files → List Text → (old new : Option (List ℕ)) → Type 0
+Fails (Sim (BadLine line)) files words old new = AskFor words (λ said. Refuses said files old new)
+Fails (Show (Frame fault number)) files words old new = AskFor words (λ said. Refuses said files old new)
+Fails (Pack NotRising) files words old new = AskFor words (λ said. Refuses said files old new)
+Fails (tool_fault.List BadList) files words old new = AskFor words (λ said. Refuses said files old new)
+Fails (Choose (Line error)) files words old new = takes tool words ≡ false
+Fails (Choose Value) files words old new = asked words ≡ None
+Fails _ files words old new = Unit {0}

@@ -6,7 +6,7 @@ ghost use Rattle.clap.specs.Words.{kind_of};
 ghost use Rattle.clap.specs.declared.error.ErrorKind.TheVariants.{DisplayHelp, DisplayVersion};
 ghost use Rattle.rtxtool.specs.CommandLine.{IsWithin, said_by};
 ghost use Rattle.rtxtool.specs.Pack.{WrotePacking};
-ghost use Rattle.rtxtool.specs.Program.{Does, Ends, Fails, FailsIn, FailsToLoop, PrintedAll, PrintedBefore, PrintedLoop, PrintedTally, RefusesPacking, RefusesTrace, ShowedAll, Succeeds, found_in};
+ghost use Rattle.rtxtool.specs.Program.{Does, Ends, Fails, FailsIn, FailsToLoop, PrintedAll, PrintedBefore, PrintedLoop, PrintedTally, RefusesPacking, RefusesTrace, ShowedAll, Succeeds};
 
 use crate::command_line::{Choice, ChooseFault, choose};
 use crate::drop_list::drop_list;
@@ -19,8 +19,6 @@ use crate::sim::sim_text;
 use crate::tally_text::write_tally;
 use crate::tell::{ToolFault, tell};
 use places::Place;
-use rand_core::{Rng, SeedableRng};
-use rand_pcg::Lcg64Xsh32;
 use runs::{Link, soak_seed};
 use std::alloc::Global;
 use std::convert::AsStr;
@@ -58,7 +56,7 @@ pub fn program<S: AsStr, O: Outside, W: Write + Drop, E: Write>(
     output: &mut Stream<BufWriter<W>>,
     error: &mut E,
 ) -> u8
-    ensures { Ends result (found_in (O.octets outside.now) (λ seed. ⟦<Lcg64Xsh32 as Rng>⟧.stream (⟦<Lcg64Xsh32 as SeedableRng>⟧.of_seed (⟦<Lcg64Xsh32 as SeedableRng>⟧.seed_of_u64 seed)))) (map S.text words.now) (writer_contents W.contents output.old.writer) (W.contents (writer_inner output.new.writer)) }
+    ensures { Ends result (O.octets outside.now) (map S.text words.now) (writer_contents W.contents output.old.writer) (W.contents (writer_inner output.new.writer)) }
 {
     match run(alloc, words, outside, output) {
         Ok(()) => 0,
@@ -72,8 +70,8 @@ fn run<S: AsStr, O: Outside, W: Write + Drop>(
     outside: &O,
     output: &mut Stream<BufWriter<W>>,
 ) -> Result<(), ToolFault>
-    ensures ok { OnOk result (Succeeds (found_in (O.octets outside.now) (λ seed. ⟦<Lcg64Xsh32 as Rng>⟧.stream (⟦<Lcg64Xsh32 as SeedableRng>⟧.of_seed (⟦<Lcg64Xsh32 as SeedableRng>⟧.seed_of_u64 seed)))) (map S.text words.now) (writer_contents W.contents output.old.writer) (W.contents (writer_inner output.new.writer))) }
-    ensures err { IfErr result (λ fault. Fails fault (found_in (O.octets outside.now) (λ seed. ⟦<Lcg64Xsh32 as Rng>⟧.stream (⟦<Lcg64Xsh32 as SeedableRng>⟧.of_seed (⟦<Lcg64Xsh32 as SeedableRng>⟧.seed_of_u64 seed)))) (map S.text words.now) (writer_contents W.contents output.old.writer) (W.contents (writer_inner output.new.writer))) }
+    ensures ok { OnOk result (Succeeds (O.octets outside.now) (map S.text words.now) (writer_contents W.contents output.old.writer) (W.contents (writer_inner output.new.writer))) }
+    ensures err { IfErr result (λ fault. Fails fault (O.octets outside.now) (map S.text words.now) (writer_contents W.contents output.old.writer) (W.contents (writer_inner output.new.writer))) }
 {
     match choose(alloc, words) {
         Ok(choice) => does(alloc, &choice, outside, output),
@@ -90,8 +88,8 @@ fn does<O: Outside, W: Write + Drop>(
     output: &mut Stream<BufWriter<W>>,
 ) -> Result<(), ToolFault>
     requires { IsWithin choice.now }
-    ensures ok { OnOk result (Does (said_by choice.now) (found_in (O.octets outside.now) (λ seed. ⟦<Lcg64Xsh32 as Rng>⟧.stream (⟦<Lcg64Xsh32 as SeedableRng>⟧.of_seed (⟦<Lcg64Xsh32 as SeedableRng>⟧.seed_of_u64 seed)))) (writer_contents W.contents output.old.writer) (W.contents (writer_inner output.new.writer))) }
-    ensures err { IfErr result (λ fault. FailsIn fault (said_by choice.now) (found_in (O.octets outside.now) (λ seed. ⟦<Lcg64Xsh32 as Rng>⟧.stream (⟦<Lcg64Xsh32 as SeedableRng>⟧.of_seed (⟦<Lcg64Xsh32 as SeedableRng>⟧.seed_of_u64 seed)))) (writer_contents W.contents output.old.writer) (W.contents (writer_inner output.new.writer))) }
+    ensures ok { OnOk result (Does (said_by choice.now) (O.octets outside.now) (writer_contents W.contents output.old.writer) (W.contents (writer_inner output.new.writer))) }
+    ensures err { IfErr result (λ fault. FailsIn fault (said_by choice.now) (O.octets outside.now) (writer_contents W.contents output.old.writer) (W.contents (writer_inner output.new.writer))) }
 {
     match choice {
         Choice::Sim(path) => match outside.open(path) {
@@ -179,7 +177,7 @@ fn soak<W: Write + Drop>(
     output: &mut Stream<BufWriter<W>>,
 ) -> Result<(), ToolFault>
     requires { loss ≤ 1000 }
-    ensures ok { OnOk result (PrintedTally (⟦<Lcg64Xsh32 as Rng>⟧.stream (⟦<Lcg64Xsh32 as SeedableRng>⟧.of_seed (⟦<Lcg64Xsh32 as SeedableRng>⟧.seed_of_u64 seed))) packets loss (writer_contents W.contents output.old.writer) (W.contents (writer_inner output.new.writer))) }
+    ensures ok { OnOk result (PrintedTally seed packets loss (writer_contents W.contents output.old.writer) (W.contents (writer_inner output.new.writer))) }
     ensures err { IfErr result (λ fault. (fault ≡ ToolFault.Output) ⊎ (fault ≡ ToolFault.Memory)) }
 {
     let Ok(tally) = soak_seed::<RingHistory, RingWindow>(alloc, seed, packets, loss) else {

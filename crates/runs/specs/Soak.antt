@@ -2,7 +2,9 @@
 -- or lost by its word; after each block the world is settled, and the receiver plays.
 use Rattle.std.specs.Prelude.{◌≡◌, ℕ, ◌+◌, ◌-◌, ◌%◌, ◌<◌, nat_lt, min, List, [], ◌∷◌, length, count_by}
 use Rattle.rand_core.specs.Stream.{Stream, next_u32}
-use Rattle.rand_core.specs.Steps.{first_words}
+use Rattle.rand_core.specs.Steps.{first_words, steps_u32, stream_of}
+use Rattle.rand_core.specs.Pcg32Seed.{pcg32_seed}
+use Rattle.rand_pcg.specs.Pcg.{pcg32, pcg32_of_seed}
 use Rattle.world.specs.Config.{Config}
 use Rattle.world.specs.Round.{GoesOn, IsRound}
 use Rattle.world.specs.Schedule.{schedule, after_words}
@@ -55,3 +57,7 @@ pub record Draws (loss packets : ℕ) (stream : Stream) (tally : Tally) : Type 0
   pub end : Scene
   pub run : IsSoak soak_config loss 0 packets stream (new_scene soak_config) end
   pub counts : tally ≡ tally_of (lost loss (first_words next_u32 packets stream)) end.log
+
+-- the words that the generator Pcg32 gives from a seed on
+abbrev pub seeded : (seed : ℕ) → Stream
+seeded seed = stream_of (steps_u32 pcg32) (pcg32_of_seed (pcg32_seed 16 seed))

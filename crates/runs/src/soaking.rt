@@ -4,7 +4,7 @@ ghost use Rattle.rand_core.specs.Stream.{next_u32};
 ghost use Rattle.rand_core.specs.Steps.{first_words};
 ghost use Rattle.world.specs.Schedule.{after_words};
 ghost use Rattle.runs.specs.Scene.{scene_of};
-ghost use Rattle.runs.specs.Soak.{lost, IsBlock, Draws};
+ghost use Rattle.runs.specs.Soak.{lost, seeded, IsBlock, Draws};
 
 use crate::playing::play_all;
 use crate::session::soak_config;
@@ -91,7 +91,7 @@ pub fn soak_seed<H: History, W: Window>(
     loss: u32,
 ) -> Result<Tally, OutOfMemory>
     requires { loss ≤ 1000 }
-    ensures { IfOk result (λ tally. Draws loss packets (⟦<Lcg64Xsh32 as Rng>⟧.stream (⟦<Lcg64Xsh32 as SeedableRng>⟧.of_seed (⟦<Lcg64Xsh32 as SeedableRng>⟧.seed_of_u64 seed))) tally) }
+    ensures { IfOk result (λ tally. Draws loss packets (seeded seed) tally) }
 {
     let mut rng = Lcg64Xsh32::seed_from_u64(seed);
     soak::<Lcg64Xsh32, H, W>(alloc, &mut rng, packets, loss)
