@@ -1,43 +1,15 @@
--- `gozdrit_repair_source` hands what it was passed to `repair_source_lent`, and gives the memory back.
-use Rattle.gozdrit.proofs.Steps.{ℤ, Option, [], ◌∷◌, refl, proved, word, word-Good, heap_val, heap_Tells, id⊢, emp, ex, ex_i, sep, fact, fact_i, tables, sem, ‵, raw, ◌⊛◌, ◌$◌, ◌∵◌, !, qed, by, move, drop, use0, use1, split, join, fjoin, enter, of_opd, stop, fld, no_more, and_then, returns, alloc_all, pass_all, free_all, look_at, get, get_in, sets, lands_as, agg, sub, whole, rawptr_vals, rawptr_Tells, nothing, heard, calls_at, on_entry, Vals, triple_of, framed, gone_ptr, gone_heap, value_lies_at, Lent, ptr_good, value_made, code_val, a_value, answer2_had, drops, answered, alloc_made, moved_to, leave}
+-- `gozdrit_repair_source` hands a receiver and an SSRC to `repair_source_lent`.
+use Rattle.gozdrit.proofs.TwoValues.{hands_two}
 use Rattle.gozdrit.specs.Lent.{SourceFor}
 use Rattle.gozdrit.specs.contracts.answers.KnownSource.{the_row as source_row}
-use Rattle.gozdrit.specs.declared.answers.KnownSource.{KnownSource}
 use Rattle.gozdrit.specs.contracts.receiver_handle.ReceiverHandle.{the_row as receiver_row}
-use Rattle.gozdrit.specs.declared.receiver_handle.ReceiverHandle.{ReceiverHandle}
-use Rattle.gozdrit.specs.contracts.reading_exports.gozdrit_repair_source as f
 use Rattle.gozdrit.proofs.reading_exports.gozdrit_repair_source.Statement.{statement}
+use Rattle.gozdrit.proofs.reading_exports.gozdrit_repair_source.Symbol.{name}
 use Rattle.gozdrit.proofs.reading_exports.gozdrit_repair_source.Code as code
-use Rattle.gozdrit.specs.contracts.reading_exports.repair_source_lent as g
+use Rattle.gozdrit.proofs.reading_exports.repair_source_lent.Symbol as callee
 use Rattle.gozdrit.proofs.reading_exports.repair_source_lent.Met.{met}
 
 pub gozdrit_repair_source_spec : {M : Type 1} → statement M
 gozdrit_repair_source_spec 𝓤 𝓛 𝓜 𝓡 wired =
-    let c = f.clauses 𝓛 𝓜.mem 𝓡.returns in let 𝓣 = tables 𝓤 𝓛.H 𝓜 𝓡 𝓡.env in
-    proved 𝓛 f.ended (drops f.ended.signature.params f.ended.kept) c 𝓜 𝓡 (gone_heap 𝓛, (gone_ptr 𝓛, (gone_ptr 𝓛, tt)))
-    f.Key.name code.function (code.unfolded 𝓤 𝓛.H 𝓜 𝓡 wired)
-    (λ κs. ((λ _. heap_val ∷ []), (rawptr_vals, (rawptr_vals, tt))))
-    (λ κs. (heap_Tells, (rawptr_Tells, (rawptr_Tells, tt)))) (λ κs qs bounds a before are.
-    let p1 = a.1.0 in let p2 = a.1.1.0 in
-    let vss : Vals f.signature κs = (heap_val ∷ [], (rawptr_vals p1, (rawptr_vals p2, tt))) in
-    let d1 : (Lent receiver_row).Denot = record { at = p1; value = before.0 } in let d2 : (Lent source_row).Denot = record { at = p2; value = before.1 } in
-    let G = triple_of 𝓛 g.signature (g.spec 𝓛 𝓜.mem 𝓡.returns) in
-    let z : G.Ghost = ((κs, qs, bounds, (a.0, (d1, (d2, tt))), (heap_val ∷ [], (word p1 ∷ [], (word p2 ∷ [], tt)))), tt) in
-    let F = λ (r : ℤ) (after : Option ReceiverHandle × Option KnownSource). sep 𝓤 (sem 𝓛 (value_lies_at receiver_row p1 after.0)) (sep 𝓤 (sem 𝓛 (value_lies_at source_row p2 after.1)) (fact 𝓤 (SourceFor before.0 before.1 r after.0 after.1))) in
-    qed 𝓛 (raw (on_entry 𝓛 f.signature κs qs a vss) ∷ (‵ (value_lies_at receiver_row p1 before.0) ⊛ ‵ (value_lies_at source_row p2 before.1)) ∷ []) ∵ drop ! $ split ! $ move ! (1 ∷ []) $
-    -- what `repair_source_lent` takes, from the last parameter on
-    nothing ! $ move ! (1 ∷ []) $ value_made source_row ! d2 $ fjoin ! $ move ! (1 ∷ []) $ value_made receiver_row ! d1 $ fjoin ! $ alloc_made ! a.0 are.0 $ fjoin ! $
-    nothing ! $ join ! $ nothing ! $ move ! (1 ∷ 0 ∷ []) $ join ! $ use1 𝓛 (raw (G.pre z)) (id⊢ 𝓤 _) $
-    enter ! _ _ _ _ _ $ alloc_all ! (λ l. pass_all ! refl ((tt, ((tt, tt), tt)), (ptr_good p1, (ptr_good p2, tt))) $
-    sets ! (agg ! (and_then ! (get ! refl) (no_more !))) refl (word-Good [] p1) $ sets ! (agg ! (and_then ! (get ! refl) (no_more !))) refl (word-Good [] p2) $
-    calls_at ! (framed 𝓤 𝓛.H 𝓜 𝓣) G (met 𝓤 𝓛 𝓜 𝓡 (code.calls-gozdrit::reading_exports::repair_source_lent 𝓡.env wired)) z
-    (and_then ! (get ! refl) (and_then ! (get ! refl) (and_then ! (get ! refl) (no_more !)))) (λ v.
-    answered ! tt g.ended (g.clauses 𝓛 𝓜.mem 𝓡.returns) z v (λ r ws. answer2_had (a_value receiver_row) (a_value source_row) ! r v (λ is whole' good. move ! (3 ∷ []) $ heard ! _ (λ said.
-    -- [the code; what lies at the pointers]
-    lands_as ! is refl whole' $ sets ! (of_opd ! (get_in ! (fld ! refl (stop !)) (sub ! 0 refl (whole !)))) refl good $
-    returns ! (look_at ! 0 refl) $ free_all ! refl $
-    let after : Option ReceiverHandle × Option KnownSource = (r.1.value, r.2.value) in let fits = said.1 in
-    use0 𝓛 (raw (fact 𝓤 (SourceFor before.0 before.1 r.0 after.0 after.1))) (fact_i 𝓤 (SourceFor before.0 before.1 r.0 after.0 after.1) (emp 𝓤) fits) $
-    move ! (3 ∷ []) $ moved_to ! source_row r.2.value (said.0.1) $ join ! $ move ! (2 ∷ []) $ moved_to ! receiver_row r.1.value (said.0.0) $ join ! $
-    use1 𝓛 (raw (ex 𝓤 (F r.0))) (ex_i 𝓤 (F r.0) after) $
-    move ! (1 ∷ 0 ∷ []) $ by ! (leave 𝓛 f.ended c ((κs, qs, bounds, a, vss), before) (code_val r.0) r.0 (tt, (tt, (tt, tt))) (id⊢ 𝓤 (emp 𝓤)))))))))
+    hands_two 𝓤 𝓛 𝓜 𝓡 receiver_row source_row SourceFor _ _ _ name callee.name (code.unfolded 𝓤 𝓛.H 𝓜 𝓡 wired)
+    (met 𝓤 𝓛 𝓜 𝓡 (code.calls-gozdrit::reading_exports::repair_source_lent 𝓡.env wired))
