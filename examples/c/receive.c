@@ -16,7 +16,7 @@ enum {
     BURST = 64,     /* datagrams taken at once at most */
     ASK = 5,        /* milliseconds between two looks for what is due */
     GOODBYES = 40,  /* how often BYE is said, since some of them may be lost */
-    PATIENCE = 1000 /* milliseconds that a missing packet is waited for */
+    PATIENCE = 5000 /* milliseconds that a missing packet is waited for: long, since a busy machine may halt `send` */
 };
 
 typedef struct receiving {
