@@ -19,6 +19,4 @@ mod receiving;
 mod sender_exports;
 mod sender_handle;
 mod sending;
-#[cfg(test)]
-mod tests;
 mod unboxed;

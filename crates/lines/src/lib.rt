@@ -16,8 +16,6 @@ mod octets;
 mod pack_text;
 mod show_text;
 mod sink;
-#[cfg(test)]
-mod tests;
 mod word;
 mod words;
 

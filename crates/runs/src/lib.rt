@@ -11,8 +11,6 @@ mod session;
 mod soaking;
 mod stepping;
 mod tally;
-#[cfg(test)]
-mod tests;
 
 pub use driving::drive;
 pub use fault::{DriveFault, LinkFault};

@@ -1,10 +1,9 @@
 //! Drawn runs.
 ghost use Rattle.std.specs.Prelude.{◌≤◌};
 
-use crate::soaking::{soak, soak_seed};
-use crate::tally::Tally;
 use rand_core::SeedableRng;
 use rand_pcg::Lcg64Xsh32;
+use runs::{Tally, soak, soak_seed};
 use std::alloc::Global;
 use std::test::Fail;
 use stores::{ListHistory, ListWindow, RingHistory, RingWindow};

@@ -1,5 +1,5 @@
-use crate::push_packing;
 use fbwire::can_pack;
+use lines::push_packing;
 use places::Place;
 use std::alloc::Global;
 use std::test::Fail;

@@ -1,4 +1,4 @@
-use crate::push_datagram;
+use lines::push_datagram;
 use std::alloc::Global;
 use std::process::Abort;
 use std::test::Fail;

@@ -1,9 +1,8 @@
 //! A link in memory. It loses nothing, and keeps and tells its traffic.
 ghost use Rattle.std.specs.Prelude.{◌≡◌, ◌+◌, ◌-◌, ◌<◌, ◌^◌, ◌++◌, ◌∷◌, [], false, IfOk, OnErr};
 
-use crate::fault::LinkFault;
-use crate::link::{Link, Transfer};
 use rtpwire::Datagram;
+use runs::{Link, LinkFault, Transfer};
 use std::alloc::Global;
 use world::End;
 

@@ -1,4 +1,4 @@
-use crate::parse_config;
+use lines::parse_config;
 use rtpwire::Session;
 use std::test::Fail;
 use world::Config;

@@ -2,12 +2,9 @@
 ghost use Rattle.std.specs.Prelude.{◌≡◌, IfOk};
 ghost use Rattle.world.specs.World.{empty};
 
-use super::memory::MemoryLink;
-use crate::driving::drive;
-use crate::fault::DriveFault;
-use crate::link::{Link, Transfer};
-use crate::tally::Tally;
+use crate::memory::MemoryLink;
 use rtpwire::Session;
+use runs::{DriveFault, Link, Tally, Transfer, drive};
 use std::alloc::Global;
 use std::test::Fail;
 use stores::{History, ListHistory, ListWindow, RingHistory, RingWindow, Window};

@@ -1,6 +1,0 @@
-//! Rows of runs.
-
-mod drives;
-mod growths;
-mod memory;
-mod soaks;
