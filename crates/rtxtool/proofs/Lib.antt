@@ -1,12 +1,1 @@
 pub mod CommandLemmas
-pub mod LogLemmas
-pub mod LineLemmas
-pub mod BadLineLemmas
-pub mod ScriptLemmas
-pub mod KnownLemmas
-pub mod ProgressLemmas
-pub mod IsScriptLemmas
-pub mod ProgramLemmas
-pub mod ShowLemmas
-pub mod DropLemmas
-pub mod LoopbackLemmas

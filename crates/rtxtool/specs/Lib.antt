@@ -1,15 +1,3 @@
-pub mod Lines
-pub mod Script
-pub mod IsScript
-pub mod Found
-pub mod Reading
-pub mod Sim
 pub mod Status
 pub mod CommandLine
-pub mod Show
-pub mod Showing
-pub mod Pack
-pub mod TallyText
-pub mod DropList
-pub mod Loopback
 pub mod Program

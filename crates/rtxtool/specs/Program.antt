@@ -9,25 +9,25 @@ use Rattle.runs.specs.declared.link.Transfer.{Transfer}
 use Rattle.runs.specs.declared.tally.Tally.{Tally}
 use Rattle.runs.specs.Soak.{Draws, seeded}
 use Rattle.rtxtool.specs.declared.command_line.ChooseFault.TheVariants.{Line, Value}
-use Rattle.rtxtool.specs.declared.drop_list.ListFault.TheVariants.{BadList}
-use Rattle.rtxtool.specs.declared.fault.SimFault.{SimFault}
-use Rattle.rtxtool.specs.declared.fault.SimFault.TheVariants.{BadLine}
-use Rattle.rtxtool.specs.declared.pack.PackFault.{PackFault}
-use Rattle.rtxtool.specs.declared.pack.PackFault.TheVariants.{NotRising}
-use Rattle.rtxtool.specs.declared.show.ShowFault.{ShowFault}
-use Rattle.rtxtool.specs.declared.show.ShowFault.TheVariants.{Frame}
+use Rattle.commands.specs.declared.drops.ListFault.TheVariants.{BadList}
+use Rattle.commands.specs.declared.fault.SimFault.{SimFault}
+use Rattle.commands.specs.declared.fault.SimFault.TheVariants.{BadLine}
+use Rattle.commands.specs.declared.pack.PackFault.{PackFault}
+use Rattle.commands.specs.declared.pack.PackFault.TheVariants.{NotRising}
+use Rattle.commands.specs.declared.show.ShowFault.{ShowFault}
+use Rattle.commands.specs.declared.show.ShowFault.TheVariants.{Frame}
 use Rattle.rtxtool.specs.declared.tell.ToolFault.{ToolFault}
 use Rattle.rtxtool.specs.declared.tell.ToolFault.TheVariants.{Choose, Sim, Show, Pack}
 use Rattle.rtxtool.specs.declared.tell.ToolFault.TheVariants as tool_fault
 use Rattle.rtxtool.specs.CommandLine as asks
 use Rattle.rtxtool.specs.CommandLine.{Asked, Sims, Shows, Packs, Soaks, asked, tool}
-use Rattle.rtxtool.specs.DropList.{drops_of}
-use Rattle.rtxtool.specs.Loopback.{Loops}
-use Rattle.rtxtool.specs.Pack.{WroteNone, WrotePacking}
-use Rattle.rtxtool.specs.Script.{bad_line}
-use Rattle.rtxtool.specs.Show.{IsCut, IsShown, IsTooLong}
-use Rattle.rtxtool.specs.Sim.{IsDone, WroteBefore}
-use Rattle.rtxtool.specs.TallyText.{tally_line}
+use Rattle.commands.specs.DropList.{drops_of}
+use Rattle.commands.specs.Loopback.{Loops}
+use Rattle.commands.specs.Pack.{WroteNone, WrotePacking}
+use Rattle.commands.specs.Script.{bad_line}
+use Rattle.commands.specs.Show.{IsCut, IsShown, IsTooLong}
+use Rattle.commands.specs.Sim.{IsDone, WroteBefore}
+use Rattle.commands.specs.TallyText.{tally_line}
 
 -- ---- what each command prints
 

@@ -2,10 +2,10 @@
 use Rattle.std.specs.Prelude.{ℕ}
 use Rattle.rtxtool.specs.declared.command_line.ChooseFault.TheVariants.{Line, Value, OutOfMemory as NoMemory}
 use Rattle.runs.specs.declared.fault.DriveFault.TheVariants as driving
-use Rattle.rtxtool.specs.declared.drop_list.ListFault.TheVariants as listing
-use Rattle.rtxtool.specs.declared.fault.SimFault.TheVariants.{BadLine, Read, Write, OutOfMemory}
-use Rattle.rtxtool.specs.declared.pack.PackFault.TheVariants as packing
-use Rattle.rtxtool.specs.declared.show.ShowFault.TheVariants as showing
+use Rattle.commands.specs.declared.drops.ListFault.TheVariants as listing
+use Rattle.commands.specs.declared.fault.SimFault.TheVariants.{BadLine, Read, Write, OutOfMemory}
+use Rattle.commands.specs.declared.pack.PackFault.TheVariants as packing
+use Rattle.commands.specs.declared.show.ShowFault.TheVariants as showing
 use Rattle.rtxtool.specs.declared.tell.ToolFault.{ToolFault}
 use Rattle.rtxtool.specs.declared.tell.ToolFault.TheVariants.{Input, Output, Choose, Sim, Show, Pack, List, Link, Drive, Memory}
 

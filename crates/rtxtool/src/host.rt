@@ -1,6 +1,6 @@
 //! The files of the machine, its standard input, and its sockets.
 use crate::program::Outside;
-use crate::udp_link::UdpLink;
+use commands::UdpLink;
 use std::fs::File;
 use std::io::{Read, Stdin, Write};
 use std::{fs, io};

@@ -1,20 +1,7 @@
-//! Laws on scripts and command lines. These functions compute nothing: their contracts are the laws.
-ghost use Rattle.std.specs.Prelude.{◌≡◌, ◌≢◌, ℕ, List, [], ◌∷◌, Some, None, codes, true};
+//! Laws on command lines. These functions compute nothing: their contracts are the laws.
+ghost use Rattle.std.specs.Prelude.{◌≡◌, ◌≢◌, ℕ, List, [], ◌∷◌, Some, codes, true};
 ghost use Rattle.clap.specs.Words.{takes};
-ghost use Rattle.world.specs.declared.event.Event.{Event};
-ghost use Rattle.world.specs.Config.{Config};
 ghost use Rattle.rtxtool.specs.CommandLine.{Shows, Sims, asked, tool};
-ghost use Rattle.rtxtool.specs.IsScript.{IsScript};
-ghost use Rattle.rtxtool.specs.Script.{script_config, script_events, bad_line};
-
-/// A text is a script where it has no bad line, and of no other configuration and events than those that are
-/// read off it.
-pub fn scripts_are_read()
-    ensures no_fault { (text : List ℕ) (c : Config) (events : List Event) → IsScript text c events → bad_line text ≡ None }
-    ensures config { (text : List ℕ) (c : Config) (events : List Event) → IsScript text c events → script_config text ≡ Some c }
-    ensures events { (text : List ℕ) (c : Config) (events : List Event) → IsScript text c events → script_events text ≡ events }
-    ensures script { (text : List ℕ) (c : Config) → bad_line text ≡ None → script_config text ≡ Some c → IsScript text c (script_events text) }
-{}
 
 /// The words `rtxtool sim FILE` and `rtxtool show FILE` are taken and name that FILE, where it does not begin with a hyphen
 /// (45); so are the words `rtxtool sim -` and `rtxtool show -`.

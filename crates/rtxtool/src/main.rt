@@ -2,27 +2,15 @@
 #![tactic(auto)]
 
 mod command_line;
-mod drop_list;
-mod fault;
 mod help;
 mod host;
 mod laws;
-mod loopback;
 mod options;
-mod output;
-mod pack;
-mod pending;
 mod program;
-mod show;
-mod sim;
-mod tally_text;
 mod tell;
-#[cfg(test)]
-mod tests;
-mod udp_link;
 
+use commands::Stream;
 use host::Host;
-use output::Stream;
 use program::program;
 use std::env;
 use std::io::{BufWriter, ErrorKind};

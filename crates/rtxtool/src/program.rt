@@ -5,19 +5,15 @@ ghost use Rattle.std.specs.Io.KnownBytes.{Keeps};
 ghost use Rattle.clap.specs.Words.{kind_of};
 ghost use Rattle.clap.specs.declared.error.ErrorKind.TheVariants.{DisplayHelp, DisplayVersion};
 ghost use Rattle.rtxtool.specs.CommandLine.{IsWithin, said_by};
-ghost use Rattle.rtxtool.specs.Pack.{WrotePacking};
+ghost use Rattle.commands.specs.Pack.{WrotePacking};
 ghost use Rattle.rtxtool.specs.Program.{Does, Ends, Fails, FailsIn, FailsToLoop, PrintedAll, PrintedBefore, PrintedLoop, PrintedTally, RefusesPacking, RefusesTrace, ShowedAll, Succeeds};
 
 use crate::command_line::{Choice, ChooseFault, choose};
-use crate::drop_list::drop_list;
-use crate::fault::SimFault;
-use crate::loopback::loopback;
-use crate::output::{Stream, WriteFailed};
-use crate::pack::{PackFault, pack_text};
-use crate::show::{ShowFault, show_trace};
-use crate::sim::sim_text;
-use crate::tally_text::write_tally;
 use crate::tell::{ToolFault, tell};
+use commands::{
+    PackFault, ShowFault, SimFault, Stream, WriteFailed, drop_list, loopback, pack_text,
+    show_trace, sim_text, write_tally,
+};
 use places::Place;
 use runs::{Link, soak_seed};
 use std::alloc::Global;

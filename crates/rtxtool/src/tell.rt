@@ -3,10 +3,7 @@ ghost use Rattle.std.specs.Prelude.{◌≡◌};
 ghost use Rattle.rtxtool.specs.Status.{status_of};
 
 use crate::command_line::ChooseFault;
-use crate::drop_list::ListFault;
-use crate::fault::SimFault;
-use crate::pack::PackFault;
-use crate::show::ShowFault;
+use commands::{ListFault, PackFault, ShowFault, SimFault};
 use runs::DriveFault;
 use std::io::Write;
 use thiserror::Error;

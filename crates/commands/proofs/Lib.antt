@@ -1,0 +1,10 @@
+pub mod LogLemmas
+pub mod LineLemmas
+pub mod BadLineLemmas
+pub mod ScriptLemmas
+pub mod KnownLemmas
+pub mod ProgressLemmas
+pub mod IsScriptLemmas
+pub mod ShowLemmas
+pub mod DropLemmas
+pub mod LoopbackLemmas

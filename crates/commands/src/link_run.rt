@@ -1,0 +1,43 @@
+//! A run over a link, from a new world to its tally.
+ghost use Rattle.std.specs.Prelude.{◌≡◌, ◌+◌, ◌-◌, ◌^◌, ◌<◌, All, IfOk, OnErr};
+ghost use Rattle.std.specs.List.Sorted.{IsStrictlyIncreasing};
+ghost use Rattle.runs.specs.Blame.{blame};
+ghost use Rattle.commands.specs.Loopback.{BreaksOff, Loops, loopback_config};
+
+use rtpwire::Session;
+use runs::{DriveFault, Link, Tally, drive};
+use std::alloc::Global;
+use stores::{RingHistory, RingWindow};
+use world::{Config, World};
+
+/// The configuration of the run.
+fn loopback_config() -> Config
+    ensures { result ≡ loopback_config }
+{
+    let session = Session::new(0x1111_1111, 96, 0x2222_2222, 97, 0x3333_3333).unwrap();
+    Config::new(session, 65000, 0, 1024, 1024, 1_000_000, 1, 3, 3).unwrap()
+}
+
+/// Sends so many packets over a link, mends the run, and answers what it came to; see [`drive`]. The link's count of
+/// failures must be below 2^64 - 1, and `drop` rising, each below `packets`.
+///
+/// `Link`: the link failed. `OutOfMemory`: the allocator refused a growth.
+pub fn loopback<L: Link>(
+    alloc: Global,
+    link: &mut L,
+    packets: u32,
+    drop: &[u32],
+) -> Result<Tally, DriveFault>
+    requires working { L.failed link.old < 2 ^ 64 - 1 }
+    requires rising { IsStrictlyIncreasing drop.now }
+    requires below { All (λ number. number < packets) drop.now }
+    // The tally is that of the log of such a run, done to its end over this link.
+    ensures counts { IfOk result (Loops packets drop.now (L.traffic link.old) (L.traffic link.new)) }
+    // A beginning of such a run was done over it.
+    ensures err { OnErr result (BreaksOff packets drop.now (L.traffic link.old) (L.traffic link.new)) }
+    // The link is blamed exactly where it failed.
+    ensures blame { L.failed link.new ≡ L.failed link.old + blame result }
+{
+    let mut world = World::<RingHistory, RingWindow>::new(alloc, &loopback_config())?;
+    drive(link, &mut world, packets, drop)
+}
