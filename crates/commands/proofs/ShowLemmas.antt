@@ -65,6 +65,7 @@ one_begun start old new read rest piece d line count taken law is whole shows wr
     record {
       datagrams = so.datagrams ++ d ∷ [];
       after = drop taken piece;
+      each = splits.each;
       frames = parts ∙ ap (λ l. l ++ drop taken piece) (splits.whole ∙ append-nil _);
       wrote = record {
         text = so.wrote.text ++ line;
@@ -152,7 +153,7 @@ stopped_in (Frame FrameTooLong number) trace left read start new is stops =
     record { datagrams = stops.datagrams; breaks = rw is (breaks_on stops.datagrams read left stops.breaks); numbered = stops.numbered; wrote = stops.wrote }
 stopped_in Read trace left read start new is stops = absurd stops
 stopped_in Write trace left read start new is stops =
-    record { read = read; whole = is; datagrams = stops.datagrams; after = stops.after; frames = stops.frames; wrote = stops.wrote }
+    record { read = read; whole = is; datagrams = stops.datagrams; after = stops.after; each = stops.each; frames = stops.frames; wrote = stops.wrote }
 
 -- a piece was read, and not shown to its end
 pub read_in_vain : (fault : ShowFault) (remaining middle left start old new : Option (List ℕ)) (rest piece : List ℕ) (count : ℕ) → Consumes middle left piece → Stops fault old new rest count piece →

@@ -30,4 +30,4 @@ pub record WroteNone (places : List ℕ) (old new : Option (List ℕ)) : Type 0 
 
 abbrev pub MayNotPack : List ℕ → (old new : Option (List ℕ)) → PackFault → Type 0
 MayNotPack places old new NotRising = WroteNone places old new
-MayNotPack places old new Write = WroteFirst places old new
+MayNotPack places old new Write = IsStrictlyIncreasing places × IsNarrow places × WroteFirst places old new

@@ -1,9 +1,9 @@
 -- What showing a trace writes.
-use Rattle.std.specs.Prelude.{◌≡◌, ◌≢◌, ℕ, ◌+◌, ◌-◌, ◌^◌, min, List, [], ◌++◌, length, Option}
+use Rattle.std.specs.Prelude.{◌≡◌, ◌≢◌, ℕ, ◌+◌, ◌-◌, ◌^◌, min, List, [], ◌++◌, length, Option, All}
 use Rattle.std.specs.List.{flat_map}
 use Rattle.std.specs.Io.KnownBytes.{Appends}
 use Rattle.rtpwire.specs.declared.fault.FrameFault.TheVariants.{Truncated, FrameTooLong}
-use Rattle.rtpwire.specs.Framing.{Frames, Splits, Breaks, frame}
+use Rattle.rtpwire.specs.Framing.{Frames, IsDatagram, Splits, Breaks, frame}
 use Rattle.lines.specs.ShowText.{ShowsAll}
 use Rattle.lines.specs.Sink.{AppendsFront}
 use Rattle.commands.specs.declared.show.ShowFault.{ShowFault}
@@ -64,6 +64,7 @@ pub record WroteSomeRead (trace left : List ℕ) (old new : Option (List ℕ)) :
   pub whole : trace ≡ read ++ left
   pub datagrams : List (List ℕ)
   pub after : List ℕ
+  pub each : All IsDatagram datagrams
   pub frames : read ≡ flat_map frame datagrams ++ after
   pub wrote : WroteFront datagrams old new
 

@@ -1,8 +1,8 @@
 -- What a part of the showing of a trace has done so far.
-use Rattle.std.specs.Prelude.{◌≡◌, ℕ, List, ◌++◌, length, Option}
+use Rattle.std.specs.Prelude.{◌≡◌, ℕ, List, ◌++◌, length, Option, All}
 use Rattle.std.specs.List.{flat_map}
 use Rattle.rtpwire.specs.declared.fault.FrameFault.TheVariants.{Truncated, FrameTooLong}
-use Rattle.rtpwire.specs.Framing.{Splits, frame}
+use Rattle.rtpwire.specs.Framing.{IsDatagram, Splits, frame}
 use Rattle.commands.specs.declared.show.ShowFault.{ShowFault}
 use Rattle.commands.specs.declared.show.ShowFault.TheVariants.{Frame, Read, Write}
 use Rattle.commands.specs.Reading.{IfBoth}
@@ -29,6 +29,7 @@ GoesOn old new rest rest' count count' piece =
 pub record WroteSome (read : List ℕ) (old new : Option (List ℕ)) : Type 0 where
   pub datagrams : List (List ℕ)
   pub after : List ℕ
+  pub each : All IsDatagram datagrams
   pub frames : read ≡ flat_map frame datagrams ++ after
   pub wrote : WroteFront datagrams old new
 
