@@ -8,3 +8,4 @@ pub mod Seen
 pub mod Written
 pub mod Repairs
 pub mod Frames
+pub mod InOrder

@@ -30,6 +30,10 @@ pub one_repair : (r s : Repair) (p : RtpPacket) → IsRepair r p → IsRepair s 
 one_repair r s p a b =
     sym (repair_in-repair_packet r a.original) ∙ ap repair_in (sym a.sent ∙ b.sent) ∙ repair_in-repair_packet s b.original
 
+-- its number is the one that the payload begins with
+pub number_in : (r : Repair) (p : RtpPacket) → IsRepair r p → big_number 2 p.payload ≡ r.original
+number_in r p is = ap (λ (x : RtpPacket). big_number 2 x.payload) is.sent ∙ number-again 2 r.original r.packet.payload is.original
+
 -- the content that a packet carries
 content_in : RtpPacket → Content
 content_in p =

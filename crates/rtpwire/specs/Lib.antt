@@ -6,3 +6,5 @@ pub mod Retransmission
 pub mod Framing
 pub mod Session
 pub mod Fault
+pub mod FirstOf
+pub mod RtpOrder

@@ -1,7 +1,7 @@
 -- A retransmission as octets (RFC 4588, section 4): an RTP packet whose payload is the original packet's
 -- sequence number, in two octets, and then the original payload.
 use Rattle.std.specs.Prelude.{◌≡◌, ℕ, ◌^◌, ◌<◌, List, ◌++◌}
-use Rattle.byteorder.specs.Endian.{big_bytes}
+use Rattle.byteorder.specs.Endian.{big_bytes, big_number}
 use Rattle.rtpwire.specs.declared.content.Content.{Content}
 use Rattle.rtpwire.specs.Rtp.{RtpPacket, RtpSpells}
 use Rattle.rtpwire.specs.Content.{packet_of}
@@ -29,6 +29,10 @@ repair_of content original sequence payload_type ssrc =
 pub record RepairSpells (content : Content) (original sequence payload_type ssrc : ℕ) (octets : List ℕ) : Type 0 where
   pub number : original < 2 ^ 16
   pub spelled : RtpSpells (repair_packet (repair_of content original sequence payload_type ssrc)) octets
+
+-- the number of the original that a retransmission's payload begins with: its first two octets
+abbrev pub original_in : List ℕ → ℕ
+original_in payload = big_number 2 payload
 
 -- a packet as a retransmission with this number of an original and this original payload
 abbrev pub repair_with : RtpPacket → ℕ → List ℕ → Repair

@@ -1,13 +1,17 @@
 //! Laws on what octets spell. These functions compute nothing: their contracts are the laws, for callers
 //! of the readers and writers.
-ghost use Rattle.std.specs.Prelude.{◌≡◌, ◌↔◌, ◌<◌, ◌≤◌, ◌^◌, ℕ, List, [], ◌∷◌, ◌++◌, length, Some, None};
+ghost use Rattle.std.specs.Prelude.{◌≡◌, ◌↔◌, ◌<◌, ◌≤◌, ◌+◌, ◌^◌, ℕ, List, [], ◌∷◌, ◌++◌, length, Some, None};
 ghost use Rattle.rtpwire.specs.declared.content.Content.{Content};
 ghost use Rattle.rtpwire.specs.declared.fault.RtpFault.{RtpFault};
 ghost use Rattle.rtpwire.specs.Rtp.{RtpPacket, RtpSpells, IsPacket, AreOctets, unpadded, written};
 ghost use Rattle.rtpwire.specs.RtpChecks.{rtp_fault};
 ghost use Rattle.rtpwire.specs.RtpReading.{packet_in};
+ghost use Rattle.rtpwire.specs.RtpOrder.{rtp_order};
+ghost use Rattle.rtpwire.specs.FirstOf.{FirstOf};
+ghost use Rattle.rtpwire.specs.Fault.{rtp_number};
+ghost use Rattle.std.specs.Option.{option_map};
 ghost use Rattle.rtpwire.specs.Content.{IsContent, IsTooLong, packet_of};
-ghost use Rattle.rtpwire.specs.Retransmission.{Repair, IsRepair, RepairSpells, repair_of, repair_packet};
+ghost use Rattle.rtpwire.specs.Retransmission.{Repair, IsRepair, RepairSpells, original_in, repair_of, repair_packet};
 ghost use Rattle.rtpwire.specs.Framing.{IsDatagram, frame, Frames, IsRest, BeginsTooLong, Splits, Breaks};
 
 use crate::content::Content;
@@ -30,6 +34,12 @@ pub fn spelling_is_determined()
     // Octets that pass each check spell the packet whose fields stand in them, and this packet is all that they spell.
     ensures seen { (octets : List ℕ) → AreOctets octets → rtp_fault octets ≡ None → RtpSpells (packet_in octets) octets }
     ensures only_seen { (p : RtpPacket) (octets : List ℕ) → RtpSpells p octets → packet_in octets ≡ p }
+{}
+
+/// The order in which octets are checked to be a packet.
+pub fn checks_are_in_order()
+    // The fault that decides has the number of the first check whose condition holds, and there is none where none does.
+    ensures { (octets : List ℕ) → FirstOf (rtp_order octets) (option_map rtp_number (rtp_fault octets)) }
 {}
 
 /// What contents and the packets that carry them say of each other.
@@ -84,6 +94,9 @@ pub fn repair_is_determined()
         ↔ IsRepair (repair_of content original sequence payload_type ssrc) packet) }
     // The packet of a retransmission has a payload: the two octets of the original's number at least.
     ensures long { (repair : Repair) (packet : RtpPacket) → IsRepair repair packet → 2 ≤ length packet.payload }
+    // This number stands in them, and the original payload behind them.
+    ensures number { (repair : Repair) (packet : RtpPacket) → IsRepair repair packet → original_in packet.payload ≡ repair.original }
+    ensures rest { (repair : Repair) (packet : RtpPacket) → IsRepair repair packet → length packet.payload ≡ 2 + length repair.packet.payload }
 {}
 
 /// In whatever pieces a stream comes, its datagrams are the same.

@@ -18,8 +18,8 @@ pub use content::{Content, Datagram, Extension};
 pub use fault::{ConfigFault, ContentFault, FrameFault, RtpFault};
 pub use framing::{Deframer, write_frame};
 pub use laws::{
-    content_is_bounded, content_is_determined, framing_is_determined, repair_is_determined,
-    spelling_is_determined,
+    checks_are_in_order, content_is_bounded, content_is_determined, framing_is_determined,
+    repair_is_determined, spelling_is_determined,
 };
 pub use limits::{MAX_DATAGRAM, MAX_FRAME, MAX_HEADER, MAX_PAYLOAD, MAX_SOURCES, MAX_WORDS};
 pub use octets::{push_octets, push_u16, push_u32, u16_at, u32_at};

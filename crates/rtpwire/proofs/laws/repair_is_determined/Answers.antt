@@ -1,7 +1,7 @@
 use Rattle.std.proofs.Common.{◌≡◌, suc, length, ap, subst, arith}
 use Rattle.rtpwire.specs.Rtp.{RtpPacket, RtpSpells}
 use Rattle.rtpwire.specs.Retransmission.{Repair}
-use Rattle.rtpwire.proofs.Repairs.{one_repair, one_spelled, same_content, repair-read}
+use Rattle.rtpwire.proofs.Repairs.{one_repair, one_spelled, same_content, repair-read, number_in}
 use Rattle.rtpwire.proofs.laws.repair_is_determined.Goals as goal
 
 pub returns-clause-one : goal.returns-clause-one
@@ -25,3 +25,9 @@ returns-clause-read c = λ content original sequence payload_type ssrc octets pa
 
 pub returns-clause-long : goal.returns-clause-long
 returns-clause-long c = λ repair packet is. let size : length packet.payload ≡ suc (suc (length repair.packet.payload)) = ap (λ (p : RtpPacket). length p.payload) is.sent in omega (arith, size)
+
+pub returns-clause-number : goal.returns-clause-number
+returns-clause-number c = number_in
+
+pub returns-clause-rest : goal.returns-clause-rest
+returns-clause-rest c = λ repair packet is. let size : length packet.payload ≡ suc (suc (length repair.packet.payload)) = ap (λ (p : RtpPacket). length p.payload) is.sent in omega (arith, size)
