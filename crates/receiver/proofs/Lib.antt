@@ -8,3 +8,4 @@ pub mod SameAsks
 pub mod Found
 pub mod Numbered
 pub mod Limits
+pub mod InOrder

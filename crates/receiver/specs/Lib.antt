@@ -7,3 +7,4 @@ pub mod Config
 pub mod Receiver
 pub mod Fault
 pub mod Finding
+pub mod Order

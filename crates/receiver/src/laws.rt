@@ -1,9 +1,12 @@
 //! Laws on what a receiver answers. These functions compute nothing: their contracts are the laws, for callers that
 //! speak of places and contents alone.
 ghost use Rattle.std.specs.Prelude.{◌≡◌, ℕ, List, Option, Result, Ok};
+ghost use Rattle.std.specs.Option.{option_map};
+ghost use Rattle.std.specs.Result.{result_err};
 ghost use Rattle.arrayvec.specs.ArrayVec.{ArrayVec};
 ghost use Rattle.rtpwire.specs.declared.content.Content.{Content};
 ghost use Rattle.rtpwire.specs.Rtp.{RtpSpells};
+ghost use Rattle.rtpwire.specs.FirstOf.{FirstOf};
 ghost use Rattle.rtpwire.specs.Content.{IsTooLong, packet_of};
 ghost use Rattle.rtpwire.specs.Retransmission.{RepairSpells, repair_packet, repair_of};
 ghost use Rattle.receiver.specs.declared.answer.Taken.{Taken};
@@ -13,12 +16,16 @@ ghost use Rattle.receiver.specs.Config.{Config};
 ghost use Rattle.receiver.specs.Window.{Window, PlaysAny};
 ghost use Rattle.receiver.specs.Asks.{AsksAny};
 ghost use Rattle.receiver.specs.Streams.{stream_of, source_of};
+ghost use Rattle.receiver.specs.Fault.{receive_number};
+ghost use Rattle.receiver.specs.Order.{hearing_order};
 ghost use Rattle.receiver.specs.Heard.{Hears, TakesNumber, TakesOrRefuses};
 
 use crate::stream::Stream;
 use fbwire::packing_is_determined;
 use places::near_is_determined;
-use rtpwire::{content_is_determined, repair_is_determined, spelling_is_determined};
+use rtpwire::{
+    checks_are_in_order, content_is_determined, repair_is_determined, spelling_is_determined,
+};
 
 /// What a receiver answers to a datagram.
 pub fn hearing_is_determined()
@@ -49,6 +56,17 @@ pub fn hearing_is_determined()
     content_is_determined();
     repair_is_determined();
     near_is_determined();
+}
+
+/// The order in which a receiver checks a datagram.
+pub fn hearing_is_in_order()
+    // A refusal has the number of the first check whose condition holds, and what is taken passes all of them.
+    ensures { (room : ℕ) (c : Config) (old : Option Window) (octets : List ℕ) (now : ℕ) (answer : Result Taken ReceiveFault) (new : Option Window)
+        → Hears room c old octets now answer new → FirstOf (hearing_order c old octets) (option_map receive_number (result_err answer)) }
+{
+    checks_are_in_order();
+    spelling_is_determined();
+    repair_is_determined();
 }
 
 /// What a receiver plays: the moment and the receiver before determine it, and the receiver after.

@@ -11,6 +11,8 @@ mod stream;
 pub use answer::{Played, Taken};
 pub use config::ReceiverConfig;
 pub use fault::ReceiveFault;
-pub use laws::{asking_is_determined, hearing_is_determined, playing_is_determined};
+pub use laws::{
+    asking_is_determined, hearing_is_determined, hearing_is_in_order, playing_is_determined,
+};
 pub use receiver::Receiver;
 pub use stream::Stream;

@@ -1,6 +1,9 @@
 //! The receiving end.
 ghost use Rattle.std.specs.Prelude.{◌≡◌, ◌↔◌, ◌^◌, ◌<◌, ℕ, Option, None, IsNone, IsSome, IsTrue, OnOk, OnErr};
+ghost use Rattle.std.specs.Option.{option_map};
+ghost use Rattle.std.specs.Result.{result_err};
 ghost use Rattle.std.specs.List.Sorted.{IsStrictlyIncreasing};
+ghost use Rattle.rtpwire.specs.FirstOf.{FirstOf};
 ghost use Rattle.stores.specs.Span.{IsSpan};
 ghost use Rattle.stores.specs.ByPlace.{slot_at};
 ghost use Rattle.receiver.specs.Asks.{AsksAny, CountsMissing, KeepsLimit};
@@ -8,12 +11,15 @@ ghost use Rattle.receiver.specs.Counted.{CanAllBeAsked, CountsAsks};
 ghost use Rattle.receiver.specs.Window.{window_of, missed_in, PlaysAny};
 ghost use Rattle.receiver.specs.Streams.{source_of};
 ghost use Rattle.receiver.specs.Heard.{Hears, WasAsked};
+ghost use Rattle.receiver.specs.Fault.{receive_number};
+ghost use Rattle.receiver.specs.Order.{hearing_order};
 ghost use Rattle.receiver.specs.Finding.{FindsPlace};
 ghost use Rattle.receiver.specs.Receiver.{state_of, IsUnlearnt};
 
 use crate::answer::{Played, Taken};
 use crate::config::ReceiverConfig;
 use crate::fault::ReceiveFault;
+use crate::laws::hearing_is_in_order;
 use crate::stream::{Stream, carried_in, known_source, stream_of};
 use fbwire::{pack, write_nack};
 use places::{Place, near};
@@ -83,11 +89,13 @@ impl<W: Window> Receiver<W> {
     /// - `Put` (35, 36): the place lies below the next one to play, or is held already.
     pub fn on_media(&mut self, octets: &[u8], now: u64) -> Result<Taken, ReceiveFault>
         ensures hears { Hears self.old.span.capacity self.old.config (state_of self.old) octets.now now result (state_of self.new) }
+        ensures order { FirstOf (hearing_order self.old.config (state_of self.old) octets.now) (option_map receive_number (result_err result)) }
         ensures err { OnErr result (self.new ≡ self.old) }
         ensures config { self.new.config ≡ self.old.config }
         ensures capacity { self.new.span.capacity ≡ self.old.span.capacity }
         ensures is_span { IsSpan self.new.span }
     {
+        hearing_is_in_order();
         hear(
             &mut self.window,
             &mut self.learnt,

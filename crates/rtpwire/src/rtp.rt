@@ -2,8 +2,12 @@
 ghost use Rattle.std.specs.Prelude.{◌≡◌, ℕ, ◌+◌, ◌-◌, ◌*◌, ◌/◌, ◌%◌, ◌<◌, ◌≤◌, ◌==◌, List, length, slice_get, slice_index, drop, ◌⊎◌, IfSome, IfOk, IfErr, MatchResult};
 ghost use Rattle.byteorder.specs.Endian.{big_number};
 ghost use Rattle.std.specs.Option.{option_map};
+ghost use Rattle.std.specs.Result.{result_err};
 ghost use Rattle.rtpwire.specs.Rtp.{RtpPacket, RtpSpells, IsExtension, word_octets};
 ghost use Rattle.rtpwire.specs.RtpChecks.{rtp_fault};
+ghost use Rattle.rtpwire.specs.Fault.{rtp_number};
+ghost use Rattle.rtpwire.specs.FirstOf.{FirstOf};
+ghost use Rattle.rtpwire.specs.RtpOrder.{rtp_order};
 ghost use Rattle.rtpwire.specs.RtpReading.{packet_in};
 
 use crate::fault::RtpFault;
@@ -42,6 +46,7 @@ impl<'a> RtpView<'a> {
         ensures only { (packet : RtpPacket) → RtpSpells packet octets.now → result ≡ Ok packet }
         // Each refusal is the first check that fails.
         ensures fault { IfErr result (λ fault. rtp_fault octets.now ≡ Some fault) }
+        ensures order { FirstOf (rtp_order octets.now) (option_map rtp_number (result_err result)) }
     {
         checked(octets)
     }
