@@ -12,3 +12,4 @@ pub mod OnePacking
 pub mod WholePackets
 pub mod InOrder
 pub mod Walks
+pub mod CheckOrder

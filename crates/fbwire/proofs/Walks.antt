@@ -299,7 +299,7 @@ concat-push [] p = append-nil p
 concat-push (q ∷ packets) p = ap (λ t. q ++ t) (concat-push packets p) ∙ sym (append_assoc q (concat packets) p)
 
 -- one packet more
-walked_one : (octets rest : List ℕ) (has_nack has_feedback : Bool) → AreOctets rest → Walked octets rest has_nack has_feedback → packet_fault rest ≡ None
+pub walked_one : (octets rest : List ℕ) (has_nack has_feedback : Bool) → AreOctets rest → Walked octets rest has_nack has_feedback → packet_fault rest ≡ None
     → Walked octets (drop (packet_length rest) rest) (has_nack || is_nack (take (packet_length rest) rest)) (has_feedback || is_feedback (take (packet_length rest) rest))
 walked_one octets rest has_nack has_feedback fits w passes =
     let p = take (packet_length rest) rest in

@@ -9,3 +9,4 @@ pub mod Compound
 pub mod CompoundChecks
 pub mod CompoundReading
 pub mod CompoundWalk
+pub mod Order

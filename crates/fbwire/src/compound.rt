@@ -1,10 +1,16 @@
 //! Reading a compound datagram.
-ghost use Rattle.std.specs.Prelude.{◌≡◌, ◌↔◌, ◌⊎◌, ◌<◌, ℕ, Contains, List, [], ◌∷◌, None, length, IfOk, IfErr, MatchResult, MatchOption};
+ghost use Rattle.std.specs.Prelude.{◌≡◌, ◌↔◌, ◌⊎◌, ◌<◌, ◌^◌, ℕ, Result, slice_index, Contains, List, [], ◌∷◌, None, length, IfOk, IfErr, MatchResult, MatchOption};
 ghost use Rattle.std.specs.Iterator.{YieldsFirst, item_count};
+ghost use Rattle.std.specs.Option.{option_map};
+ghost use Rattle.std.specs.Result.{result_err};
+ghost use Rattle.rtpwire.specs.FirstOf.{FirstOf};
+ghost use Rattle.fbwire.specs.declared.fault.FeedbackFault.{FeedbackFault};
+ghost use Rattle.fbwire.specs.Fault.{feedback_number};
 ghost use Rattle.fbwire.specs.Nack.{Nack, NackSpells, Names};
 ghost use Rattle.fbwire.specs.Compound.{CompoundSpells, NacksName};
 ghost use Rattle.fbwire.specs.CompoundChecks.{IsRefused};
 ghost use Rattle.fbwire.specs.CompoundReading.{nacks_in};
+ghost use Rattle.fbwire.specs.Order.{compound_order};
 ghost use Rattle.fbwire.specs.CompoundWalk.{CanWalk};
 
 use crate::fault::FeedbackFault;
@@ -70,6 +76,7 @@ impl<'a> Compound<'a> {
         ensures only { (nacks : List Nack) → CompoundSpells nacks octets.now → result ≡ Ok nacks }
         // Each refusal is the fault that decides.
         ensures fault { IfErr result (IsRefused octets.now) }
+        ensures order { FirstOf (compound_order octets.now) (option_map feedback_number (result_err result)) }
     {
         walked(octets)
     }
@@ -152,6 +159,14 @@ pub fn compound_is_determined()
     // They are refused for at most one fault, and not where they spell NACKs.
     ensures one_fault { (octets : List ℕ) (a b : FeedbackFault) → IsRefused octets a → IsRefused octets b → a ≡ b }
     ensures not_both { (octets : List ℕ) (nacks : List Nack) (a : FeedbackFault) → CompoundSpells nacks octets → IsRefused octets a → ⊥ }
+
+    // The refusal has the number of the first check whose condition holds, and a datagram that is read passes all.
+    ensures order { (octets : List ℕ) (answer : Result (List Nack) FeedbackFault) → ((i : ℕ) → slice_index octets i < 2 ^ 8)
+        → MatchResult answer (λ nacks. CompoundSpells nacks octets) (IsRefused octets)
+        → FirstOf (compound_order octets) (option_map feedback_number (result_err answer)) }
+
+    // The NACKs that they spell are those that a reader sees in them.
+    ensures seen { (octets : List ℕ) (nacks : List Nack) → CompoundSpells nacks octets → nacks_in octets ≡ nacks }
 
     // The octets of one NACK are a datagram with this NACK, and no other.
     ensures alone { (nack : Nack) (octets : List ℕ) → NackSpells nack octets → CompoundSpells (nack ∷ []) octets }

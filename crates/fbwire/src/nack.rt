@@ -1,7 +1,12 @@
 //! Reading and writing a generic NACK.
 ghost use Rattle.std.specs.Prelude.{◌≡◌, ◌<◌, ◌≤◌, ◌+◌, ◌*◌, ◌++◌, All, ◌↔◌, ℕ, List, Contains, None, length, IfOk, IfErr, MatchResult};
 ghost use Rattle.std.specs.List.{flat_map};
+ghost use Rattle.std.specs.Option.{option_map};
+ghost use Rattle.std.specs.Result.{result_err};
+ghost use Rattle.rtpwire.specs.FirstOf.{FirstOf};
 ghost use Rattle.fbwire.specs.Nack.{IsPair, Nack, NackSpells, Names, numbers_of, pair_octets};
+ghost use Rattle.fbwire.specs.Fault.{feedback_number};
+ghost use Rattle.fbwire.specs.Order.{nack_order};
 ghost use Rattle.fbwire.specs.NackChecks.{nack_fault};
 ghost use Rattle.fbwire.specs.NackReading.{nack_in};
 
@@ -60,6 +65,7 @@ impl<'a> NackView<'a> {
         ensures only { (nack : Nack) → NackSpells nack octets.now → result ≡ Ok nack }
         // Each refusal is the first check that fails.
         ensures fault { IfErr result (λ fault. nack_fault octets.now ≡ Some fault) }
+        ensures order { FirstOf (nack_order octets.now) (option_map feedback_number (result_err result)) }
     {
         checked(octets)
     }
@@ -182,6 +188,9 @@ pub fn nack_is_determined()
     // Octets spell at most one NACK, and a NACK has one spelling.
     ensures one_nack { (octets : List ℕ) (a b : Nack) → NackSpells a octets → NackSpells b octets → a ≡ b }
     ensures one_spelling { (nack : Nack) (a b : List ℕ) → NackSpells nack a → NackSpells nack b → a ≡ b }
+
+    // The fault that decides has the number of the first check whose condition holds, and there is none where none does.
+    ensures order { (octets : List ℕ) → FirstOf (nack_order octets) (option_map feedback_number (nack_fault octets)) }
 
     // The set that pairs name has the members of the list that they name.
     ensures names { (pairs : List Pair) (number : ℕ) → Names pairs number ↔ Contains (numbers_of pairs) number }

@@ -13,6 +13,7 @@ use Rattle.rtpwire.specs.declared.fault.RtpFault.TheVariants.{NoOsn}
 use Rattle.rtpwire.specs.declared.fault.ContentFault.TheVariants.{TooLong}
 use Rattle.rtpwire.specs.Fault.{rtp_number}
 use Rattle.rtpwire.specs.FirstOf.{FirstOf}
+use Rattle.rtpwire.specs.InFront.{found_in_front, none_in_front}
 use Rattle.rtpwire.specs.Rtp.{RtpPacket, RtpSpells}
 use Rattle.rtpwire.specs.RtpChecks.{rtp_fault}
 use Rattle.rtpwire.specs.RtpReading.{packet_in}
@@ -43,18 +44,6 @@ pub record Laws : Type 0 where
 -- the number of a refusal
 abbrev refusal : Result Taken ReceiveFault → Option ℕ
 refusal answer = option_map receive_number (result_err answer)
-
--- a check of the front decides
-found_in_front : (front later : List (ℕ × Type 0)) (n : ℕ) → FirstOf front (Some n) → FirstOf (front ++ later) (Some n)
-found_in_front [] later n none = absurd (none-some n (sym none))
-found_in_front (check ∷ front) later n (inl found) = inl found
-found_in_front (check ∷ front) later n (inr (passed, more)) = inr (passed, found_in_front front later n more)
-
--- none does
-none_in_front : (front later : List (ℕ × Type 0)) (answer : Option ℕ) → FirstOf front None → FirstOf later answer → FirstOf (front ++ later) answer
-none_in_front [] later answer none first = first
-none_in_front (check ∷ front) later answer (inl (holds, found)) first = absurd (none-some check.0 found)
-none_in_front (check ∷ front) later answer (inr (passed, more)) first = inr (passed, none_in_front front later answer more first)
 
 pick : {A : Type 0} (P : A → Type 0) (b : Bool) (x y : A) → (b ≡ true → P x) → (b ≡ false → P y) → P (cond b x y)
 pick P true x y f g = f refl

@@ -8,3 +8,4 @@ pub mod Session
 pub mod Fault
 pub mod FirstOf
 pub mod RtpOrder
+pub mod InFront

@@ -1,3 +1,4 @@
+use Rattle.fbwire.proofs.CheckOrder.{datagram_in_order, seen}
 use Rattle.fbwire.proofs.NameLists.{list_names, names_or_not}
 use Rattle.fbwire.proofs.Walks.{one_list, one_fault, not_both, alone}
 use Rattle.fbwire.proofs.compound.compound_is_determined.Goals as goal
@@ -19,3 +20,9 @@ returns-clause-names c = list_names
 
 pub returns-clause-decided : goal.returns-clause-decided
 returns-clause-decided c = names_or_not
+
+pub returns-clause-order : goal.returns-clause-order
+returns-clause-order c = λ octets answer fits so. datagram_in_order octets fits answer so
+
+pub returns-clause-seen : goal.returns-clause-seen
+returns-clause-seen c = seen

@@ -1,3 +1,4 @@
+use Rattle.fbwire.proofs.CheckOrder.{nack_in_order}
 use Rattle.fbwire.proofs.NackSpelling.{no_fault, read_as, one_nack, one_spelling}
 use Rattle.fbwire.proofs.NameLists.{names_contains}
 use Rattle.fbwire.proofs.nack.nack_is_determined.Goals as goal
@@ -16,3 +17,6 @@ returns-clause-one_spelling c = one_spelling
 
 pub returns-clause-names : goal.returns-clause-names
 returns-clause-names c = names_contains
+
+pub returns-clause-order : goal.returns-clause-order
+returns-clause-order c = nack_in_order
