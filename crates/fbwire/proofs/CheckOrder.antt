@@ -52,6 +52,7 @@ module _ (octets : List ℕ) where
 
   -- a NACK alone
   pub nack_in_order : FirstOf (nack_order octets) (option_map feedback_number (nack_fault octets))
+  unfolding nack_order
   nack_in_order =
       let left : ℕ → List (ℕ × Type 0) = λ n. drop n (nack_order octets) in
       let f6 : Option FeedbackFault = cond (length octets == 12) (Some Empty) None in

@@ -4,7 +4,7 @@ use Rattle.std.specs.Prelude.{◌≡◌, ◌≢◌, ℕ, zero, suc, Bool, true, 
 use Rattle.fbwire.specs.Header.{version_of, is_padded, message_type, packet_type, packet_length}
 
 -- of a generic NACK that is alone
-abbrev pub nack_order : List ℕ → List (ℕ × Type 0)
+unfoldable pub nack_order : List ℕ → List (ℕ × Type 0)
 nack_order octets =
     (11, length octets < 12)
     ∷ (12, version_of octets ≢ 2)

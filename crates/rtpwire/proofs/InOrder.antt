@@ -68,28 +68,33 @@ module _ (octets : List ℕ) where
   version_fault = cond (not (version_of octets == 2)) (Some Version) sources_fault
 
   padding_in_order : header_end octets ≤ length octets → FirstOf (left 4) (option_map rtp_number padding_fault)
+  unfolding rtp_order
   padding_in_order within =
       check (has_bad_padding octets) (IsTrue (is_padded octets) × MiscountsPadding octets) [] Padding None
       (λ e. padding_bad (length octets) (header_end octets) (slice_index octets (length octets - 1)) (is_padded octets) e within)
       (λ e. padding_good (length octets) (header_end octets) (slice_index octets (length octets - 1)) (is_padded octets) e) (λ good. refl)
 
   header_in_order : sources_end octets ≤ length octets → FirstOf (left 3) (option_map rtp_number header_fault)
+  unfolding rtp_order
   header_in_order within =
       check (ltb (length octets) (header_end octets)) (IsTrue (is_extended octets) × EndsInExtension octets) (left 4) Extension padding_fault
       (λ e. extension_ends octets (is_extended octets) refl (ltb-true _ _ e) within) (λ e. extension_fits octets (is_extended octets) (ltb-false _ _ e))
       (λ e. padding_in_order (ltb-false _ _ e))
 
   sources_in_order : FirstOf (left 2) (option_map rtp_number sources_fault)
+  unfolding rtp_order
   sources_in_order =
       check (ltb (length octets) (sources_end octets)) (length octets < sources_end octets) (left 3) CsrcList header_fault
       (ltb-true _ _) (λ e less. let more = ltb-false _ _ e in omega arith) (λ e. header_in_order (ltb-false _ _ e))
 
   version_in_order : FirstOf (left 1) (option_map rtp_number version_fault)
+  unfolding rtp_order
   version_in_order =
       check (not (version_of octets == 2)) (version_of octets ≢ 2) (left 2) Version sources_fault
       (λ e same. is_not _ e (eq-eqb _ _ same)) (λ e other. other (eqb-true _ _ (is _ e))) (λ e. sources_in_order)
 
   pub in_order : FirstOf (rtp_order octets) (option_map rtp_number (rtp_fault octets))
+  unfolding rtp_order
   in_order =
       check (ltb (length octets) 12) (length octets < 12) (left 1) Short version_fault
       (ltb-true _ _) (λ e less. let more = ltb-false _ _ e in omega arith) (λ e. version_in_order)

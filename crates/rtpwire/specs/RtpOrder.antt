@@ -13,7 +13,7 @@ MiscountsPadding octets =
     let count = slice_index octets (length octets - 1) in
     (count ≡ 0) ⊎ (length octets ≤ header_end octets + count)
 
-abbrev pub rtp_order : List ℕ → List (ℕ × Type 0)
+unfoldable pub rtp_order : List ℕ → List (ℕ × Type 0)
 rtp_order octets =
     (1, length octets < 12)
     ∷ (2, version_of octets ≢ 2)

@@ -5,3 +5,4 @@ pub mod MarkedNumbers
 pub mod Named
 pub mod SameSteps
 pub mod SameMarks
+pub mod InOrder

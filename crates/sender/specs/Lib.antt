@@ -6,3 +6,4 @@ pub mod Sending
 pub mod Feedback
 pub mod Marking
 pub mod Repairing
+pub mod Order

@@ -1,14 +1,20 @@
 //! Laws on what a sender answers. These functions compute nothing: their contracts are the laws, for callers that
 //! speak of places and contents alone.
-ghost use Rattle.std.specs.Prelude.{◌≡◌, ℕ, List, Option, Result};
+ghost use Rattle.std.specs.Prelude.{◌≡◌, ◌^◌, ◌<◌, ℕ, List, slice_index, Option, Result};
+ghost use Rattle.std.specs.Option.{option_map};
+ghost use Rattle.std.specs.Result.{result_err};
 ghost use Rattle.arrayvec.specs.ArrayVec.{ArrayVec};
 ghost use Rattle.rtpwire.specs.declared.content.Content.{Content};
+ghost use Rattle.rtpwire.specs.FirstOf.{FirstOf};
 ghost use Rattle.rtpwire.specs.Session.{Streams};
 ghost use Rattle.fbwire.specs.declared.fault.FeedbackFault.{FeedbackFault};
+ghost use Rattle.fbwire.specs.Fault.{feedback_number};
 ghost use Rattle.fbwire.specs.Nack.{Nack, NackSpells, Names};
 ghost use Rattle.sender.specs.declared.answer.Marked.{Marked};
 ghost use Rattle.sender.specs.declared.fault.SendFault.{SendFault};
 ghost use Rattle.sender.specs.Config.{Config};
+ghost use Rattle.sender.specs.Fault.{send_number};
+ghost use Rattle.sender.specs.Order.{send_order, feedback_order};
 ghost use Rattle.sender.specs.History.{History};
 ghost use Rattle.sender.specs.Sending.{SendsAny};
 ghost use Rattle.sender.specs.Feedback.{HearsFeedback, MarksAlone, MarksOrRefuses};
@@ -23,6 +29,24 @@ pub fn sending_is_determined()
     ensures { (s : Streams) (room : ℕ) (old : History) (content : Content) (padding : ℕ) (x y : Result (ℕ × ArrayVec ℕ) SendFault) (v w : History)
         → SendsAny s room old content padding x v → SendsAny s room old content padding y w → (x ≡ y) × (v ≡ w) }
 {}
+
+/// The order in which a sender checks a content: a refusal has the number of the first check whose condition holds, and
+/// what is sent passes all of them.
+pub fn sending_is_in_order()
+    ensures { (s : Streams) (room : ℕ) (old : History) (content : Content) (padding : ℕ) (answer : Result (ℕ × ArrayVec ℕ) SendFault) (new : History)
+        → SendsAny s room old content padding answer new
+        → FirstOf (send_order old content padding) (option_map send_number (result_err answer)) }
+{}
+
+/// The order in which a sender checks a feedback datagram: all its octets, and then NACK by NACK. A refusal has the number
+/// of the first check whose condition holds, and what is taken passes all of them.
+pub fn feedback_is_in_order()
+    ensures { (c : Config) (old : History) (octets : List ℕ) (answer : Result Marked FeedbackFault) (new : History)
+        → ((i : ℕ) → slice_index octets i < 2 ^ 8) → HearsFeedback c old octets answer new
+        → FirstOf (feedback_order c.session octets) (option_map feedback_number (result_err answer)) }
+{
+    compound_is_determined();
+}
 
 /// What a sender answers to feedback.
 pub fn feedback_is_determined()

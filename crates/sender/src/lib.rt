@@ -11,5 +11,8 @@ mod sender;
 pub use answer::Marked;
 pub use config::SenderConfig;
 pub use fault::SendFault;
-pub use laws::{feedback_is_determined, repairing_is_determined, sending_is_determined};
+pub use laws::{
+    feedback_is_determined, feedback_is_in_order, repairing_is_determined, sending_is_determined,
+    sending_is_in_order,
+};
 pub use sender::Sender;

@@ -4,6 +4,7 @@ use Rattle.fbwire.specs.declared.fault.FeedbackFault.{FeedbackFault}
 use Rattle.fbwire.specs.Nack.{Nack}
 use Rattle.fbwire.specs.Compound.{NacksName}
 use Rattle.sender.specs.declared.answer.Marked.{Marked}
+use Rattle.stores.specs.Past.{IsPast}
 use Rattle.sender.specs.Feedback.{first_wrong, HearsNacks}
 use Rattle.sender.specs.Sender.{Sending, history_of, state_of}
 use Rattle.sender.specs.Marking.{MarksNumbers, all_numbers}
@@ -50,3 +51,9 @@ returns-clause-hears g c =
           (subst (λ (wrong : Option FeedbackFault). HearsNacks config (history_of c.self.inside.next c.self.inside.repair past) nacks wrong answer new) (sym right)
           (marks_named config.repeats laws (all_numbers nacks) (NacksName nacks) (named_among c.nack_is_determined.ensures.names nacks) past after count c.self.inside.next c.self.inside.repair is marks));
     }
+
+pub returns-in_err-compound-clause-is_past : goal.returns-in_err-compound-clause-is_past
+returns-in_err-compound-clause-is_past g c = subst (λ (s : Sending). IsPast s.past) c.self.view_is (g.met.H.History.is_past c.self.inside.history)
+
+pub returns-in_err-are_of_session-clause-is_past : goal.returns-in_err-are_of_session-clause-is_past
+returns-in_err-are_of_session-clause-is_past g c = subst (λ (s : Sending). IsPast s.past) c.self.view_is (g.met.H.History.is_past c.self.inside.history)
