@@ -71,3 +71,7 @@ packet_order c old p =
 -- all checks of a datagram: of its octets (1 to 5), and then of the packet in them
 unfoldable pub hearing_order : Config → Option Window → List ℕ → List (ℕ × Type 0)
 hearing_order c old octets = rtp_order octets ++ packet_order c old (packet_in octets)
+
+-- The checks of a configuration: the table of limits in docs/PROTOCOL.md, where a limit of a type's own is none.
+abbrev pub config_order : (retry asks : ℕ) → List (ℕ × Type 0)
+config_order retry asks = (53, (retry ≡ 0) ⊎ (asks ≡ 0)) ∷ []

@@ -1,4 +1,9 @@
 ghost use Rattle.std.specs.Prelude.{◌≡◌, ◌↔◌, IsOk, IfOk, OnErr};
+ghost use Rattle.std.specs.Option.{option_map};
+ghost use Rattle.std.specs.Result.{result_err};
+ghost use Rattle.rtpwire.specs.Fault.{config_number};
+ghost use Rattle.rtpwire.specs.FirstOf.{FirstOf};
+ghost use Rattle.receiver.specs.Order.{config_order};
 ghost use Rattle.receiver.specs.Config.{IsConfig, config, config_of, learning};
 
 use rtpwire::{ConfigFault, Session};
@@ -42,6 +47,7 @@ impl ReceiverConfig {
         ensures ok { IfOk result (λ made. made ≡ config session patience retry asks) }
         ensures succeeds { IsOk result ↔ IsConfig (config session patience retry asks) }
         ensures err { OnErr result (result ≡ Err ConfigFault.BadLimit) }
+        ensures order { FirstOf (config_order retry asks) (option_map config_number (result_err result)) }
     {
         ReceiverConfig::checked(session, patience, retry, asks, false)
     }
@@ -59,6 +65,7 @@ impl ReceiverConfig {
         ensures ok { IfOk result (λ made. made ≡ learning session patience retry asks) }
         ensures succeeds { IsOk result ↔ IsConfig (learning session patience retry asks) }
         ensures err { OnErr result (result ≡ Err ConfigFault.BadLimit) }
+        ensures order { FirstOf (config_order retry asks) (option_map config_number (result_err result)) }
     {
         ReceiverConfig::checked(session, patience, retry, asks, true)
     }
@@ -74,6 +81,7 @@ impl ReceiverConfig {
         ensures ok { IfOk result (λ made. made ≡ config_of session patience retry asks learns) }
         ensures succeeds { IsOk result ↔ IsConfig (config_of session patience retry asks learns) }
         ensures err { OnErr result (result ≡ Err ConfigFault.BadLimit) }
+        ensures order { FirstOf (config_order retry asks) (option_map config_number (result_err result)) }
     {
         if retry == 0 || asks == 0 {
             return Err(ConfigFault::BadLimit);

@@ -1,6 +1,6 @@
 -- A session of two ends, with the media and its retransmissions in two streams (RFC 4588, section 5.3,
 -- SSRC multiplexing).
-use Rattle.std.specs.Prelude.{◌≢◌, ℕ, ◌≤◌}
+use Rattle.std.specs.Prelude.{◌≡◌, ◌≢◌, ◌⊎◌, ℕ, ◌<◌, ◌≤◌, List, [], ◌∷◌}
 
 pub record Streams : Type 0 where
   pub media_ssrc : ℕ
@@ -34,3 +34,10 @@ pub record HasSsrcs (s : Streams) : Type 0 where
   pub repair : s.media_ssrc ≢ s.repair_ssrc
   pub receiver : s.media_ssrc ≢ s.receiver_ssrc
   pub reporter : s.repair_ssrc ≢ s.receiver_ssrc
+
+-- The checks of a session in their order: a type from outside 96 to 127, or one type twice; else one SSRC twice.
+abbrev pub session_order : Streams → List (ℕ × Type 0)
+session_order s =
+    (51, (s.media_type < 96) ⊎ (127 < s.media_type) ⊎ (s.repair_type < 96) ⊎ (127 < s.repair_type) ⊎ (s.media_type ≡ s.repair_type))
+    ∷ (52, (s.media_ssrc ≡ s.repair_ssrc) ⊎ (s.media_ssrc ≡ s.receiver_ssrc) ⊎ (s.repair_ssrc ≡ s.receiver_ssrc))
+    ∷ []

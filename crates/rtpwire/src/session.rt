@@ -1,6 +1,10 @@
 //! Which streams the two ends send.
 ghost use Rattle.std.specs.Prelude.{◌≡◌, ◌↔◌, IsTrue, IsOk, IfOk};
-ghost use Rattle.rtpwire.specs.Session.{IsDynamic, HasTypes, HasSsrcs, streams};
+ghost use Rattle.std.specs.Option.{option_map};
+ghost use Rattle.std.specs.Result.{result_err};
+ghost use Rattle.rtpwire.specs.Fault.{config_number};
+ghost use Rattle.rtpwire.specs.FirstOf.{FirstOf};
+ghost use Rattle.rtpwire.specs.Session.{IsDynamic, HasTypes, HasSsrcs, streams, session_order};
 
 use crate::fault::ConfigFault;
 use std::marker::Model;
@@ -48,6 +52,8 @@ impl Session {
         ensures same_ssrc { (result ≡ Err ConfigFault.SameSsrc)
             ↔ (HasTypes (streams media_ssrc media_type repair_ssrc repair_type receiver_ssrc)
             × (HasSsrcs (streams media_ssrc media_type repair_ssrc repair_type receiver_ssrc) → ⊥)) }
+        ensures order { FirstOf (session_order (streams media_ssrc media_type repair_ssrc repair_type receiver_ssrc))
+            (option_map config_number (result_err result)) }
     {
         if !is_dynamic(media_type) || !is_dynamic(repair_type) || media_type == repair_type {
             return Err(ConfigFault::BadType);

@@ -22,3 +22,7 @@ feedback_order s octets = compound_order octets ++ session_order s (nacks_in oct
 abbrev pub send_order : History → Content → (padding : ℕ) → List (ℕ × Type 0)
 send_order old content padding =
     (44, (0 < padding) × (content.payload.items ≡ [])) ∷ (45, 2 ^ 48 ≤ old.next) ∷ []
+
+-- of a configuration: a packet may be retransmitted at least once
+abbrev pub config_order : (repeats : ℕ) → List (ℕ × Type 0)
+config_order repeats = (53, repeats ≡ 0) ∷ []

@@ -1,4 +1,9 @@
 ghost use Rattle.std.specs.Prelude.{◌≡◌, ◌↔◌, IsOk, IfOk, OnErr};
+ghost use Rattle.std.specs.Option.{option_map};
+ghost use Rattle.std.specs.Result.{result_err};
+ghost use Rattle.rtpwire.specs.Fault.{config_number};
+ghost use Rattle.rtpwire.specs.FirstOf.{FirstOf};
+ghost use Rattle.sender.specs.Order.{config_order};
 ghost use Rattle.sender.specs.Config.{IsConfig, config};
 
 use rtpwire::{ConfigFault, Session};
@@ -40,6 +45,7 @@ impl SenderConfig {
         ensures ok { IfOk result (λ made. made ≡ config session first repair_first repeats) }
         ensures succeeds { IsOk result ↔ IsConfig (config session first repair_first repeats) }
         ensures err { OnErr result (result ≡ Err ConfigFault.BadLimit) }
+        ensures order { FirstOf (config_order repeats) (option_map config_number (result_err result)) }
     {
         if repeats == 0 {
             return Err(ConfigFault::BadLimit);
