@@ -1,6 +1,9 @@
 //! When a receiver asks, for what, and how often.
+ghost use Rattle.std.specs.Prelude.{◌≤◌};
+
 use crate::receiver_rows::{FIRST, Row, SECOND, SECOND_IS_LOST, THIRD, config, first_miss};
 use receiver::*;
+use rtpwire::Datagram;
 use std::alloc::Global;
 use std::test::Fail;
 use stores::{RingWindow, Window};
@@ -74,6 +77,42 @@ fn a_run_of_lost_packets(rt: HostRuntime) -> Result<(), Fail> {
         ),
     ];
     assert_eq!(rt; first_miss(rt.alloc(), 130, config(3)?, &rows)?, None);
+    Ok(())
+}
+
+/// The NACK of so many pairs, each of 17 numbers in a row, from the number 2 on.
+fn nack_of_runs(pairs: u16) -> Datagram
+    requires { pairs ≤ 64 }
+{
+    let mut octets = Datagram::new();
+    let _ = octets.try_extend_from_slice(b"\x81\xcd");
+    let _ = octets.try_extend_from_slice(&(2 + pairs).to_be_bytes());
+    let _ = octets.try_extend_from_slice(b"\x33\x33\x33\x33\x11\x11\x11\x11");
+    for pair in 0..pairs {
+        let _ = octets.try_extend_from_slice(&(2 + 17 * pair).to_be_bytes());
+        let _ = octets.try_extend_from_slice(b"\xff\xff");
+    }
+    octets
+}
+
+#[test]
+fn more_places_than_an_ask_names(rt: HostRuntime) -> Result<(), Fail> {
+    // 1100 places are due: 64 pairs name the first 1088, and one more the 12 from the number 1090 on.
+    let last = b"\x80\x60\x04\x4e\x00\x00\x00\x00\x11\x11\x11\x11\xaa";
+    let first_ones = nack_of_runs(64);
+    let others = b"\x81\xcd\x00\x03\x33\x33\x33\x33\x11\x11\x11\x11\x04\x42\x07\xff";
+    assert_eq!(rt; first_ones.len(), 12 + 4 * 64);
+    let rows = [
+        Row::Hear(FIRST, 0, Ok((65537, 0))),
+        Row::Hear(last, 0, Ok((66638, 0))),
+        Row::Missing(1100),
+        Row::Ask(0, &first_ones),
+        Row::Ask(0, others),
+        Row::Ask(0, b""),
+        Row::Missing(1100),
+        Row::Ask(20, &first_ones),
+    ];
+    assert_eq!(rt; first_miss(rt.alloc(), 1200, config(3)?, &rows)?, None);
     Ok(())
 }
 

@@ -26,6 +26,7 @@ fn configurations(rt: HostRuntime) -> Result<(), Fail> {
 #[test]
 fn the_laws_of_hearing_and_playing() {
     hearing_is_determined();
+    hearing_is_in_order();
     playing_is_determined();
 }
 

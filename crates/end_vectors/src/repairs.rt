@@ -258,3 +258,103 @@ fn a_retransmission_that_is_too_long(rt: HostRuntime) -> Result<(), Fail> {
     }
     Ok(())
 }
+
+/// A retransmission whose header extension has 17 words, with this payload.
+fn with_17_words(payload: &[u8]) -> Datagram {
+    let mut octets = Datagram::new();
+    let _ = octets.try_extend_from_slice(b"\x90\x61\x00\x05\x00\x00\x00\x00\x22\x22\x22\x22");
+    let _ = octets.try_extend_from_slice(b"\xbe\xef\x00\x11");
+    for _ in 0..68 {
+        let _ = octets.try_push(0);
+    }
+    let _ = octets.try_extend_from_slice(payload);
+    octets
+}
+
+#[test]
+fn no_original_number_before_too_long(rt: HostRuntime) -> Result<(), Fail> {
+    for (payload, refusal) in [(b"\x00".as_slice(), 6), (b"\x00\x02", 37)] {
+        let octets = with_17_words(payload);
+        assert_eq!(rt; octets.len(), 84 + payload.len());
+        // Before the start, and after it.
+        let rows = [
+            Row::Hear(&octets, 0, Err(refusal)),
+            Row::Hear(FIRST, 0, Ok((65537, 0))),
+            Row::Hear(&octets, 0, Err(refusal)),
+        ];
+        for config in [config(3)?, learning()?] {
+            assert_eq!(rt; first_miss(rt.alloc(), 8, config, &rows)?, None);
+        }
+    }
+    Ok(())
+}
+
+#[test]
+fn the_media_source_with_the_repair_type(rt: HostRuntime) -> Result<(), Fail> {
+    let repair_type = b"\x80\x61\x00\x02\x00\x00\x00\x00\x11\x11\x11\x11\x00\x02\xbb";
+    let rows = [
+        Row::Hear(repair_type, 0, Err(32)),
+        Row::Hear(FIRST, 0, Ok((65537, 0))),
+        Row::Hear(THIRD, 0, Ok((65539, 0))),
+        Row::Ask(0, SECOND_IS_LOST),
+        Row::Hear(repair_type, 0, Err(32)),
+    ];
+    for config in [config(3)?, learning()?] {
+        assert_eq!(rt; first_miss(rt.alloc(), 8, config, &rows)?, None);
+    }
+    Ok(())
+}
+
+#[test]
+fn the_receivers_own_source(rt: HostRuntime) -> Result<(), Fail> {
+    // Under the media's type, the retransmissions' and any other: the SSRC is looked at first.
+    for octets in [
+        b"\x80\x60\x00\x02\x00\x00\x00\x00\x33\x33\x33\x33\x00\x02\xbb",
+        b"\x80\x61\x00\x02\x00\x00\x00\x00\x33\x33\x33\x33\x00\x02\xbb",
+        b"\x80\x62\x00\x02\x00\x00\x00\x00\x33\x33\x33\x33\x00\x02\xbb",
+    ] {
+        let rows = [
+            Row::Hear(octets, 0, Err(31)),
+            Row::Hear(FIRST, 0, Ok((65537, 0))),
+            Row::Hear(THIRD, 0, Ok((65539, 0))),
+            Row::Ask(0, SECOND_IS_LOST),
+            Row::Hear(octets, 0, Err(31)),
+            Row::Source(None),
+            Row::Hear(SECOND_FROM_ANOTHER, 0, Ok((65538, 0))),
+            Row::Hear(octets, 0, Err(31)),
+        ];
+        assert_eq!(rt; first_miss(rt.alloc(), 8, learning()?, &rows)?, None);
+    }
+    Ok(())
+}
+
+#[test]
+fn what_was_learnt_stays(rt: HostRuntime) -> Result<(), Fail> {
+    let fifth = b"\x80\x60\x00\x05\x00\x00\x00\x00\x11\x11\x11\x11\xee";
+    let rows = [
+        Row::Hear(FIRST, 0, Ok((65537, 0))),
+        Row::Hear(THIRD, 0, Ok((65539, 0))),
+        Row::Hear(fifth, 0, Ok((65541, 0))),
+        Row::Ask(
+            0,
+            b"\x81\xcd\x00\x03\x33\x33\x33\x33\x11\x11\x11\x11\x00\x02\x00\x02",
+        ),
+        Row::Hear(SECOND_FROM_ANOTHER, 0, Ok((65538, 0))),
+        // The SSRC that was learnt, under the media's type.
+        Row::Hear(
+            b"\x80\x60\x00\x0a\x00\x00\x00\x00\x55\x55\x55\x55\x00\x04\xdd",
+            0,
+            Err(32),
+        ),
+        Row::Play(0, 65537, FIRST),
+        Row::Play(0, 65538, SECOND),
+        Row::Play(0, 65539, THIRD),
+        Row::Gap(100, 65540),
+        Row::Source(Some(0x55555555)),
+        Row::Play(100, 65541, fifth),
+        Row::Hear(SECOND_AGAIN, 100, Err(31)),
+        Row::Hear(SECOND_FROM_ANOTHER, 100, Err(35)),
+    ];
+    assert_eq!(rt; first_miss(rt.alloc(), 8, learning()?, &rows)?, None);
+    Ok(())
+}

@@ -140,7 +140,9 @@ fn configurations(rt: HostRuntime) -> Result<(), Fail> {
 #[test]
 fn the_laws_of_a_sender() {
     sending_is_determined();
+    sending_is_in_order();
     feedback_is_determined();
+    feedback_is_in_order();
     repairing_is_determined();
 }
 
