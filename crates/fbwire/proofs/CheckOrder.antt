@@ -1,10 +1,10 @@
 -- The fault of feedback is the first of the checks in their order.
-use Rattle.std.proofs.Common.{◌≡◌, ◌≢◌, ◌⊎◌, ℕ, zero, suc, ◌+◌, ◌*◌, ◌<◌, ◌≤◌, Bool, true, false, cond, List, [], ◌∷◌, ◌++◌, length, take, drop, slice_index, Option, Some, None, Result, Ok, Err, refl, sym, ap, subst, ◌∙◌, arith, inl, inr, eq-eqb, ltb-true, ltb-false, option_map}
+use Rattle.std.proofs.Common.{◌≡◌, ◌≢◌, ℕ, zero, suc, ◌<◌, Bool, true, false, cond, List, [], ◌∷◌, ◌++◌, length, take, drop, Option, Some, None, Result, Ok, Err, refl, sym, ap, subst, ◌∙◌, arith, inl, inr, eq-eqb, ltb-true, ltb-false, option_map}
 use Rattle.std.specs.List.{concat}
 use Rattle.std.specs.Prelude.{IsTrue, not, nat_lt, ◌==◌, ◌&&◌, ◌||◌, MatchResult}
 use Rattle.std.specs.Result.{result_err}
 use Rattle.std.proofs.lemmas.Bool.{eqb-true, eqb-false, cases_Bool, lt-ltb}
-use Rattle.std.proofs.lemmas.List.{nil_from_length, length-drop}
+use Rattle.std.proofs.lemmas.List.{length-drop}
 use Rattle.rtpwire.specs.FirstOf.{FirstOf}
 use Rattle.rtpwire.specs.InFront.{found_in_front, none_in_front}
 use Rattle.fbwire.specs.declared.fault.FeedbackFault.{FeedbackFault}

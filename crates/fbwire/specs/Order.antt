@@ -1,6 +1,6 @@
 -- The checks of feedback in their order (RFC 4585, sections 6.1 and 6.2.1; RFC 3550, section 6.1), each as a condition
 -- on the octets. `NackChecks` and `CompoundChecks` have the same order in the way that they are written.
-use Rattle.std.specs.Prelude.{◌≡◌, ◌≢◌, ℕ, zero, suc, Bool, true, false, IsTrue, ◌<◌, ◌==◌, ◌||◌, ◌&&◌, List, [], ◌∷◌, ◌++◌, length, take, drop}
+use Rattle.std.specs.Prelude.{◌≡◌, ◌≢◌, ℕ, zero, suc, Bool, false, IsTrue, ◌<◌, ◌==◌, ◌||◌, ◌&&◌, List, [], ◌∷◌, ◌++◌, length, take, drop}
 use Rattle.fbwire.specs.Header.{version_of, is_padded, message_type, packet_type, packet_length}
 
 -- of a generic NACK that is alone

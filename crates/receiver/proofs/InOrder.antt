@@ -1,16 +1,13 @@
 -- What a receiver refuses has the number of the first check whose condition holds.
-use Rattle.std.proofs.Common.{◌≡◌, ◌≢◌, ◌⊎◌, ℕ, ◌+◌, ◌-◌, ◌%◌, ◌^◌, ◌<◌, ◌≤◌, ◌==◌, Bool, true, false, true≢false, cond, List, [], ◌∷◌, ◌++◌, length, arith, Option, Some, None, Result, Ok, Err, refl, sym, ap, subst, ◌∙◌, inl, inr, eq-eqb, eqb-true, ne_eqb, ltb, ltb-true, ltb-false, option_map, IsSomeAnd, IsSome, is_some}
-use Rattle.std.specs.Prelude.{IsNone, MatchOption}
+use Rattle.std.proofs.Common.{◌≡◌, ◌≢◌, ℕ, ◌+◌, ◌%◌, ◌^◌, ◌<◌, ◌≤◌, ◌==◌, Bool, true, false, true≢false, cond, List, [], ◌∷◌, length, arith, Option, Some, None, Result, Ok, Err, refl, sym, ap, subst, ◌∙◌, inl, inr, eq-eqb, eqb-true, ne_eqb, ltb, ltb-true, ltb-false, option_map, IsSomeAnd, IsSome, is_some}
+use Rattle.std.specs.Prelude.{IsNone}
 use Rattle.std.specs.Result.{result_err}
 use Rattle.std.proofs.lemmas.Bool.{eqb-false, cases_lt}
-use Rattle.std.proofs.lemmas.Option.{none-some, same_Some}
-use Rattle.places.specs.Place.{IsNear, IsFar, IsPastEnd, IsOutside}
-use Rattle.places.specs.declared.nearness.PlaceFault.TheVariants.{Far, PastEnd}
+use Rattle.std.proofs.lemmas.Option.{none-some}
+use Rattle.places.specs.Place.{IsNear, IsFar}
 use Rattle.stores.specs.declared.slot.PutFault.TheVariants.{Late, Duplicate}
 use Rattle.rtpwire.specs.declared.content.Content.{Content}
 use Rattle.rtpwire.specs.declared.fault.RtpFault.{RtpFault}
-use Rattle.rtpwire.specs.declared.fault.RtpFault.TheVariants.{NoOsn}
-use Rattle.rtpwire.specs.declared.fault.ContentFault.TheVariants.{TooLong}
 use Rattle.rtpwire.specs.Fault.{rtp_number}
 use Rattle.rtpwire.specs.FirstOf.{FirstOf}
 use Rattle.rtpwire.specs.InFront.{found_in_front, none_in_front}
@@ -18,8 +15,7 @@ use Rattle.rtpwire.specs.Rtp.{RtpPacket, RtpSpells}
 use Rattle.rtpwire.specs.RtpChecks.{rtp_fault}
 use Rattle.rtpwire.specs.RtpReading.{packet_in}
 use Rattle.rtpwire.specs.RtpOrder.{rtp_order}
-use Rattle.rtpwire.specs.Content.{IsTooLong, packet_of}
-use Rattle.rtpwire.specs.Session.{Streams}
+use Rattle.rtpwire.specs.Content.{IsTooLong}
 use Rattle.rtpwire.specs.Retransmission.{Repair as RepairPacket, IsRepair, original_in}
 use Rattle.receiver.specs.declared.answer.Taken.{Taken}
 use Rattle.receiver.specs.declared.fault.ReceiveFault.{ReceiveFault}
@@ -29,8 +25,8 @@ use Rattle.receiver.specs.declared.stream.Stream.TheVariants.{Media, Repair, Can
 use Rattle.receiver.specs.Config.{Config}
 use Rattle.receiver.specs.Fault.{receive_number}
 use Rattle.receiver.specs.Window.{Window, AnswersPlace, StartsAt}
-use Rattle.receiver.specs.Streams.{learnt_by, known_to, source_of, repair_under, stream_under, type_of, typed, stream_of}
-use Rattle.receiver.specs.Heard.{WasAsked, AnswersCandidate, AnswersIn, AnswersNumber, TakesNumber, TakesCarried, Carries, IsTooShort, HearsStream, HearsSaid, Says, Hears}
+use Rattle.receiver.specs.Streams.{learnt_by, source_of, repair_under, stream_under, type_of, typed, stream_of}
+use Rattle.receiver.specs.Heard.{AnswersCandidate, AnswersIn, AnswersNumber, TakesNumber, Carries, IsTooShort, HearsStream, HearsSaid, Says, Hears}
 use Rattle.receiver.specs.Order.{IsToLearn, IsNoRepairSource, HasOtherType, CarriesTooMuch, sought, ahead, raised, near_place, place_order, packet_order, hearing_order}
 
 -- the laws of the crates below that this stands on
@@ -199,16 +195,22 @@ module _ (room : ℕ) (c : Config) (p : RtpPacket) (now : ℕ) (answer : Result 
       let by = up_is w.highest seq place near in
       let size : place < 2 ^ 48 = small in
       let up : raised w.highest seq ≡ place + 65536 = by.2 in
-      inr ((λ wrong. some_left w wrong.0), inr ((λ far. by.1 far.0 far.1), inr (
-        (λ past. elim past [ inl below ↦ omega (arith, up, below) | inr above ↦ omega (arith, up, above, size) ]),
-        subst (λ (q : ℕ). FirstOf (at_place c p w q) (refusal answer)) (sym by.0) (stream_in_order room c p stream w place content now answer new is step))))
+      inr (
+        (λ wrong. some_left w wrong.0),
+        inr (
+          (λ far. by.1 far.0 far.1),
+          inr (
+            (λ past. elim past [ inl below ↦ omega (arith, up, below) | inr above ↦ omega (arith, up, above, size) ]),
+            subst (λ (q : ℕ). FirstOf (at_place c p w q) (refusal answer)) (sym by.0) (stream_in_order room c p stream w place content now answer new is step),
+          ),
+        ),
+      )
 
   number_in_order : (stream : Stream) (old : Option Window) (seq : ℕ) (content : Content) → seq < 65536 → IsOf c old p stream → TakesNumber room stream old seq content now answer new → FirstOf (place_order c old p seq) (refusal answer)
   number_in_order stream None seq content fits is step = starts_in_order stream seq content is step
   number_in_order stream (Some w) seq content fits is step = near_in_order stream w seq content fits is step
 
 module _ (laws : Laws) (room : ℕ) (c : Config) (old : Option Window) (now : ℕ) (answer : Result Taken ReceiveFault) (new : Option Window) where
-
   -- What a packet of a stream carries, by the packet itself.
   pub record Carried (p : RtpPacket) (seq : ℕ) (carried : RtpPacket) : Type 0 where
     pub number : seq ≡ sought c p

@@ -1,12 +1,12 @@
 -- The checks of a datagram at a receiver in their order, each as a condition on the octets and on the receiver before:
 -- the table of docs/PROTOCOL.md, "The receiver's window". `Heard` has the same order in the way that it is written.
-use Rattle.std.specs.Prelude.{◌≡◌, ◌≢◌, ◌⊎◌, ℕ, ◌+◌, ◌-◌, ◌%◌, ◌^◌, ◌<◌, ◌≤◌, ◌==◌, nat_lt, true, false, List, [], ◌∷◌, ◌++◌, length, Option, Some, None, IsNone, IsSome, IsSomeAnd, MatchOption, if◌then◌else◌}
+use Rattle.std.specs.Prelude.{◌≡◌, ◌≢◌, ◌⊎◌, ℕ, ◌+◌, ◌-◌, ◌%◌, ◌^◌, ◌<◌, ◌≤◌, ◌==◌, nat_lt, true, false, List, [], ◌∷◌, ◌++◌, length, Option, None, IsNone, IsSome, IsSomeAnd, MatchOption, if◌then◌else◌}
 use Rattle.rtpwire.specs.Rtp.{RtpPacket}
 use Rattle.rtpwire.specs.RtpReading.{packet_in}
 use Rattle.rtpwire.specs.RtpOrder.{rtp_order}
 use Rattle.rtpwire.specs.Retransmission.{original_in}
 use Rattle.receiver.specs.Config.{Config}
-use Rattle.receiver.specs.Window.{Missed, Window}
+use Rattle.receiver.specs.Window.{Window}
 use Rattle.receiver.specs.Streams.{learnt_by}
 
 -- the SSRC of the retransmissions is still to be learnt

@@ -1,10 +1,10 @@
 -- The first check that octets fail is the first of the checks in their order.
-use Rattle.std.proofs.Common.{◌≡◌, ◌≢◌, ℕ, ◌+◌, ◌-◌, ◌*◌, ◌<◌, ◌≤◌, ◌⊎◌, ◌==◌, ◌&&◌, ◌||◌, not, Bool, true, false, cond, List, [], ◌∷◌, length, drop, slice_index, Option, Some, None, arith, refl, eq-eqb, sym, ap, inl, inr, ltb, leb, ltb-true, ltb-false, option_map, true≢false, ◌∙◌}
+use Rattle.std.proofs.Common.{◌≡◌, ◌≢◌, ℕ, ◌+◌, ◌-◌, ◌*◌, ◌<◌, ◌≤◌, ◌⊎◌, ◌==◌, ◌&&◌, ◌||◌, not, Bool, true, false, cond, List, [], ◌∷◌, length, drop, slice_index, Option, Some, None, arith, refl, eq-eqb, inl, inr, ltb, leb, ltb-true, ltb-false, option_map}
 use Rattle.std.specs.Prelude.{IsTrue}
-use Rattle.std.proofs.lemmas.Bool.{leb-false, leb-true, eqb-true, cases_Bool, cases_eq}
+use Rattle.std.proofs.lemmas.Bool.{leb-false, leb-true, eqb-true, cases_Bool}
 use Rattle.rtpwire.specs.declared.fault.RtpFault.{RtpFault}
 use Rattle.rtpwire.specs.declared.fault.RtpFault.TheVariants.{Short, Version, CsrcList, Extension, Padding}
-use Rattle.rtpwire.specs.RtpChecks.{version_of, is_padded, is_extended, sources_end, word_count, header_end, padding_count, has_bad_padding, rtp_fault}
+use Rattle.rtpwire.specs.RtpChecks.{version_of, is_padded, is_extended, sources_end, word_count, header_end, has_bad_padding, rtp_fault}
 use Rattle.rtpwire.specs.Fault.{rtp_number}
 use Rattle.rtpwire.specs.FirstOf.{FirstOf}
 use Rattle.rtpwire.specs.RtpOrder.{EndsInExtension, MiscountsPadding, rtp_order}

@@ -1,7 +1,7 @@
 -- Checks of which some come in front: what they answer is the answer, and else that of the later ones. These are lemmas,
 -- for the proofs of the readers and of both ends.
-use Rattle.std.specs.Prelude.{◌≡◌, ◌⊎◌, ℕ, List, [], ◌∷◌, ◌++◌, Option, Some, None}
-use Rattle.std.proofs.Common.{refl, sym, inl, inr}
+use Rattle.std.specs.Prelude.{ℕ, List, [], ◌∷◌, ◌++◌, Option, Some, None}
+use Rattle.std.proofs.Common.{sym, inl, inr}
 use Rattle.std.proofs.lemmas.Option.{none-some}
 use Rattle.rtpwire.specs.FirstOf.{FirstOf}
 

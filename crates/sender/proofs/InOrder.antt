@@ -1,5 +1,5 @@
 -- What a sender refuses has the number of the first check whose condition holds.
-use Rattle.std.proofs.Common.{◌≡◌, ℕ, ◌^◌, ◌<◌, ◌≤◌, ◌==◌, Bool, true, false, cond, List, [], ◌∷◌, ◌++◌, length, Option, Some, None, Result, Ok, Err, refl, sym, ap, subst, ◌∙◌, arith, inl, inr, eqb-true, option_map}
+use Rattle.std.proofs.Common.{◌≡◌, ℕ, ◌^◌, ◌<◌, ◌==◌, Bool, true, false, cond, List, [], ◌∷◌, ◌++◌, length, Option, Some, None, Result, Ok, Err, refl, sym, ap, subst, arith, inl, inr, eqb-true, option_map}
 use Rattle.std.specs.Prelude.{MatchResult, slice_index}
 use Rattle.std.specs.Result.{result_err}
 use Rattle.std.proofs.lemmas.Bool.{eqb-false, cases_lt}
@@ -38,8 +38,8 @@ nacks_in_order s (nack ∷ nacks) =
     let P : Option FeedbackFault → Type 0 = λ fault. FirstOf (session_order s (nack ∷ nacks)) (option_map feedback_number fault) in
     pick P (nack.media == s.media_ssrc) (cond (nack.reporter == s.receiver_ssrc) (first_wrong s nacks) (Some WrongReporter)) (Some WrongMedia)
     (λ media. pick P (nack.reporter == s.receiver_ssrc) (first_wrong s nacks) (Some WrongReporter)
-      (λ reporter. inr ((λ other. other (eqb-true _ _ media)), inr ((λ other. other (eqb-true _ _ reporter)), nacks_in_order s nacks)))
-      (λ other. inr ((λ differs. differs (eqb-true _ _ media)), inl (eqb-false _ _ other, refl))))
+    (λ reporter. inr ((λ other. other (eqb-true _ _ media)), inr ((λ other. other (eqb-true _ _ reporter)), nacks_in_order s nacks)))
+    (λ other. inr ((λ differs. differs (eqb-true _ _ media)), inl (eqb-false _ _ other, refl))))
     (λ other. inl (eqb-false _ _ other, refl))
 
 -- the laws of feedback datagrams that this stands on
