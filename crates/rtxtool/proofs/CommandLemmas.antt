@@ -1,10 +1,11 @@
 -- The command line of the program, and what `clap` says of it.
-use Rattle.std.proofs.Common.{ℕ, [], ◌∷◌, nat_eq, ◌≡◌, ◌≢◌, ap₂, sym, subst, refl, inl, inr, Bool, true, false, not, ◌&&◌, List, Some, None, option_map, codes}
+use Rattle.std.proofs.Common.{ℕ, [], ◌∷◌, nat_eq, ◌≡◌, ◌≢◌, ◌∙◌, ap, ap₂, sym, subst, refl, inl, inr, Bool, true, false, not, ◌&&◌, List, Option, Some, None, Result, Ok, Err, option_map, codes}
+use Rattle.std.specs.Prelude.{IfErr}
 use Rattle.std.proofs.lemmas.Bool.{ne_eqb}
 use Rattle.std.proofs.lemmas.Option.{same_Some}
 use Rattle.std.specs.Box.{box_value}
 use Rattle.clap.proofs.OnLiterals.{clap_on_literals}
-use Rattle.clap.specs.Words.{App, app_of, HasKind, IsAmong, Row, Text, fault_of, is_simple_and_free, kind_of, subcommand_name_of, subcommand_rows, subcommand_rows_of, takes}
+use Rattle.clap.specs.Words.{App, app_of, HasKind, HasMatchesOf, IsAmong, Row, Text, fault_of, is_simple, is_simple_and_free, kind_of, subcommand_name_of, subcommand_of, subcommand_rows, subcommand_rows_of, takes}
 use Rattle.clap.specs.declared.builder.command.Command.{Command}
 use Rattle.clap.specs.declared.builder.command.Command.TheViews.{out-Command}
 use Rattle.clap.specs.Walk.{is_empty}
@@ -14,7 +15,10 @@ use Rattle.clap.specs.declared.parser.matches.ArgMatches.{ArgMatches}
 use Rattle.clap.specs.declared.parser.matches.ArgMatches.TheViews.{out-ArgMatches, out-SubCommand}
 use Rattle.clap.specs.Takes.{walk_passes}
 use Rattle.clap.specs.Walk.{walked}
-use Rattle.rtxtool.specs.CommandLine.{Shows, Sims, asked, tool}
+use Rattle.rtxtool.specs.declared.command_line.Choice.{Choice}
+use Rattle.rtxtool.specs.declared.command_line.ChooseFault.{ChooseFault}
+use Rattle.rtxtool.specs.declared.command_line.ChooseFault.TheVariants.{Line, Value, OutOfMemory as NoMemory}
+use Rattle.rtxtool.specs.CommandLine.{Asked, Misses, MissesIn, Shows, Sims, asked, asked_in, tool}
 
 tool_is_simple : is_simple_and_free tool ≡ true
 unfolding clap_on_literals
@@ -31,6 +35,27 @@ misses a words error is other kinds passes =
     let kind = subst (λ (b : App). is_simple_and_free b ≡ true → HasKind (fault_of b words) error) is kinds in
     let taken = subst (λ (b : App). takes b words ≡ true → kind_of error ≡ OutOfMemory) is passes in
     (elim (kind tool_is_simple) [ inl want ↦ absurd (other want) | inr among ↦ among ], is_false (takes tool words) (λ yes. other (taken yes)))
+
+lacks : (words : List Text) (found : Option Asked) (fault : ChooseFault) → fault_of tool words ≡ [] → asked words ≡ found → MissesIn found fault → Misses words fault
+lacks words found (Line error) taken same h = absurd h
+lacks words found Value taken same h = (taken, same ∙ h)
+lacks words found NoMemory taken same h = tt
+
+lacks_value : (words : List Text) (found : Option Asked) (r : Result Choice ChooseFault) → fault_of tool words ≡ [] → asked words ≡ found → IfErr r (MissesIn found) → IfErr r (Misses words)
+lacks_value words found (Ok choice) taken same h = tt
+lacks_value words found (Err fault) taken same h = lacks words found fault taken same h
+
+tool_is_plain : is_simple tool ≡ true
+unfolding clap_on_literals
+tool_is_plain = refl
+
+-- of a line that is taken only a value can be missing
+pub taken_lacks : (a : App) (words : List Text) (matches : ArgMatches) (r : Result Choice ChooseFault) → a ≡ tool → (is_simple_and_free a ≡ true → fault_of a words ≡ [])
+    → HasMatchesOf a words matches → IfErr r (MissesIn (asked_in (subcommand_rows_of matches))) → IfErr r (Misses words)
+taken_lacks a words matches r is kinds has h =
+    let fault : fault_of tool words ≡ [] = subst (λ (b : App). is_simple_and_free b ≡ true → fault_of b words ≡ []) is kinds tool_is_simple in
+    let met : subcommand_rows_of matches ≡ subcommand_of tool words = (subst (λ (b : App). HasMatchesOf b words matches) is has tool_is_plain).1 in
+    lacks_value words (asked_in (subcommand_rows_of matches)) r fault (ap asked_in (sym met)) h
 
 -- the rows of the subcommand that was met
 rows_are : (m : ArgMatches) (name : Text) (rows : List Row) → Some name ≡ subcommand_name_of m → Some rows ≡ option_map (λ p. p.1) (subcommand_rows_of m)

@@ -143,9 +143,13 @@ MissesIn found (Line error) = ⊥
 MissesIn found Value = found ≡ None
 MissesIn found OutOfMemory = Unit {0}
 
+-- the words have no mistake of the command line's form and ask for no help, and a value is missing or out of its bounds
+abbrev pub LacksValue : List Text → Type 0
+LacksValue words = (fault_of tool words ≡ []) × (asked words ≡ None)
+
 -- Why these words ask for nothing: a kind of mistake or of request that they have, for which they are not taken, or
--- a value that is missing or out of its bounds.
+-- a value that they lack.
 abbrev pub Misses : List Text → ChooseFault → Type 0
 Misses words (Line error) = IsAmong (kind_of error) (fault_of tool words) × (takes tool words ≡ false)
-Misses words Value = asked words ≡ None
+Misses words Value = LacksValue words
 Misses words OutOfMemory = Unit {0}

@@ -20,7 +20,7 @@ use Rattle.rtxtool.specs.declared.tell.ToolFault.{ToolFault}
 use Rattle.rtxtool.specs.declared.tell.ToolFault.TheVariants.{Choose, Sim, Show, Pack}
 use Rattle.rtxtool.specs.declared.tell.ToolFault.TheVariants as tool_fault
 use Rattle.rtxtool.specs.CommandLine as asks
-use Rattle.rtxtool.specs.CommandLine.{Asked, Sims, Shows, Packs, Soaks, asked, tool}
+use Rattle.rtxtool.specs.CommandLine.{Asked, LacksValue, Sims, Shows, Packs, Soaks, asked, tool}
 use Rattle.commands.specs.DropList.{drops_of}
 use Rattle.commands.specs.Loopback.{Loops}
 use Rattle.commands.specs.Pack.{WroteNone, WrotePacking}
@@ -102,7 +102,7 @@ Succeeds files words old new = AsksForHelp words ⊎ AskFor words (λ said. Does
 pub record Ends (status : ℕ) (files : Files) (words : List Text) (old new : Option (List ℕ)) : Type 0 where
   pub done : status ≡ 0 → Succeeds files words old new
   pub refused : status ≡ 1 → AskFor words (λ said. Refuses said files old new)
-  pub command_line : status ≡ 2 → (takes tool words ≡ false) ⊎ (asked words ≡ None)
+  pub command_line : status ≡ 2 → (takes tool words ≡ false) ⊎ LacksValue words
   pub others : (status ≡ 0) ⊎ (status ≡ 1) ⊎ (status ≡ 2) ⊎ (status ≡ 3) ⊎ (status ≡ 4)
 
 -- ---- the same of a fault that is still to be told
@@ -131,5 +131,5 @@ Fails (Show (Frame fault number)) files words old new = AskFor words (λ said. R
 Fails (Pack NotRising) files words old new = AskFor words (λ said. Refuses said files old new)
 Fails (tool_fault.List BadList) files words old new = AskFor words (λ said. Refuses said files old new)
 Fails (Choose (Line error)) files words old new = takes tool words ≡ false
-Fails (Choose Value) files words old new = asked words ≡ None
+Fails (Choose Value) files words old new = LacksValue words
 Fails _ files words old new = Unit {0}
