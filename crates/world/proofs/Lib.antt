@@ -22,3 +22,4 @@ mod Mends
 mod Rounds
 mod RoundSteps
 pub mod ScheduleSteps
+mod Played

@@ -1,6 +1,8 @@
 -- The headline: what a close and honest log promises.
-use Rattle.std.specs.Prelude.{◌≡◌, ℕ, ◌*◌, List, take, reverse}
+use Rattle.std.specs.Prelude.{◌≡◌, ℕ, ◌*◌, List, ◌∷◌, take, reverse}
+use Rattle.receiver.specs.declared.answer.Played.{Played as Play_answer}
 use Rattle.world.specs.declared.event.Entry.{Entry}
+use Rattle.world.specs.declared.event.Entry.TheVariants.{Played}
 use Rattle.world.specs.Config.{Config}
 use Rattle.world.specs.Answers.{Stand}
 use Rattle.world.specs.Reading.{IsRising, IsFinal}
@@ -29,3 +31,8 @@ pub record PlaysRightly (c : Config) (log : List Entry) (end : Stand) : Type 0 w
   pub beginnings :
       (n : ℕ) → IsClose (reverse (take n log)) → IsHonest (reverse (take n log))
       → (mid : Stand) × IsLogged c (take n log) mid × IsGood c (reverse (take n log)) mid
+
+-- what a play may answer after this log: its entry is in order, right and justified
+abbrev pub MayPlay : Config → List Entry → (now : ℕ) → Play_answer → Type 0
+MayPlay c past now answer =
+    IsRising c (Played now answer ∷ past) × IsRight c (Played now answer ∷ past) × IsJustified c (Played now answer ∷ past)

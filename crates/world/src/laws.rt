@@ -8,7 +8,8 @@ ghost use Rattle.world.specs.Reading.{repairs_of, IsRising, IsFinal, IsStrictlyR
 ghost use Rattle.world.specs.Wire.{IsFaithful, SpellsLabel};
 ghost use Rattle.world.specs.Close.{IsClose, IsHonest};
 ghost use Rattle.world.specs.Reach.{highest_taken, shift_of};
-ghost use Rattle.world.specs.Good.{IsGood, PlaysRightly};
+ghost use Rattle.world.specs.Good.{IsGood, PlaysRightly, MayPlay};
+ghost use Rattle.receiver.specs.declared.answer.Played.{Played as Play_answer};
 ghost use Rattle.world.specs.World.{stand_of};
 ghost use Rattle.world.specs.Round.{Adds, IsRound, IsMarkedUpTo, IsMendable, IsMended};
 
@@ -107,3 +108,8 @@ pub fn stores_make_no_difference<H: History, W: Window, I: History, V: Window>(
 {
     answers_are_determined();
 }
+
+/// The log before a play determines what it answers: at most one answer is in order, right and justified.
+pub fn plays_are_determined()
+    ensures { (c : Config) (past : List Entry) (now : ℕ) (one other : Play_answer) → MayPlay c past now one → MayPlay c past now other → one ≡ other }
+{}
