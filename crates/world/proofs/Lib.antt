@@ -23,3 +23,6 @@ mod Rounds
 mod RoundSteps
 pub mod ScheduleSteps
 mod Played
+mod OneListing
+mod SameWindows
+mod SamePlaces

@@ -31,7 +31,7 @@ pub record Found (repeats : ℕ) (old : History) (q : ℕ) (e : HistoryEntry) : 
   pub counted : was.repeats ≡ e.repeats
   pub allowed : e.marked ≡ true → (was.marked ≡ true) ⊎ (was.repeats < repeats)
 
-can_be_marked : (repeats : ℕ) (o : Option HistoryEntry) → CanBeMarked repeats o ⊎ (CanBeMarked repeats o → ⊥)
+pub can_be_marked : (repeats : ℕ) (o : Option HistoryEntry) → CanBeMarked repeats o ⊎ (CanBeMarked repeats o → ⊥)
 can_be_marked repeats None = inr (λ never. never)
 can_be_marked repeats (Some e) = ⊎_elim (λ less. inl less) (λ h. inr (λ less. omega (arith, h, less))) (cases_lt e.repeats repeats)
 

@@ -1,5 +1,5 @@
 -- The log before a play determines what is played.
-use Rattle.std.proofs.Common.{◌≡◌, ℕ, ◌+◌, List, ◌∷◌, Some, refl, sym, ap, subst, ◌∙◌, arith, slice_get}
+use Rattle.std.proofs.Common.{◌≡◌, ℕ, ◌+◌, List, Some, refl, sym, ap, subst, ◌∙◌, arith, slice_get}
 use Rattle.std.proofs.lemmas.Option.{same_Some}
 use Rattle.rtpwire.specs.declared.content.Content.{Content}
 use Rattle.receiver.specs.declared.answer.Played.{Played as Play_answer}
@@ -11,7 +11,7 @@ use Rattle.world.specs.Reach.{shift_of, IsReached}
 use Rattle.world.specs.Justified.{IsWaitFor}
 use Rattle.world.specs.Good.{MayPlay}
 
-one_content : (c : Config) (past : List Entry) (p q : ℕ) (a b : Content) → p ≡ q → WasSent c past p a → WasSent c past q b → a ≡ b
+pub one_content : (c : Config) (past : List Entry) (p q : ℕ) (a b : Content) → p ≡ q → WasSent c past p a → WasSent c past q b → a ≡ b
 one_content c past p q a b same x y =
     let i = x.1 in let j = y.1 in
     let counts : x.0 ≡ y.0 = omega (arith, same) in

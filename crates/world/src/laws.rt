@@ -6,7 +6,8 @@ ghost use Rattle.world.specs.Config.{Config, IsConfig};
 ghost use Rattle.world.specs.Answers.{Item, Stand, Answers};
 ghost use Rattle.world.specs.Reading.{repairs_of, IsRising, IsFinal, IsStrictlyRising};
 ghost use Rattle.world.specs.Wire.{IsFaithful, SpellsLabel};
-ghost use Rattle.world.specs.Close.{IsClose, IsHonest};
+ghost use Rattle.world.specs.Close.{IsClose, IsHonest, IsUninjected};
+ghost use Rattle.world.specs.PlaceRun.{PlaceWorld, PlaceRun};
 ghost use Rattle.world.specs.Reach.{highest_taken, shift_of};
 ghost use Rattle.world.specs.Good.{IsGood, PlaysRightly, MayPlay};
 ghost use Rattle.receiver.specs.declared.answer.Played.{Played as Play_answer};
@@ -14,7 +15,7 @@ ghost use Rattle.world.specs.World.{stand_of};
 ghost use Rattle.world.specs.Round.{Adds, IsRound, IsMarkedUpTo, IsMendable, IsMended};
 
 use crate::world::World;
-use fbwire::{compound_is_determined, nack_is_determined};
+use fbwire::{compound_is_determined, nack_is_determined, packing_is_determined};
 use receiver::{asking_is_determined, hearing_is_determined, playing_is_determined};
 use sender::{feedback_is_determined, repairing_is_determined, sending_is_determined};
 use stores::{History, Window};
@@ -113,3 +114,13 @@ pub fn stores_make_no_difference<H: History, W: Window, I: History, V: Window>(
 pub fn plays_are_determined()
     ensures { (c : Config) (past : List Entry) (now : ℕ) (one other : Play_answer) → MayPlay c past now one → MayPlay c past now other → one ≡ other }
 {}
+
+/// Without injections a log determines what it leaves: it is a run over places to at most one end, which has one sender, one
+/// receiver and the labels of one wire. (What is injected at the sender may mark for any numbers, and no entry tells which.)
+pub fn runs_are_determined()
+    ensures { (c : Config) (past : List Entry) → IsUninjected past → (one other : PlaceWorld) → PlaceRun c past one → PlaceRun c past other → one ≡ other }
+{
+    compound_is_determined();
+    packing_is_determined();
+    playing_is_determined();
+}

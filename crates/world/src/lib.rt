@@ -14,7 +14,8 @@ pub use config::Config;
 pub use event::{Answer, End, Entry, Event, Label};
 pub use laws::{
     answers_are_determined, logs_are_good, logs_are_in_order, plays_are_determined,
-    repeats_are_limited, rounds_mend, stores_make_no_difference, wires_are_faithful,
+    repeats_are_limited, rounds_mend, runs_are_determined, stores_make_no_difference,
+    wires_are_faithful,
 };
 pub use scheduling::{numbered_content, schedule};
 pub use world::{World, run};
