@@ -1,6 +1,6 @@
 -- The headline, put together.
-use Rattle.std.proofs.Common.{◌≡◌, List, [], ◌∷◌, ◌++◌, take, drop, reverse, sym, ap, subst, ◌∙◌}
-use Rattle.std.proofs.lemmas.List.{reverse-append, reverse-reverse, take-append-drop}
+use Rattle.std.proofs.Common.{◌≡◌, ℕ, suc, ◌-◌, List, [], ◌∷◌, ◌++◌, length, take, drop, reverse, refl, sym, ap, subst, ◌∙◌, arith}
+use Rattle.std.proofs.lemmas.List.{reverse-append, reverse-reverse, take-append-drop, length-reverse, length-drop}
 use Rattle.world.specs.declared.event.Event.{Event}
 use Rattle.world.specs.declared.event.Entry.{Entry}
 use Rattle.world.specs.declared.event.Entry.TheVariants.{Sent, SendRefused, Repaired, NoRepair, Asked, NoAsk, Nothing, Delivered, Injected, Played}
@@ -13,11 +13,32 @@ use Rattle.world.proofs.Order.{AnyHearing, ordered}
 use Rattle.world.proofs.Right.{goes, shift_is_whole}
 use Rattle.world.proofs.Simulates.{Laws, simulates}
 
--- what came before answers earlier events
-beginning : (c : Config) (later earlier : List Entry) (events : List Event) (end : Stand) → Answers c events (later ++ earlier) end → (first : List Event) × (mid : Stand) × Answers c first earlier mid
-beginning c [] earlier events end answers = (events, end, answers)
-beginning c (entry ∷ later) earlier [] end never = absurd never
-beginning c (entry ∷ later) earlier (event ∷ events) end (old, answers, step) = beginning c later earlier events old answers
+-- each event has one entry
+as_many : (c : Config) (events : List Event) (past : List Entry) (end : Stand) → Answers c events past end → length events ≡ length past
+as_many c [] [] end answers = refl
+as_many c [] (entry ∷ past) end never = absurd never
+as_many c (event ∷ events) [] end never = absurd never
+as_many c (event ∷ events) (entry ∷ past) end (old, answers, step) = ap suc (as_many c events past old answers)
+
+-- without as many of the last events and of the last entries, what came before answers the events before
+before : (c : Config) (last first : List Event) (later earlier : List Entry) (end : Stand) → length last ≡ length later → Answers c (last ++ first) (later ++ earlier) end →
+    (mid : Stand) × Answers c first earlier mid
+before c [] first [] earlier end same answers = (end, answers)
+before c [] first (entry ∷ later) earlier end same answers = absurd (omega (arith, same))
+before c (event ∷ last) first [] earlier end same answers = absurd (omega (arith, same))
+before c (event ∷ last) first (entry ∷ later) earlier end same (old, answers, step) = before c last first later earlier old (omega (arith, same)) answers
+
+-- a list, its last part first
+parted : {A : Type 0} (n : ℕ) (xs : List A) → reverse xs ≡ reverse (drop n xs) ++ reverse (take n xs)
+parted n xs = ap reverse (sym (take-append-drop n xs)) ∙ reverse-append (take n xs) (drop n xs)
+
+-- the first n entries answer the first n events
+first_answers : (c : Config) (events : List Event) (log : List Entry) (end : Stand) (n : ℕ) → Answers c (reverse events) (reverse log) end → (mid : Stand) × Answers c (reverse (take n events)) (reverse (take n log)) mid
+first_answers c events log end n answers =
+    let count = sym (length-reverse events) ∙ as_many c (reverse events) (reverse log) end answers ∙ length-reverse log in
+    let same = length-reverse (drop n events) ∙ length-drop n events ∙ ap (λ k. k - n) count ∙ sym (length-drop n log) ∙ sym (length-reverse (drop n log)) in
+    before c (reverse (drop n events)) (reverse (take n events)) (reverse (drop n log)) (reverse (take n log)) end same
+    (subst (λ (x : List Event × List Entry). Answers c x.0 x.1 end) (λ i. (parted n events i, parted n log i)) answers)
 
 module _ (any : AnyHearing) (laws : Laws) where
   pub good : (c : Config) → IsConfig c → (events : List Event) (past : List Entry) (end : Stand) → Answers c events past end → IsClose past → IsHonest past → IsGood c past end
@@ -38,14 +59,11 @@ module _ (any : AnyHearing) (laws : Laws) where
   pub plays_rightly : (c : Config) → IsConfig c → (events : List Event) (log : List Entry) (end : Stand) → Answers c events (reverse log) end → PlaysRightly c log end
   plays_rightly c met events log end answers =
       record {
+        logged = record { events = reverse events; answers = subst (λ (x : List Event). Answers c x (reverse log) end) (sym (reverse-reverse events)) answers };
         whole = good c met events (reverse log) end answers;
-        beginnings = λ n close honest.
-            let split : reverse log ≡ reverse (drop n log) ++ reverse (take n log) = ap reverse (sym (take-append-drop n log)) ∙ reverse-append (take n log) (drop n log) in
-            let begun = beginning c (reverse (drop n log)) (reverse (take n log)) events end (subst (λ (past : List Entry). Answers c events past end) split answers) in (
-              begun.1,
-              record { events = reverse begun.0; answers = subst (λ (x : List Event). Answers c x (reverse (take n log)) begun.1) (sym (reverse-reverse begun.0)) begun.2 },
-              good c met begun.0 (reverse (take n log)) begun.1 begun.2 close honest,
-            );
+        beginnings = λ others answered n close honest.
+            let begun = first_answers c others log end n answered in
+            (begun.0, begun.1, good c met (reverse (take n others)) (reverse (take n log)) begun.0 begun.1 close honest);
       }
 
 -- a log with no injection is honest

@@ -1,10 +1,11 @@
 -- The headline: what a close and honest log promises.
 use Rattle.std.specs.Prelude.{◌≡◌, ℕ, ◌*◌, List, ◌∷◌, take, reverse}
 use Rattle.receiver.specs.declared.answer.Played.{Played as Play_answer}
+use Rattle.world.specs.declared.event.Event.{Event}
 use Rattle.world.specs.declared.event.Entry.{Entry}
 use Rattle.world.specs.declared.event.Entry.TheVariants.{Played}
 use Rattle.world.specs.Config.{Config}
-use Rattle.world.specs.Answers.{Stand}
+use Rattle.world.specs.Answers.{Stand, Answers}
 use Rattle.world.specs.Reading.{IsRising, IsFinal}
 use Rattle.world.specs.Reach.{shift_of}
 use Rattle.world.specs.Close.{IsClose, IsHonest}
@@ -25,12 +26,15 @@ pub record IsGood (c : Config) (past : List Entry) (end : Stand) : Type 0 where
   pub refusals : IsRefusedLawfully c past
 
 -- Each beginning of the log, the oldest entry first, is good if it is close and honest: so no entry makes an
--- earlier one wrong. What such a beginning left is what it leaves as the answer to the events up to there.
+-- earlier one wrong. Whatever events the log answers (there are some), its first n entries answer the first n of
+-- them, and what such a beginning left is what these answers leave.
 pub record PlaysRightly (c : Config) (log : List Entry) (end : Stand) : Type 0 where
+  pub logged : IsLogged c log end
   pub whole : IsClose (reverse log) → IsHonest (reverse log) → IsGood c (reverse log) end
   pub beginnings :
-      (n : ℕ) → IsClose (reverse (take n log)) → IsHonest (reverse (take n log))
-      → (mid : Stand) × IsLogged c (take n log) mid × IsGood c (reverse (take n log)) mid
+      (events : List Event) → Answers c (reverse events) (reverse log) end → (n : ℕ)
+      → IsClose (reverse (take n log)) → IsHonest (reverse (take n log))
+      → (mid : Stand) × Answers c (reverse (take n events)) (reverse (take n log)) mid × IsGood c (reverse (take n log)) mid
 
 -- what a play may answer after this log: its entry is in order, right and justified
 abbrev pub MayPlay : Config → List Entry → (now : ℕ) → Play_answer → Type 0

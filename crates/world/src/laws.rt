@@ -53,11 +53,11 @@ pub fn repeats_are_limited()
     feedback_is_determined();
 }
 
-/// Whatever events a log answers, if it is close and honest it is good, and so is each beginning of it that is. It
-/// is a run over places that leaves both ends as they are; each packet played is what was sent at its place, and had
-/// come; each gap and each wait has its cause; no packet is refused but for coming before the start, from too far,
-/// too late, twice, or where its SSRC is to be learnt unasked, and no feedback is refused. What is injected at the
-/// sender makes no difference.
+/// Whatever events a log answers, if it is close and honest it is good, and so is each beginning of it that is, which
+/// answers as many of the first events. It is a run over places that leaves both ends as they are; each packet played
+/// is what was sent at its place, and had come; each gap and each wait has its cause; no packet is refused but for
+/// coming before the start, from too far, too late, twice, or where its SSRC is to be learnt unasked, and no feedback
+/// is refused. What is injected at the sender makes no difference.
 pub fn logs_are_good()
     ensures good { (c : Config) → IsConfig c → (events : List Event) (past : List Entry) (end : Stand) → Answers c events past end → IsClose past → IsHonest past → IsGood c past end }
     ensures beginnings { (c : Config) → IsConfig c → (events : List Event) (log : List Entry) (end : Stand) → Answers c events (reverse log) end → PlaysRightly c log end }

@@ -87,7 +87,7 @@ impl<H: History, W: Window> World<H, W> {
         ensures faithful { OnOk result (IsFaithful self.new.config (reverse self.new.log) self.new.wire) }
         // No place is retransmitted more often than the configuration allows.
         ensures repeats { OnOk result ((place : ℕ) → repairs_of place (reverse self.new.log) ≤ self.new.config.repeats) }
-        // Each beginning of the log that is close and honest is good.
+        // Each beginning of the log that is close and honest is good, and answers the first of the events.
         ensures good { OnOk result (PlaysRightly self.new.config self.new.log (stand_of self.new)) }
     {
         logs_are_in_order();
@@ -187,8 +187,8 @@ pub fn run<H: History, W: Window>(
     ensures faithful { IfOk result (λ world. IsFaithful config.now (reverse world.log) world.wire) }
     // No place is retransmitted more often than the configuration allows.
     ensures repeats { IfOk result (λ world. (place : ℕ) → repairs_of place (reverse world.log) ≤ config.now.repeats) }
-    // The headline: each beginning of the log that is close and honest is good. The receiver plays what was
-    // sent at each place, gives up and waits for cause alone, and refuses lawfully.
+    // The headline: each beginning of the log that is close and honest is good, and answers the first of these
+    // events. The receiver plays what was sent at each place, gives up and waits for cause alone, and refuses lawfully.
     ensures good { IfOk result (λ world. PlaysRightly config.now world.log (stand_of world)) }
 {
     logs_are_in_order();
