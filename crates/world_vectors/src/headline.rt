@@ -66,6 +66,28 @@ fn an_injection(rt: HostRuntime) -> Result<(), Fail> {
     Ok(())
 }
 
+/// Where feedback was injected at the sender, whether it was refused or not, `close` is false too. It does no harm.
+#[test]
+fn an_injection_at_the_sender(rt: HostRuntime) -> Result<(), Fail> {
+    let nack = b"\x81\xcd\x00\x03\x33\x33\x33\x33\x11\x11\x11\x11\x00\x01\x00\x00";
+    for (injected, want) in [
+        (Row::Feedback(b""), ("refused", 11, 0)),
+        (Row::Feedback(nack), ("marked", 1, 0)),
+    ] {
+        let mut world = world(rt.alloc(), 1, 8)?;
+        for (row, want, close) in [
+            (Row::Send(b"\xaa"), ("sent", 65537, 0), true),
+            (injected, want, false),
+            (Row::Deliver(0, 0), ("taken", 65537, 0), false),
+            (Row::Play(0), ("play", 65537, 0), false),
+        ] {
+            shows(&mut world, &[(row, want)])?;
+            assert_eq!(rt; world.close(), close);
+        }
+    }
+    Ok(())
+}
+
 /// A content that has something in each of its parts.
 fn full_content() -> Result<Content, Fail> {
     let sources = ArrayVec::try_from([7, 8].as_slice())

@@ -16,6 +16,8 @@ mod long_run;
 #[cfg(test)]
 mod missing;
 #[cfg(test)]
+mod rounds;
+#[cfg(test)]
 mod schedules;
 #[cfg(test)]
 mod scripts;

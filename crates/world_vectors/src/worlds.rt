@@ -177,6 +177,8 @@ fn the_laws_of_worlds() {
     answers_are_determined();
     logs_are_good();
     logs_are_in_order();
+    plays_are_determined();
+    runs_are_determined();
     wires_are_faithful();
 }
 
