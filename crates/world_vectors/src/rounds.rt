@@ -1,5 +1,6 @@
 //! What a round of `World::settle` mends, and what it needs for that: each premise of its promise fails alone in a row
-//! here, and a place stays missing. Then rounds of several asks.
+//! here, and a place stays missing. Then rounds of several asks. Rows with 65542 sends need more than the usual time where
+//! each access is checked, under `rt try --test`: `--seconds 600`.
 
 use crate::scripts::{config, event};
 use crate::settles::{Settled, settles_in_both};
