@@ -2,9 +2,13 @@
 #![tactic(auto)]
 
 #[cfg(test)]
+mod counter;
+#[cfg(test)]
 mod drives;
 #[cfg(test)]
 mod growths;
+#[cfg(test)]
+mod logs;
 #[cfg(test)]
 mod memory;
 #[cfg(test)]

@@ -1,6 +1,7 @@
 //! Drawn runs.
 ghost use Rattle.std.specs.Prelude.{◌≤◌};
 
+use crate::counter::Counter;
 use rand_core::SeedableRng;
 use rand_pcg::Lcg64Xsh32;
 use runs::{Tally, soak, soak_seed};
@@ -77,5 +78,26 @@ fn runs_of_twenty_seeds(rt: HostRuntime) -> Result<(), Fail> {
         differ = differ || tally != first;
     }
     assert!(rt; differ);
+    Ok(())
+}
+
+/// A run that shows how many packets a block has. The words are 999, 1000, .., so at a loss of 900 in 1000 packet 0 comes, 1
+/// to 900 are lost, 901 to 1000 come, 1001 to 1900 are lost, 1901 to 2000 come, and 2001 to 2047 are lost.
+///
+/// The fourth block ends with packet 1023: the history, of 1024 packets, has all of 1 to 900, and they are repaired. The
+/// eighth, from 1792 on, ends with 2047: the history then begins with 1024, so 1024 to 1900 are repaired, 877 packets, and
+/// the receiver waits for 1001, which is not there any more. Shorter blocks repair more of them.
+#[test]
+fn a_run_that_shows_its_blocks(rt: HostRuntime) -> Result<(), Fail> {
+    let expected = Tally {
+        sent: 2048,
+        dropped: 1847,
+        repaired: 1777,
+        played: 1001,
+        gaps: 0,
+    };
+    let mut rng = Counter(999);
+    let tally = soak::<Counter, RingHistory, RingWindow>(rt.alloc(), &mut rng, 2048, 900);
+    assert!(rt; tally == Ok(expected));
     Ok(())
 }

@@ -1,0 +1,43 @@
+//! A generator whose words count on.
+ghost use Rattle.std.specs.Prelude.{ℕ, ◌+◌, ◌%◌, ◌^◌};
+ghost use Rattle.rand_core.specs.Steps.{stream_of, steps_u32};
+
+use rand_core::Rng;
+use rand_core::utils::{self, NextWord};
+use std::marker::Model;
+
+/// The next word is this number, and the number after it the one behind that.
+#[derive(Drop)]
+pub struct Counter(pub u32);
+
+impl Model for Counter {
+    ghost Value = { ℕ };
+
+    ghost view = { λ counter. counter.0 };
+}
+
+impl NextWord<u32> for Counter {
+    ghost step = { λ word. (word, (word + 1) % 2 ^ 32) };
+
+    fn next_word(&mut self) -> u32 {
+        let word = self.0;
+        self.0 = word.wrapping_add(1);
+        word
+    }
+}
+
+impl Rng for Counter {
+    ghost stream = { stream_of (steps_u32 (λ word. (word, (word + 1) % 2 ^ 32))) };
+
+    fn next_u32(&mut self) -> u32 {
+        self.next_word()
+    }
+
+    fn next_u64(&mut self) -> u64 {
+        utils::next_u64_via_u32(self)
+    }
+
+    fn fill_bytes(&mut self, dst: &mut [u8]) {
+        utils::fill_bytes_via_u32(self, dst)
+    }
+}
