@@ -48,8 +48,7 @@
  *     as many octets as the `length` or `room` beside it says. What is read through it was written before.
  *   - No two of a call's pointers overlap, and nobody else reads or writes what they point to while the call runs. What
  *     a pointer to const points to is not written by the call.
- *   - malloc, realloc and free belong to one allocator, which aligns a block to each power of two up to 16 that divides
- *     its size.
+ *   - malloc and free belong to one allocator, which aligns a block to each power of two up to 16 that divides its size.
  *   - No call is made from a signal handler, nor in the forked child of a process with threads.
  */
 #ifndef GOZDRIT_H

@@ -5,8 +5,8 @@ use places::PlaceFault;
 use rtpwire::{ContentFault, RtpFault};
 use stores::PutFault;
 
-/// Why a receiver refuses a datagram: the first check that it fails, in this order. The receiver is then
-/// as it was.
+/// Why a receiver refuses a datagram: the first check that it fails, in this order (6 comes behind 32). The
+/// receiver is then as it was.
 #[derive(Clone, Copy, Debug, PartialEq, Eq, Hash)]
 pub enum ReceiveFault {
     /// The octets are no RTP packet (1 to 5), or a retransmission has no original sequence number (6).

@@ -148,8 +148,8 @@ impl<W: Window> Receiver<W> {
         ask_from(&mut self.window, &self.config, now)
     }
 
-    /// How many places are missing: above the next one to play, below the highest one that was taken, and
-    /// not held.
+    /// How many places are missing: from the next one to play up to the highest one that was taken, those that
+    /// are not held.
     pub fn missing(&self) -> usize
         ensures { CountsMissing (state_of self.now) result }
     {
