@@ -6,7 +6,6 @@ use Rattle.std.specs.Option.{option_map}
 use Rattle.places.specs.Place.{number}
 use Rattle.rtpwire.specs.declared.content.Content.{Content}
 use Rattle.stores.specs.declared.entry.HistoryEntry.{HistoryEntry}
-use Rattle.stores.specs.Past.{fresh, marked, repeated}
 use Rattle.stores.specs.PastByPlace.{is_marked}
 use Rattle.stores.specs.PlaceLists.{Lists}
 
@@ -19,12 +18,24 @@ pub record History : Type 0 where
 abbrev pub new_history : (first repair_first : ℕ) → History
 new_history first repair_first = record { next = 65536 + first; repair = repair_first; entries = λ q. None }
 
+-- the entry of a content that was just sent: neither repeated nor marked
+abbrev pub sent_entry : (place : ℕ) → Content → HistoryEntry
+sent_entry place content = record { place = place; content = content; repeats = 0; marked = false }
+
+-- an entry that is to be retransmitted
+abbrev pub to_repeat : HistoryEntry → HistoryEntry
+to_repeat entry = record entry { marked = true }
+
+-- an entry that was retransmitted once more, and is not to be again
+abbrev pub once_more : HistoryEntry → HistoryEntry
+once_more entry = record entry { repeats = entry.repeats + 1; marked = false }
+
 -- A content is sent: the next place has its entry, neither repeated nor marked. There is room for so many
 -- entries, so those of places further below go, with their marks.
 pub record Sends (room : ℕ) (old : History) (content : Content) (new : History) : Type 0 where
   pub next : new.next ≡ old.next + 1
   pub repair : new.repair ≡ old.repair
-  pub sent : new.entries old.next ≡ Some (fresh old.next content)
+  pub sent : new.entries old.next ≡ Some (sent_entry old.next content)
   pub gone : (q : ℕ) → q + room < new.next → new.entries q ≡ None
   pub others : (q : ℕ) → q ≢ old.next → new.next ≤ q + room → new.entries q ≡ old.entries q
 
@@ -41,7 +52,7 @@ becomes_marked before after = is_marked after && not (is_marked before)
 pub record Marks (repeats : ℕ) (named : ℕ → Type 0) (old : History) (count : ℕ) (new : History) : Type 0 where
   pub next : new.next ≡ old.next
   pub repair : new.repair ≡ old.repair
-  pub marks : (q : ℕ) → named (number q) → CanBeMarked repeats (old.entries q) → new.entries q ≡ option_map marked (old.entries q)
+  pub marks : (q : ℕ) → named (number q) → CanBeMarked repeats (old.entries q) → new.entries q ≡ option_map to_repeat (old.entries q)
   pub others : (q : ℕ) → (named (number q) → CanBeMarked repeats (old.entries q) → ⊥) → new.entries q ≡ old.entries q
   pub places : List ℕ
   pub listed : Lists places (λ q. becomes_marked (old.entries q) (new.entries q))
@@ -55,7 +66,7 @@ pub record Repairs (old : History) (place : ℕ) (entry : HistoryEntry) (new : H
   pub was : old.entries place ≡ Some entry
   pub marked : entry.marked ≡ true
   pub least : (q : ℕ) → q < place → is_marked (old.entries q) ≡ false
-  pub counted : new.entries place ≡ Some (repeated entry)
+  pub counted : new.entries place ≡ Some (once_more entry)
   pub others : (q : ℕ) → q ≢ place → new.entries q ≡ old.entries q
 
 -- no place is marked

@@ -1,4 +1,4 @@
-ghost use Rattle.std.specs.Prelude.{◌≡◌, ◌+◌, ◌-◌, ◌^◌, ◌<◌, ◌≤◌, IsSome, length, drop, slice_get};
+ghost use Rattle.std.specs.Prelude.{◌≡◌, ◌+◌, ◌-◌, ◌/◌, ◌^◌, ◌<◌, ◌≤◌, IsSome, length, drop, slice_get};
 ghost use Rattle.stores.specs.Past.{IsRun, entry_of};
 ghost use Rattle.stores.specs.PastByPlace.{is_marked};
 ghost use Rattle.stores.specs.Bits.{bits_of, IsSetOf};
@@ -30,6 +30,7 @@ pub struct RingHistory {
     ghost run: { IsRun first entries.items },
     ghost ends: { first + length entries.items ≤ 2 ^ 48 },
     ghost wide: { entries.capacity < bits_of marks.words.items },
+    ghost exact: { length marks.words.items ≡ entries.capacity / 64 + 1 },
     ghost agree: { IsSetOf is_marked marks.words.items marks.front entries.items },
 }
 

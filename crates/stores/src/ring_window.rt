@@ -1,4 +1,4 @@
-ghost use Rattle.std.specs.Prelude.{◌≡◌, ℕ, ◌+◌, ◌^◌, ◌<◌, ◌≤◌, ◌++◌, length, take, drop, replicate};
+ghost use Rattle.std.specs.Prelude.{◌≡◌, ℕ, ◌+◌, ◌/◌, ◌^◌, ◌<◌, ◌≤◌, ◌++◌, length, take, drop, replicate};
 ghost use Rattle.std.specs.List.{filter, range_with_len};
 ghost use Rattle.std.specs.Option.{ForSome, ForNone};
 ghost use Rattle.stores.specs.Put.{noticed_at};
@@ -34,6 +34,7 @@ pub struct RingWindow {
     ghost unstarted: { ForNone cursor (length slots.items ≡ 0) },
     ghost started: { ForSome cursor (λ k. (0 < k + length slots.items) × (k + length slots.items ≤ 2 ^ 48)) },
     ghost wide: { slots.capacity < bits_of missing.words.items },
+    ghost exact: { length missing.words.items ≡ slots.capacity / 64 + 1 },
     ghost index: { IsIndex missing.words.items missing.front slots.items },
 }
 
