@@ -84,35 +84,8 @@ fn named_numbers(rt: HostRuntime) -> Result<(), Fail> {
 }
 
 #[test]
-fn packed_places(rt: HostRuntime) -> Result<(), Fail> {
-    for (places, pairs, covered) in [
-        (&[1][..], &[(1, 0)][..], 1),
-        (&[1, 17], &[(1, 0x8000)], 2),
-        (&[1, 18], &[(1, 0), (18, 0)], 2),
-        (&[131071, 131072], &[(65535, 1)], 2),
-        (&[131071, 131073], &[(65535, 2)], 2),
-        (&[1, 2, 18], &[(1, 1), (18, 0)], 3),
-        (
-            &[
-                100, 101, 102, 103, 104, 105, 106, 107, 108, 109, 110, 111, 112, 113, 114, 115, 116,
-            ],
-            &[(100, 65535)],
-            17,
-        ),
-        (&[], &[], 0),
-    ] {
-        let (found, count) = packing(places)?;
-        assert_eq!(rt; count, covered);
-        assert_eq!(rt; found.len(), pairs.len());
-        for (pair, want) in found.as_slice().iter().zip(pairs) {
-            assert_eq!(rt; (pair.pid, pair.blp), *want);
-        }
-    }
-    Ok(())
-}
-
-#[test]
 fn the_most_pairs(rt: HostRuntime) -> Result<(), Fail> {
+    assert_eq!(rt; packing(&[])?, (ArrayVec::new(), 0));
     let mut values = [0; 65];
     for index in 0..65 {
         values[index] = 17 * index as u64;
@@ -126,111 +99,11 @@ fn the_most_pairs(rt: HostRuntime) -> Result<(), Fail> {
 }
 
 #[test]
-fn written_nacks(rt: HostRuntime) -> Result<(), Fail> {
-    for (places, words) in [
-        (&[1][..], &[0x81cd0003, REPORTER, MEDIA, 0x00010000][..]),
-        (&[1, 17], &[0x81cd0003, REPORTER, MEDIA, 0x00018000]),
-        (
-            &[1, 18],
-            &[0x81cd0004, REPORTER, MEDIA, 0x00010000, 0x00120000],
-        ),
-        (
-            &[131071, 131072],
-            &[0x81cd0003, REPORTER, MEDIA, 0xffff0001],
-        ),
-    ] {
-        let (pairs, _) = packing(places)?;
-        if pairs.is_empty() {
-            return Err("some place gives some pair".into());
-        }
-        assert_eq!(rt; write_nack(REPORTER, MEDIA, &pairs), octets(words)?);
-    }
-    Ok(())
-}
-
-/// Compound datagrams that are refused with a number, as words and the octets after them.
-const REFUSED_COMPOUNDS: [(&[u32], &[u8], u8); 14] = [
-    (&[0x80c90001, REPORTER], &[], 14),
-    (&[0x80c90002, REPORTER], &[], 16),
-    (&[0x82cd0002, REPORTER, MEDIA], &[], 15),
-    (
-        &[0x81cd0003, REPORTER, MEDIA, 0x00010000],
-        &[0x81, 0, 0],
-        11,
-    ),
-    (
-        &[0x81cd0003, REPORTER, MEDIA, 0x00010000, 0x40c90000],
-        &[],
-        12,
-    ),
-    (&[], &[], 11),
-    (&[0x81cd0001, REPORTER], &[], 11),
-    (&[0x81cd0002, REPORTER, MEDIA], &[], 17),
-    // Each fails the check after it too.
-    (&[0x80c90001, REPORTER], &[0x41, 0xcd, 0], 11),
-    (&[0x61cd0003, REPORTER, MEDIA, 0x00010000], &[], 12),
-    (&[0xa1cd0004, REPORTER, MEDIA, 0x00010000], &[], 13),
-    (&[0x81cd0002, REPORTER], &[], 16),
-    // The first packet with a fault decides, and any fault before a want of NACKs.
-    (&[0x81cd0002, REPORTER, MEDIA, 0x40c90000], &[], 17),
-    (&[0x82cd0002, REPORTER, MEDIA, 0x40c90000], &[], 12),
-];
-
-/// The refusal number of these words, and of the octets after them, as a compound datagram, or 0 where it is read.
-fn refusal_of_compound(words: &[u32], rest: &[u8]) -> Result<u8, Fail> {
-    let mut octets = octets(words)?;
-    octets
-        .try_extend_from_slice(rest)
-        .map_err(|_| "a datagram holds them")?;
-    match Compound::read(&octets) {
-        Ok(_) => Ok(0),
-        Err(fault) => Ok(fault.number()),
-    }
-}
-
-#[test]
-fn refused_compounds(rt: HostRuntime) -> Result<(), Fail> {
-    for (words, rest, want) in REFUSED_COMPOUNDS {
-        assert_eq!(rt; refusal_of_compound(words, rest)?, want, "{words:?}");
-    }
-    Ok(())
-}
-
-#[test]
-fn compounds(rt: HostRuntime) -> Result<(), Fail> {
-    for (words, wanted) in [
-        (
-            &[
-                0x80c90001, REPORTER, 0x81cd0003, REPORTER, MEDIA, 0x00010000,
-            ][..],
-            &[(MEDIA, 1)][..],
-        ),
-        (
-            &[
-                0x81cd0003, REPORTER, MEDIA, 0x00010000, 0x81cd0003, REPORTER, MEDIA, 0x00020000,
-            ],
-            &[(MEDIA, 1), (MEDIA, 2)],
-        ),
-        (
-            &[
-                0x81cd0003, REPORTER, MEDIA, 0x00010000, 0x81cd0003, REPORTER, 0x44444444,
-                0x00020000,
-            ],
-            &[(MEDIA, 1), (0x44444444, 2)],
-        ),
-    ] {
-        let octets = octets(words)?;
-        let compound = Compound::read(&octets).map_err(|_| "it is read")?;
-        let mut nacks = compound.nacks();
-        for (media, number) in wanted {
-            let nack = nacks.next().ok_or("one more NACK")?;
-            assert_eq!(rt; nack.media(), *media);
-            let mut numbers = nack.numbers();
-            assert_eq!(rt; (numbers.next(), numbers.next()), (Some(*number), None));
-        }
-        assert!(rt; nacks.next().is_none());
-    }
-    Ok(())
+fn no_compound(rt: HostRuntime) {
+    assert_eq!(rt;
+        Compound::read(b"").map_err(|fault| fault.number()).err(),
+        Some(11)
+    );
 }
 
 #[test]

@@ -51,34 +51,6 @@ fn read(octets: &[u8]) -> Result<(u16, u8, Content), Fail> {
 }
 
 #[test]
-fn a_padded_repair_is_read(rt: HostRuntime) -> Result<(), Fail> {
-    let octets =
-        b"\xa1\x61\x00\x05\x00\x00\x00\x00\x22\x22\x22\x22\x00\x00\x00\x07\x00\x01\xbb\x01";
-    let mut content = plain(b"\xbb", false, 0)?;
-    let _ = content.sources.try_push(7);
-    assert!(rt; read(octets)? == (1, 1, content));
-    Ok(())
-}
-
-/// The refusal number of a packet of this payload read as a retransmission, or 0 where it is read.
-fn refusal_of(payload: &[u8]) -> Result<u8, Fail> {
-    let media = write_media(&plain(payload, true, 100)?, 0, 5, 97, REPAIR_SSRC);
-    let view = RtpView::read(media.as_slice())?;
-    match RtxView::read(&view) {
-        Ok(_) => Ok(0),
-        Err(fault) => Ok(fault.number()),
-    }
-}
-
-#[test]
-fn a_payload_of_less_than_a_number(rt: HostRuntime) -> Result<(), Fail> {
-    for (payload, refusal) in [(b"".as_slice(), 6), (b"\x00", 6), (b"\x00\x01", 0)] {
-        assert_eq!(rt; refusal_of(payload)?, refusal);
-    }
-    Ok(())
-}
-
-#[test]
 fn the_largest_repair_is_read_back(rt: HostRuntime) -> Result<(), Fail> {
     let content = largest(true)?;
     let octets = write_repair(&content, 65535, 0, 127, 0xffffffff);
