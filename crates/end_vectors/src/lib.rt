@@ -1,8 +1,7 @@
-//! Test vectors of both ends and of their stores, through the public calls of each crate. There is no code in it.
+//! Test vectors of both ends and of their stores, through the public calls of each crate. There is no code in it. What a
+//! script can say of an end is in rows/receiver.rows and rows/sender.rows, which the built program runs.
 #![tactic(auto)]
 
-#[cfg(test)]
-mod asks;
 #[cfg(test)]
 mod both_ends;
 #[cfg(test)]
@@ -10,12 +9,8 @@ mod both_histories;
 #[cfg(test)]
 mod both_windows;
 #[cfg(test)]
-mod media;
+mod receivers;
 #[cfg(test)]
-mod receiver_rows;
-#[cfg(test)]
-mod repairs;
-#[cfg(test)]
-mod sending;
+mod senders;
 #[cfg(test)]
 mod windows;
