@@ -5,7 +5,6 @@ use receiver::{Played, Receiver, ReceiverConfig};
 use rtpwire::{Content, Datagram, Session};
 use sender::{Sender, SenderConfig};
 use std::alloc::Global;
-use std::process::Abort;
 use std::test::Fail;
 use stores::{History, ListHistory, ListWindow, RingHistory, RingWindow, Window};
 
@@ -28,16 +27,32 @@ fn content(index: u32) -> Content {
     }
 }
 
-fn ends<H: History, W: Window>(alloc: Global) -> Result<(Sender<H>, Receiver<W>), Fail> {
-    let session = Session::new(0x11111111, 96, 0x22222222, 97, 0x33333333)?;
-    let history = H::new(alloc, 512).map_err(|_| "memory is ample")?;
-    let window = W::new(alloc, 512).map_err(|_| "memory is ample")?;
-    let sender = SenderConfig::new(session, 65400, 65500, 255)?;
-    let receiver = ReceiverConfig::new(session, 100000, RETRY, 255)?;
-    Ok((
-        Sender::new(sender, history),
-        Receiver::new(receiver, window),
-    ))
+fn sender<H: History>(alloc: Global, session: Session) -> Result<Sender<H>, Fail> {
+    let (Ok(config), Ok(history)) = (
+        SenderConfig::new(session, 65400, 65500, 255),
+        H::new(alloc, 512),
+    ) else {
+        return Err(Fail::from("good limits and ample memory"));
+    };
+    Ok(Sender::new(config, history))
+}
+
+fn receiver<W: Window>(alloc: Global, session: Session) -> Result<Receiver<W>, Fail> {
+    let (Ok(config), Ok(window)) = (
+        ReceiverConfig::new(session, 100000, RETRY, 255),
+        W::new(alloc, 512),
+    ) else {
+        return Err(Fail::from("good limits and ample memory"));
+    };
+    Ok(Receiver::new(config, window))
+}
+
+/// The datagram of the next packet, which has the content of this index.
+fn sent<H: History>(sender: &mut Sender<H>, index: u32) -> Result<Datagram, Fail> {
+    match sender.send(content(index), 0) {
+        Ok((_, datagram)) => Ok(datagram),
+        Err(_) => Err(Fail::from("a place is left")),
+    }
 }
 
 /// Sends three packets. The second is lost, the third comes before the first and once more after it, but those of
@@ -47,15 +62,33 @@ fn sends_three<H: History, W: Window>(
     receiver: &mut Receiver<W>,
     index: u32,
 ) -> Result<(), Fail> {
-    let (_, first) = sender.send(content(index), 0)?;
-    let _lost = sender.send(content(index.saturating_add(1)), 0)?;
-    let (_, third) = sender.send(content(index.saturating_add(2)), 0)?;
-    if index > 0 {
-        receiver.on_media(third.as_slice(), 0)?;
+    let first = sent(sender, index)?;
+    let _lost = sent(sender, index.saturating_add(1))?;
+    let third = sent(sender, index.saturating_add(2))?;
+    if index > 0 && receiver.on_media(third.as_slice(), 0).is_err() {
+        return Err(Fail::from("the third is taken"));
     }
-    receiver.on_media(first.as_slice(), 0)?;
+    if receiver.on_media(first.as_slice(), 0).is_err() {
+        return Err(Fail::from("the first is taken"));
+    }
     let _again = receiver.on_media(third.as_slice(), 0);
     Ok(())
+}
+
+/// Keeps a datagram, or hands it over and then the one that was kept.
+fn later_first<W: Window>(
+    receiver: &mut Receiver<W>,
+    kept: &mut Option<Datagram>,
+    datagram: Datagram,
+    now: u64,
+) {
+    match kept.take() {
+        None => *kept = Some(datagram),
+        Some(before) => {
+            let _later = receiver.on_media(datagram.as_slice(), now);
+            let _earlier = receiver.on_media(before.as_slice(), now);
+        }
+    }
 }
 
 /// Hands over the retransmissions that are due: one of three is lost, not always the same, and the other two come
@@ -66,24 +99,17 @@ fn repairs<H: History, W: Window>(
     round: u64,
     now: u64,
 ) {
-    let mut earlier: Option<Datagram> = None;
+    let mut kept: Option<Datagram> = None;
     for turn in round..round.saturating_add(300) {
         let Some((_, datagram)) = sender.next_repair() else {
             break;
         };
-        if turn % 3 == 0 {
-            continue;
-        }
-        match earlier.take() {
-            None => earlier = Some(datagram),
-            Some(before) => {
-                let _later = receiver.on_media(datagram.as_slice(), now);
-                let _earlier = receiver.on_media(before.as_slice(), now);
-            }
+        if turn % 3 != 0 {
+            later_first(receiver, &mut kept, datagram, now);
         }
     }
-    if let Some(before) = earlier {
-        let _last = receiver.on_media(before.as_slice(), now);
+    if let Some(last) = kept {
+        let _last = receiver.on_media(last.as_slice(), now);
     }
 }
 
@@ -98,8 +124,11 @@ fn asks<H: History, W: Window>(
         return Ok(());
     };
     if round % 2 == 0 {
-        sender.on_feedback(feedback.as_slice())?;
-        sender.on_feedback(feedback.as_slice())?;
+        for _ in 0..2 {
+            if sender.on_feedback(feedback.as_slice()).is_err() {
+                return Err(Fail::from("feedback is taken"));
+            }
+        }
     }
     repairs(sender, receiver, round, now);
     Ok(())
@@ -115,30 +144,50 @@ fn plays<W: Window>(receiver: &mut Receiver<W>, index: u32) -> bool {
     }
 }
 
-/// 300 packets, each third one lost, are all played, once and in order.
-fn all_are_played<H: History, W: Window>(rt: &impl Abort, alloc: Global) -> Result<(), Fail> {
-    let (mut sender, mut receiver) = ends::<H, W>(alloc)?;
+/// How many of 300 contents are played, once and in order, before one is not.
+fn played_in_order<W: Window>(receiver: &mut Receiver<W>) -> u32 {
+    for index in 0..300 {
+        if !plays(receiver, index) {
+            return index;
+        }
+    }
+    300
+}
+
+/// What becomes of 300 packets, of which each third one is lost: how many places are missing before the asks and behind
+/// them, how many contents are played, and whether nothing is left then.
+fn run<H: History, W: Window>(alloc: Global) -> Result<(usize, usize, u32, bool), Fail> {
+    let Ok(session) = Session::new(0x11111111, 96, 0x22222222, 97, 0x33333333) else {
+        return Err(Fail::from("a good session"));
+    };
+    let mut sender: Sender<H> = sender(alloc, session)?;
+    let mut receiver: Receiver<W> = receiver(alloc, session)?;
     for index in 0..100 {
         sends_three(&mut sender, &mut receiver, 3 * index)?;
     }
-    assert_eq!(rt; receiver.missing(), 100);
+    let before = receiver.missing();
     for round in 0..40 {
         asks(&mut sender, &mut receiver, round)?;
     }
-    assert_eq!(rt; receiver.missing(), 0);
-    for index in 0..300 {
-        assert!(rt; plays(&mut receiver, index), "index {index}");
-    }
-    assert_eq!(rt; receiver.play(0), Played::Wait);
-    Ok(())
+    let behind = receiver.missing();
+    let played = played_in_order(&mut receiver);
+    Ok((before, behind, played, receiver.play(0) == Played::Wait))
 }
 
 #[test]
 fn a_bad_transport_over_lists(rt: HostRuntime) -> Result<(), Fail> {
-    all_are_played::<ListHistory, ListWindow>(&rt, rt.alloc())
+    assert_eq!(rt;
+        run::<ListHistory, ListWindow>(rt.alloc())?,
+        (100, 0, 300, true)
+    );
+    Ok(())
 }
 
 #[test]
 fn a_bad_transport_over_rings(rt: HostRuntime) -> Result<(), Fail> {
-    all_are_played::<RingHistory, RingWindow>(&rt, rt.alloc())
+    assert_eq!(rt;
+        run::<RingHistory, RingWindow>(rt.alloc())?,
+        (100, 0, 300, true)
+    );
+    Ok(())
 }

@@ -174,18 +174,23 @@ fn a_history_from_start_to_end(rt: HostRuntime) -> Result<(), Fail> {
     Ok(())
 }
 
+/// A history of 8192, at the second try where memory is refused at the first.
+fn tried_twice<H: History>(alloc: Global) -> Result<H, Fail> {
+    if let Ok(history) = H::new(alloc, 8192) {
+        return Ok(history);
+    }
+    match H::new(alloc, 8192) {
+        Ok(history) => Ok(history),
+        Err(_) => Err(Fail::from("memory is back")),
+    }
+}
+
 /// With memory, `new` answers a history. Without any piece of it, it answers `OutOfMemory`, and a history once there
 /// is memory again: `rt try --test --fail-alloc N` runs these sides.
 #[test]
 fn a_refused_growth_of_a_history(rt: HostRuntime) -> Result<(), Fail> {
-    let list = match ListHistory::new(rt.alloc(), 8192) {
-        Ok(list) => list,
-        Err(_) => ListHistory::new(rt.alloc(), 8192).map_err(|_| "memory is back")?,
-    };
-    let ring = match RingHistory::new(rt.alloc(), 8192) {
-        Ok(ring) => ring,
-        Err(_) => RingHistory::new(rt.alloc(), 8192).map_err(|_| "memory is back")?,
-    };
+    let list: ListHistory = tried_twice(rt.alloc())?;
+    let ring: RingHistory = tried_twice(rt.alloc())?;
     assert_eq!(rt; list.find(0), ring.find(0));
     Ok(())
 }

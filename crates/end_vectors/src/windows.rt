@@ -10,7 +10,10 @@ use stores::*;
 
 /// The place of this value.
 pub fn place(value: u64) -> Result<Place, Fail> {
-    Ok(Place::new(value).ok_or("a place is below 2^48")?)
+    match Place::new(value) {
+        Some(place) => Ok(place),
+        None => Err(Fail::from("a place is below 2^48")),
+    }
 }
 
 /// A content with a payload of this octet alone.
