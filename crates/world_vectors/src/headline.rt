@@ -1,260 +1,148 @@
-use crate::worlds::{Row, content, does, send, shows, world};
-use arrayvec::ArrayVec;
-use places::Place;
-use receiver::{Played, ReceiveFault, Taken};
-use rtpwire::{Content, Extension};
-use std::alloc::Global;
+//! What the headline says, in sessions over lists and over rings: how far a packet may come from the others, what an injection
+//! does to it, and a worked run. A session of 49154 sends needs more than the usual time where each access is checked, under
+//! `rt try --test`: `--seconds 600`.
+
+use crate::sessions::goes;
 use std::test::Fail;
-use stores::{ListHistory, ListWindow, PutFault};
-use world::*;
 
-/// A world in which the empty content was sent 49154 times: the places 65537 to 114690.
-fn with_sends(alloc: Global) -> Result<World<ListHistory, ListWindow>, Fail> {
-    let mut world = world(alloc, 1, 8)?;
-    let event = send(b"")?;
-    for _ in 0..49154 {
-        does(&mut world, &event)?;
-    }
-    Ok(world)
-}
-
+/// The places 65537 to 114690.
 #[test]
 fn distances_up_to_49152(rt: HostRuntime) -> Result<(), Fail> {
-    let mut world = with_sends(rt.alloc())?;
-    assert!(rt; world.close());
-    for row in [
-        (Row::Deliver(0, 0), ("taken", 65537, 0)),
-        (Row::Deliver(16384, 0), ("refused", 34, 0)),
-        (Row::Deliver(49152, 0), ("refused", 34, 0)),
-        (Row::Deliver(16383, 0), ("taken", 81920, 16376)),
-        (Row::Deliver(0, 0), ("refused", 35, 0)),
-    ] {
-        shows(&mut world, &[row])?;
-        assert!(rt; world.close());
-    }
-    Ok(())
+    goes(
+        rt.alloc(),
+        "config 1 5 8 8 100 20 3 2\n\
+         times 49154 S 0 0 0 - - -\n\
+         close\n\
+         D 0 0 => taken 65537 0\n\
+         close\n\
+         D 16384 0 => refused 34\n\
+         close\n\
+         D 49152 0 => refused 34\n\
+         close\n\
+         D 16383 0 => taken 81920 16376\n\
+         close\n\
+         D 0 0 => refused 35\n\
+         close",
+    )
 }
 
 /// Its sequence number is that of the place 16383 below the first.
 #[test]
 fn a_distance_of_49153(rt: HostRuntime) -> Result<(), Fail> {
-    let mut world = with_sends(rt.alloc())?;
-    for (row, want, close) in [
-        (Row::Deliver(0, 0), ("taken", 65537, 0), true),
-        (Row::Deliver(49153, 0), ("refused", 35, 0), false),
-        (Row::Play(0), ("play", 65537, 0), false),
-        (Row::Deliver(1, 0), ("taken", 65538, 0), false),
-    ] {
-        shows(&mut world, &[(row, want)])?;
-        assert_eq!(rt; world.close(), close);
-    }
-    Ok(())
+    goes(
+        rt.alloc(),
+        "config 1 5 8 8 100 20 3 2\n\
+         times 49154 S 0 0 0 - - -\n\
+         D 0 0 => taken 65537 0\n\
+         close\n\
+         D 49153 0 => refused 35\n\
+         open\n\
+         P 0 => play 65537 0 0 - - -\n\
+         open\n\
+         D 1 0 => taken 65538 0\n\
+         open",
+    )
 }
 
 #[test]
 fn an_injection(rt: HostRuntime) -> Result<(), Fail> {
-    let mut world = world(rt.alloc(), 1, 8)?;
-    for (row, want, close) in [
-        (Row::Send(b"\xaa"), ("sent", 65537, 0), true),
-        (Row::Deliver(9, 0), ("nothing", 0, 0), true),
-        (Row::Inject(b""), ("refused", 1, 0), false),
-        (Row::Deliver(0, 0), ("taken", 65537, 0), false),
-    ] {
-        shows(&mut world, &[(row, want)])?;
-        assert_eq!(rt; world.close(), close);
-    }
-    Ok(())
+    goes(
+        rt.alloc(),
+        "config 1 5 8 8 100 20 3 2\n\
+         S 0 0 0 aa - - => sent 65537 0 806000010000000011111111aa\n\
+         close\n\
+         D 9 0 => nothing\n\
+         close\n\
+         I r - 0 => refused 1\n\
+         open\n\
+         D 0 0 => taken 65537 0\n\
+         open",
+    )
 }
 
-/// Where feedback was injected at the sender, whether it was refused or not, `close` is false too. It does no harm.
+/// Where feedback was injected at the sender `close` is false too. It does no harm.
+#[test]
+fn a_refused_injection_at_the_sender(rt: HostRuntime) -> Result<(), Fail> {
+    goes(
+        rt.alloc(),
+        "config 1 5 8 8 100 20 3 2\n\
+         S 0 0 0 aa - - => sent 65537 0 806000010000000011111111aa\n\
+         close\n\
+         I s - 0 => refused 11\n\
+         open\n\
+         D 0 0 => taken 65537 0\n\
+         open\n\
+         P 0 => play 65537 0 0 aa - -\n\
+         open",
+    )
+}
+
+/// The same where it was not refused.
 #[test]
 fn an_injection_at_the_sender(rt: HostRuntime) -> Result<(), Fail> {
-    let nack = b"\x81\xcd\x00\x03\x33\x33\x33\x33\x11\x11\x11\x11\x00\x01\x00\x00";
-    for (injected, want) in [
-        (Row::Feedback(b""), ("refused", 11, 0)),
-        (Row::Feedback(nack), ("marked", 1, 0)),
-    ] {
-        let mut world = world(rt.alloc(), 1, 8)?;
-        for (row, want, close) in [
-            (Row::Send(b"\xaa"), ("sent", 65537, 0), true),
-            (injected, want, false),
-            (Row::Deliver(0, 0), ("taken", 65537, 0), false),
-            (Row::Play(0), ("play", 65537, 0), false),
-        ] {
-            shows(&mut world, &[(row, want)])?;
-            assert_eq!(rt; world.close(), close);
-        }
-    }
-    Ok(())
-}
-
-/// A content that has something in each of its parts.
-fn full_content() -> Result<Content, Fail> {
-    let sources = ArrayVec::try_from([7, 8].as_slice())
-        .ok()
-        .ok_or("they fit")?;
-    let words = ArrayVec::try_from([1, 0xffffffff].as_slice())
-        .ok()
-        .ok_or("they fit")?;
-    Ok(Content {
-        sources,
-        extension: Some(Extension {
-            profile: 0xbede,
-            words,
-        }),
-        ..content(b"\x03\x04", 3, true)?
-    })
-}
-
-/// The content of the worked run's send with this index.
-fn worked_content(index: u64) -> Result<Content, Fail> {
-    if index == 3 {
-        full_content()
-    } else {
-        let octet = (index % 256) as u8;
-        content(&[octet], u32::from(octet), false)
-    }
-}
-
-fn at(place: u64) -> Result<Place, Fail> {
-    Ok(Place::new(place).ok_or("a place")?)
-}
-
-/// Does an event, after which the log's last entry is to be this, and the log close and honest.
-fn logs(
-    world: &mut World<ListHistory, ListWindow>,
-    event: &Event,
-    want: &Entry,
-) -> Result<(), Fail> {
-    let _entry = world.step(event).map_err(|_| "memory is ample")?;
-    let last = world.log().last().ok_or("an entry")?;
-    if *last == *want && world.close() {
-        Ok(())
-    } else {
-        Err("another entry")?
-    }
-}
-
-/// What happens in the worked run: the sender's datagram with an index reaches the receiver, or it plays. What it
-/// plays is what was sent with an index.
-#[derive(Clone, Copy)]
-enum Happens {
-    Takes(u64, u64, u64),
-    Refuses(u64, PutFault),
-    Plays(u64, u64),
-    GivesUp(u64),
-    Waits,
-}
-
-/// The delivery of an index at a moment. The sender's places begin at 131070.
-fn delivery(index: u64, now: u64, answer: Answer) -> Result<(Event, Entry), Fail> {
-    let want = Entry::Delivered {
-        index,
-        label: Label::Media(at(131070u64.wrapping_add(index))?),
-        now,
-        answer,
-    };
-    Ok((Event::Deliver(index, now), want))
-}
-
-/// The event and the entry of what happens at a moment.
-fn worked(now: u64, happens: Happens) -> Result<(Event, Entry), Fail> {
-    let played = match happens {
-        Happens::Takes(index, place, overrun) => {
-            let place = at(place)?;
-            return delivery(index, now, Answer::Taken(Taken { place, overrun }));
-        }
-        Happens::Refuses(index, fault) => {
-            return delivery(index, now, Answer::Refused(ReceiveFault::Put(fault)));
-        }
-        Happens::Plays(place, index) => Played::Packet(at(place)?, worked_content(index)?),
-        Happens::GivesUp(place) => Played::Gap(at(place)?),
-        Happens::Waits => Played::Wait,
-    };
-    Ok((Event::Play(now), Entry::Played { now, played }))
+    goes(
+        rt.alloc(),
+        "config 1 5 8 8 100 20 3 2\n\
+         S 0 0 0 aa - - => sent 65537 0 806000010000000011111111aa\n\
+         close\n\
+         I s 81cd0003333333331111111100010000 0 => marked 1\n\
+         open\n\
+         D 0 0 => taken 65537 0\n\
+         open\n\
+         P 0 => play 65537 0 0 aa - -\n\
+         open",
+    )
 }
 
 /// Twelve sends across a wrap, at the places 131070 to 131081, whose sequence numbers are 65534, 65535 and 0 to
 /// 9. The window has 4 places, and a patience of 100.
+///
+/// The second packet comes first, so that is where the receiver starts. One packet is repeated, and one comes late, but in
+/// time. From the moment 50 on one packet is lost, and given up when its patience has passed. From 160 on five packets are
+/// missing when a higher one comes, which overruns two of them; three come after it, one of them too late, and one is given up.
 #[test]
 fn a_worked_run(rt: HostRuntime) -> Result<(), Fail> {
-    let mut world = world(rt.alloc(), 65534, 4)?;
-    for index in 0..12 {
-        let event = Event::Send(worked_content(index)?, 0);
-        assert_eq!(rt; does(&mut world, &event)?, ("sent", 131070 + index, index));
-    }
-    for (now, happens) in [
-        // The second packet comes first, so that is where the receiver starts. One packet is repeated, and one
-        // comes late, but in time.
-        (10, Happens::Takes(1, 131071, 0)),
-        (11, Happens::Refuses(0, PutFault::Late)),
-        (12, Happens::Plays(131071, 1)),
-        (20, Happens::Takes(3, 131073, 0)),
-        (21, Happens::Refuses(3, PutFault::Duplicate)),
-        (30, Happens::Waits),
-        (40, Happens::Takes(2, 131072, 0)),
-        (41, Happens::Plays(131072, 2)),
-        (42, Happens::Plays(131073, 3)),
-        (43, Happens::Waits),
-        // One packet is lost, and given up when its patience has passed.
-        (50, Happens::Takes(5, 131075, 0)),
-        (149, Happens::Waits),
-        (150, Happens::GivesUp(131074)),
-        (151, Happens::Refuses(4, PutFault::Late)),
-        (152, Happens::Plays(131075, 5)),
-        // Five packets are missing when a higher one comes, which overruns two of them. Three come after it, one
-        // of them too late, and one is given up.
-        (160, Happens::Takes(11, 131081, 2)),
-        (161, Happens::Refuses(6, PutFault::Late)),
-        (162, Happens::Takes(8, 131078, 0)),
-        (163, Happens::Plays(131078, 8)),
-        (259, Happens::Waits),
-        (260, Happens::GivesUp(131079)),
-        (261, Happens::Takes(10, 131080, 0)),
-        (262, Happens::Plays(131080, 10)),
-        (263, Happens::Plays(131081, 11)),
-        (264, Happens::Waits),
-    ] {
-        let (event, want) = worked(now, happens)?;
-        logs(&mut world, &event, &want)?;
-    }
-    logs(&mut world, &Event::Deliver(12, 270), &Entry::Nothing)
-}
-
-/// What is played at the receiver's place of the send with this index, where it begins one cycle below.
-fn plays_next(world: &mut World<ListHistory, ListWindow>, index: u64) -> Result<bool, Fail> {
-    let entry = world
-        .step(&Event::Play(index))
-        .map_err(|_| "memory is ample")?;
-    Ok(match &entry {
-        Entry::Played {
-            played: Played::Packet(place, content),
-            ..
-        } => place.value() == index.wrapping_add(60000) && u64::from(content.timestamp) == index,
-        _ => false,
-    })
-}
-
-/// 200000 sends from the place 125536 on, whose sequence numbers wrap three times, each with its index as
-/// timestamp. From index 10000 on, which is place 135536 with the sequence number 4464 and so the receiver's
-/// place 70000, two at a time are delivered the other way round, and played. Where each access is checked, under
-/// `rt try --test`, it needs more than the usual time: `--seconds 600`.
-#[test]
-fn many_wraps(rt: HostRuntime) -> Result<(), Fail> {
-    let mut world = world(rt.alloc(), 60000, 8)?;
-    for index in 0..200000 {
-        let event = Event::Send(content(b"", index as u32, false)?, 0);
-        assert_eq!(rt; does(&mut world, &event)?, ("sent", 125536 + index, index));
-        if index == 10000 {
-            does(&mut world, &Event::Deliver(index, 0))?;
-            assert!(rt; plays_next(&mut world, index)?);
-        } else if index > 10000 && index % 2 == 0 {
-            does(&mut world, &Event::Deliver(index, 0))?;
-            does(&mut world, &Event::Deliver(index - 1, 0))?;
-            assert!(rt; plays_next(&mut world, index - 1)?);
-            assert!(rt; plays_next(&mut world, index)?);
-        }
-    }
-    assert!(rt; world.close());
-    Ok(())
+    goes(
+        rt.alloc(),
+        "config 65534 5 8 4 100 20 3 2\n\
+         S 0 0 0 00 - - => sent 131070 0 8060fffe000000001111111100\n\
+         S 1 0 0 01 - - => sent 131071 1 8060ffff000000011111111101\n\
+         S 2 0 0 02 - - => sent 131072 2 80600000000000021111111102\n\
+         S 3 1 0 0304 0000000700000008 bede00000001ffffffff => sent 131073 3 92e0000100000003111111110000000700000008bede000200000001ffffffff0304\n\
+         S 4 0 0 04 - - => sent 131074 4 80600002000000041111111104\n\
+         S 5 0 0 05 - - => sent 131075 5 80600003000000051111111105\n\
+         S 6 0 0 06 - - => sent 131076 6 80600004000000061111111106\n\
+         S 7 0 0 07 - - => sent 131077 7 80600005000000071111111107\n\
+         S 8 0 0 08 - - => sent 131078 8 80600006000000081111111108\n\
+         S 9 0 0 09 - - => sent 131079 9 80600007000000091111111109\n\
+         S 10 0 0 0a - - => sent 131080 10 806000080000000a111111110a\n\
+         S 11 0 0 0b - - => sent 131081 11 806000090000000b111111110b\n\
+         D 1 10 => taken 131071 0\n\
+         D 0 11 => refused 35\n\
+         P 12 => play 131071 1 0 01 - -\n\
+         D 3 20 => taken 131073 0\n\
+         D 3 21 => refused 36\n\
+         P 30 => wait\n\
+         D 2 40 => taken 131072 0\n\
+         P 41 => play 131072 2 0 02 - -\n\
+         P 42 => play 131073 3 1 0304 0000000700000008 bede00000001ffffffff\n\
+         P 43 => wait\n\
+         D 5 50 => taken 131075 0\n\
+         P 149 => wait\n\
+         P 150 => gap 131074\n\
+         D 4 151 => refused 35\n\
+         P 152 => play 131075 5 0 05 - -\n\
+         D 11 160 => taken 131081 2\n\
+         D 6 161 => refused 35\n\
+         D 8 162 => taken 131078 0\n\
+         P 163 => play 131078 8 0 08 - -\n\
+         P 259 => wait\n\
+         P 260 => gap 131079\n\
+         D 10 261 => taken 131080 0\n\
+         P 262 => play 131080 10 0 0a - -\n\
+         P 263 => play 131081 11 0 0b - -\n\
+         P 264 => wait\n\
+         D 12 270 => nothing\n\
+         close",
+    )
 }

@@ -12,7 +12,7 @@ mod hostile;
 #[cfg(test)]
 mod long_lines;
 #[cfg(test)]
-mod long_run;
+mod long_runs;
 #[cfg(test)]
 mod missing;
 #[cfg(test)]
@@ -20,8 +20,10 @@ mod rounds;
 #[cfg(test)]
 mod schedules;
 #[cfg(test)]
-mod scripts;
+mod sessions;
 #[cfg(test)]
 mod settles;
+#[cfg(test)]
+mod several_asks;
 #[cfg(test)]
 mod worlds;
