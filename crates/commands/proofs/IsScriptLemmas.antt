@@ -10,7 +10,7 @@ use Rattle.commands.specs.Lines.{lines_of, tail_of}
 use Rattle.lines.specs.ConfigLine.{config_of}
 use Rattle.lines.specs.EventLine.{event_of}
 use Rattle.commands.specs.Script.{script_config, script_events, bad_line, events_in, events_from, bad_in, bad_from, config_first}
-use Rattle.commands.specs.IsScript.{IsScript, LacksFeed, Says, ended}
+use Rattle.commands.specs.IsScript.{IsScript, LacksFeed, IsLineOf, ended}
 use Rattle.commands.proofs.ScriptLemmas.{events_in-line, bad_in-line, script_config-line, script_events-line, bad_line-line}
 
 -- ---- from a script to what is read off it
@@ -18,14 +18,14 @@ use Rattle.commands.proofs.ScriptLemmas.{events_in-line, bad_in-line, script_con
 one_line : (line more : List ℕ) → ended line ++ more ≡ line ++ 10 ∷ more
 one_line line more = append_assoc line (10 ∷ []) more
 
-events_in-lines : (lines : List (List ℕ)) (events : List Event) → AllZip Says lines events → events_in (flat_map ended lines) ≡ events
+events_in-lines : (lines : List (List ℕ)) (events : List Event) → AllZip IsLineOf lines events → events_in (flat_map ended lines) ≡ events
 events_in-lines [] [] h = refl
 events_in-lines [] (event ∷ events) h = absurd h
 events_in-lines (line ∷ lines) [] h = absurd h
 events_in-lines (line ∷ lines) (event ∷ events) h =
     events_in-line _ line (flat_map ended lines) event (one_line line (flat_map ended lines)) h.0.1 h.0.0 ∙ ap (λ l. event ∷ l) (events_in-lines lines events h.1)
 
-bad_in-lines : (k : ℕ) (lines : List (List ℕ)) (events : List Event) → AllZip Says lines events → bad_in k (flat_map ended lines) ≡ None
+bad_in-lines : (k : ℕ) (lines : List (List ℕ)) (events : List Event) → AllZip IsLineOf lines events → bad_in k (flat_map ended lines) ≡ None
 bad_in-lines k [] [] h = refl
 bad_in-lines k [] (event ∷ events) h = absurd h
 bad_in-lines k (line ∷ lines) [] h = absurd h
@@ -111,7 +111,7 @@ cut (c ∷ cs) = elim (eqb_tells c 10) [ inl same ↦ inr (fed c cs same.0 same.
 
 -- lines of which none is bad say their events, and nothing follows them
 abbrev AreGood : ℕ → List (List ℕ) → List ℕ → Type 0
-AreGood k lines rest = bad_from k lines rest ≡ None → AllZip Says lines (events_from lines) × (rest ≡ [])
+AreGood k lines rest = bad_from k lines rest ≡ None → AllZip IsLineOf lines (events_from lines) × (rest ≡ [])
 
 good_line : (k : ℕ) (line : List ℕ) (lines : List (List ℕ)) (rest : List ℕ) (o : Option Event) → event_of line ≡ o → LacksFeed line → AreGood (k + 1) lines rest → AreGood k (line ∷ lines) rest
 good_line k line lines rest None is plain later good = absurd (none-some k (sym (rw is at good)))

@@ -8,7 +8,7 @@ use Rattle.world.specs.declared.event.Event.TheVariants.{Send, Repair, Ask, Deli
 use Rattle.world.specs.declared.event.Entry.{Entry}
 use Rattle.world.specs.declared.event.Entry.TheVariants.{Sent, SendRefused, Repaired, NoRepair, Asked, NoAsk, Nothing, Delivered, Injected, Played}
 use Rattle.world.specs.Config.{Config}
-use Rattle.world.specs.Answers.{Item, Stand, Step, Answers}
+use Rattle.world.specs.Answers.{Item, WorldState, Step, Answers}
 use Rattle.lines.specs.ContentText.{octets_text}
 use Rattle.lines.specs.LogText.{line_of, octets_in, octets_at, entry_line, log_text}
 
@@ -91,20 +91,20 @@ pub record WireGrows (old new : List Item) (entry : Entry) : Type 0 where
 same_wire : (old new : List Item) (entry : Entry) → new ≡ old → IsOnWire entry new → WireGrows old new entry
 same_wire old new entry is on = record { more = []; wire = is ∙ sym (append-nil old); on = on }
 
-pub step-wire : (c : Config) (old : Stand) (event : Event) (entry : Entry) (new : Stand) → Step c old event entry new → WireGrows old.wire new.wire entry
+pub step-wire : (c : Config) (old : WorldState) (event : Event) (entry : Entry) (new : WorldState) → Step c old event entry new → WireGrows old.wire new.wire entry
 step-wire c old (Send content padding) (Sent place index sent) new step =
     let longer : length new.wire ≡ length old.wire + 1 = ap length step.1.wire ∙ length-append old.wire _ in
     record { more = _; wire = step.1.wire; on = omega (arith, step.1.index_is) }
-step-wire c old (Send content padding) (SendRefused fault) new step = same_wire _ _ _ (ap (λ (s : Stand). s.wire) step.1) tt
+step-wire c old (Send content padding) (SendRefused fault) new step = same_wire _ _ _ (ap (λ (s : WorldState). s.wire) step.1) tt
 step-wire c old Repair (Repaired place index) new step =
     let longer : length new.wire ≡ length old.wire + 1 = ap length step.wire ∙ length-append old.wire _ in
     record { more = _; wire = step.wire; on = omega (arith, step.index_is) }
-step-wire c old Repair NoRepair new step = same_wire _ _ _ (ap (λ (s : Stand). s.wire) step.1) tt
+step-wire c old Repair NoRepair new step = same_wire _ _ _ (ap (λ (s : WorldState). s.wire) step.1) tt
 step-wire c old (Ask now) (Asked index moment) new step =
     let longer : length new.wire ≡ length old.wire + 1 = ap length step.1.wire ∙ length-append old.wire _ in
     record { more = _; wire = step.1.wire; on = omega (arith, step.1.index_is) }
-step-wire c old (Ask now) (NoAsk moment) new step = same_wire _ _ _ (ap (λ (s : Stand). s.wire) step.2) tt
-step-wire c old (Deliver index now) Nothing new step = same_wire _ _ _ (ap (λ (s : Stand). s.wire) step.1) tt
+step-wire c old (Ask now) (NoAsk moment) new step = same_wire _ _ _ (ap (λ (s : WorldState). s.wire) step.2) tt
+step-wire c old (Deliver index now) Nothing new step = same_wire _ _ _ (ap (λ (s : WorldState). s.wire) step.1) tt
 step-wire c old (Deliver index now) (Delivered at label moment answer) new step = same_wire _ _ _ step.2.wire tt
 step-wire c old (Play now) (Played moment played) new step = same_wire _ _ _ step.3 tt
 step-wire c old (Inject end datagram now) (Injected at moment answer) new step = same_wire _ _ _ step.3 tt
@@ -115,7 +115,7 @@ pub record TextGrows (log : List Entry) (old new : List Item) (entry : Entry) : 
   pub text : log_text (log ++ entry ∷ []) new ≡ log_text log old ++ entry_line new entry
   pub on : AreOnWire (log ++ entry ∷ []) new
 
-pub log_text-step : (c : Config) (log : List Entry) (old : Stand) (event : Event) (entry : Entry) (new : Stand) → AreOnWire log old.wire → Step c old event entry new → TextGrows log old.wire new.wire entry
+pub log_text-step : (c : Config) (log : List Entry) (old : WorldState) (event : Event) (entry : Entry) (new : WorldState) → AreOnWire log old.wire → Step c old event entry new → TextGrows log old.wire new.wire entry
 log_text-step c log old event entry new on step =
     let grows = step-wire c old event entry new step in
     let before : log_text log new.wire ≡ log_text log old.wire = ap (log_text log) grows.wire ∙ log_text-grows log old.wire grows.more on in
@@ -125,7 +125,7 @@ log_text-step c log old event entry new on step =
     }
 
 -- one more event, as code appends it
-pub answers_more : (c : Config) (events : List Event) (log : List Entry) (old new : Stand) (event : Event) (entry : Entry) →
+pub answers_more : (c : Config) (events : List Event) (log : List Entry) (old new : WorldState) (event : Event) (entry : Entry) →
     Answers c (reverse events) (reverse log) old → Step c old event entry new → Answers c (reverse (events ++ event ∷ [])) (reverse (log ++ entry ∷ [])) new
 answers_more c events log old new event entry before step =
     subst (λ (x : List Event). Answers c x (reverse (log ++ entry ∷ [])) new) (sym (reverse-append events (event ∷ [])))

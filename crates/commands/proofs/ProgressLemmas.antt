@@ -13,7 +13,7 @@ use Rattle.world.specs.World.{Recorded, stand_of, empty}
 use Rattle.commands.specs.declared.fault.SimFault.{SimFault}
 use Rattle.commands.specs.declared.fault.SimFault.TheVariants.{BadLine, Read, Write, OutOfMemory}
 use Rattle.commands.specs.Script.{script_config, script_events, bad_line, events_in, bad_in}
-use Rattle.commands.specs.IsScript.{IsScript, Says, ended}
+use Rattle.commands.specs.IsScript.{IsScript, IsLineOf, ended}
 use Rattle.lines.specs.LogText.{log_text}
 use Rattle.commands.specs.Reading.{IfBoth, TakesConfig, Continues, EndsWith, FailsFirst, FailsAt, Leaves}
 use Rattle.commands.specs.Sim.{Prints, PrintsAny, Advances, IsDone, IsStopped, WroteSome, WroteOfRead, AnswersRead}
@@ -81,7 +81,7 @@ grown old new event line a h =
     )
 
 -- lines that say events, and one more
-says_more : (lines : List (List ℕ)) (events : List Event) (line : List ℕ) (event : Event) → AllZip Says lines events → Says line event → AllZip Says (lines ++ line ∷ []) (events ++ event ∷ [])
+says_more : (lines : List (List ℕ)) (events : List Event) (line : List ℕ) (event : Event) → AllZip IsLineOf lines events → IsLineOf line event → AllZip IsLineOf (lines ++ line ∷ []) (events ++ event ∷ [])
 says_more [] [] line event h says = (says, tt)
 says_more [] (e ∷ events) line event h says = absurd h
 says_more (l ∷ lines) [] line event h says = absurd h
@@ -92,7 +92,7 @@ ended_more [] line = append-nil (line ++ 10 ∷ [])
 ended_more (l ∷ lines) line = ap (λ t. ended l ++ t) (ended_more lines line) ∙ sym (append_assoc (ended l) (flat_map ended lines) (line ++ 10 ∷ []))
 
 -- a script and one more line
-script_more : (read line : List ℕ) (config : Config) (events : List Event) (event : Event) → IsScript read config events → Says line event →
+script_more : (read line : List ℕ) (config : Config) (events : List Event) (event : Event) → IsScript read config events → IsLineOf line event →
     IsScript (read ++ (line ++ 10 ∷ [])) config (events ++ event ∷ [])
 script_more read line config events event s says =
     record {

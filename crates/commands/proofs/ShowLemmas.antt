@@ -12,7 +12,7 @@ use Rattle.commands.specs.declared.show.ShowFault.{ShowFault}
 use Rattle.commands.specs.declared.show.ShowFault.TheVariants.{Frame, Read, Write}
 use Rattle.commands.specs.Reading.{IfBoth}
 use Rattle.commands.specs.Show.{StopsIn, counted}
-use Rattle.commands.specs.Showing.{GoesOn, ShownOfRead, SoFar, Stops, StopsAt, WroteSome}
+use Rattle.commands.specs.Showing.{GoesOn, ShownOfRead, SoFar, StopsWithin, StopsAt, ShowedSome}
 use Rattle.commands.proofs.KnownLemmas.{Appends-kept, Appends-trans}
 
 -- one more line
@@ -57,7 +57,7 @@ front_after start old new text line p q =
 pub one_begun : (start old new : Option (List ℕ)) (read rest piece d line : List ℕ) (count taken : ℕ) →
     ((ds : List (List ℕ)) (d rest stream piece : List ℕ) → Splits ds rest stream → IsDatagram d → rest ++ piece ≡ frame d → Splits (ds ++ d ∷ []) [] (stream ++ piece)) →
     IsDatagram d → rest ++ take taken piece ≡ frame d → Shows d line → AppendsFront old new line →
-    SoFar start old read rest count → WroteSome (read ++ piece) start new
+    SoFar start old read rest count → ShowedSome (read ++ piece) start new
 one_begun start old new read rest piece d line count taken law is whole shows wrote so =
     let splits = law so.datagrams d rest read (take taken piece) so.splits is whole in
     let parts : read ++ piece ≡ (read ++ take taken piece) ++ drop taken piece =
@@ -96,7 +96,7 @@ goes_on a b e r s t k l m piece done taken p q = λ start read so.
 
 -- a piece that was not shown to its end, behind one that was
 pub stops_after : (fault : ShowFault) (a b e : Option (List ℕ)) (r s : List ℕ) (k l : ℕ) (piece : List ℕ) (done : ℕ) →
-    GoesOn a b r s k l (take done piece) → Stops fault b e s l (drop done piece) → Stops fault a e r k piece
+    GoesOn a b r s k l (take done piece) → StopsWithin fault b e s l (drop done piece) → StopsWithin fault a e r k piece
 stops_after fault a b e r s k l piece done p q = λ start read so.
     let next = q start (read ++ take done piece) (p start read so) in
     subst (StopsAt fault start e) (append_assoc read (take done piece) (drop done piece) ∙ ap (λ x. read ++ x) (take-append-drop done piece)) next
@@ -156,7 +156,7 @@ stopped_in Write trace left read start new is stops =
     record { read = read; whole = is; datagrams = stops.datagrams; after = stops.after; each = stops.each; frames = stops.frames; wrote = stops.wrote }
 
 -- a piece was read, and not shown to its end
-pub read_in_vain : (fault : ShowFault) (remaining middle left start old new : Option (List ℕ)) (rest piece : List ℕ) (count : ℕ) → Consumes middle left piece → Stops fault old new rest count piece →
+pub read_in_vain : (fault : ShowFault) (remaining middle left start old new : Option (List ℕ)) (rest piece : List ℕ) (count : ℕ) → Consumes middle left piece → StopsWithin fault old new rest count piece →
     ShownOfRead remaining middle start old rest count → IfBoth remaining left (StopsIn fault start new)
 read_in_vain fault None middle left start old new rest piece count took stops so = tt
 read_in_vain fault (Some t) None left start old new rest piece count took stops so = absurd so

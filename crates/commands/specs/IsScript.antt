@@ -15,8 +15,8 @@ abbrev pub ended : List ℕ → List ℕ
 ended line = line ++ 10 ∷ []
 
 -- the line says this event, and is one line
-abbrev pub Says : List ℕ → Event → Type 0
-Says line event = (event_of line ≡ Some event) × LacksFeed line
+abbrev pub IsLineOf : List ℕ → Event → Type 0
+IsLineOf line event = (event_of line ≡ Some event) × LacksFeed line
 
 -- The text is a config line and a line for each event, each with its line feed, and nothing else.
 pub record IsScript (text : List ℕ) (config : Config) (events : List Event) : Type 0 where
@@ -25,4 +25,4 @@ pub record IsScript (text : List ℕ) (config : Config) (events : List Event) : 
   pub whole : text ≡ ended first ++ flat_map ended lines
   pub config_line : config_of first ≡ Some config
   pub one_line : LacksFeed first
-  pub event_lines : AllZip Says lines events
+  pub event_lines : AllZip IsLineOf lines events

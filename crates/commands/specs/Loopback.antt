@@ -4,7 +4,7 @@ use Rattle.receiver.specs.Config.{config as receiving}
 use Rattle.world.specs.Config.{Config, config}
 use Rattle.runs.specs.declared.link.Transfer.{Transfer}
 use Rattle.runs.specs.declared.tally.Tally.{Tally}
-use Rattle.runs.specs.Drive.{Reaches, Stops, done, plan_of, send_from}
+use Rattle.runs.specs.Drive.{Reaches, StopsRun, done, plan_of, send_from}
 use Rattle.runs.specs.Scene.{Scene, new_scene}
 use Rattle.runs.specs.Session.{session}
 use Rattle.runs.specs.Tally.{tally_of}
@@ -15,12 +15,12 @@ abbrev pub loopback_config : Config
 loopback_config = config (receiving session 1000000 1 3) 65000 0 1024 1024 3
 
 -- The tally is that of the log of a run of so many packets, of which these are dropped.
-pub record Loops (packets : ℕ) (drop : List ℕ) (told telling : Option (List Transfer)) (tally : Tally) : Type 0 where
+pub record RunsOverLink (packets : ℕ) (drop : List ℕ) (told telling : Option (List Transfer)) (tally : Tally) : Type 0 where
   pub end : Scene
   pub run : Reaches loopback_config (plan_of packets drop) (send_from (plan_of packets drop) 0) (new_scene loopback_config) told done end telling
   pub counts : tally ≡ tally_of (length drop) end.log
 
 -- a beginning of such a run was done
-pub record BreaksOff (packets : ℕ) (drop : List ℕ) (told telling : Option (List Transfer)) : Type 0 where
+pub record StopsOverLink (packets : ℕ) (drop : List ℕ) (told telling : Option (List Transfer)) : Type 0 where
   pub end : Scene
-  pub run : Stops loopback_config (plan_of packets drop) (send_from (plan_of packets drop) 0) (new_scene loopback_config) told end telling
+  pub run : StopsRun loopback_config (plan_of packets drop) (send_from (plan_of packets drop) 0) (new_scene loopback_config) told end telling

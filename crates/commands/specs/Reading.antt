@@ -7,7 +7,7 @@ use Rattle.commands.specs.declared.fault.SimFault.{SimFault}
 use Rattle.commands.specs.declared.fault.SimFault.TheVariants.{BadLine, Read, Write, OutOfMemory}
 use Rattle.lines.specs.ConfigLine.{config_of}
 use Rattle.commands.specs.Script.{script_config, bad_line, events_in, bad_in}
-use Rattle.commands.specs.IsScript.{LacksFeed, Says}
+use Rattle.commands.specs.IsScript.{LacksFeed, IsLineOf}
 
 -- a fact on what was left before and what is left now, where that is known
 abbrev pub IfBoth : Option (List ℕ) → Option (List ℕ) → (List ℕ → List ℕ → Type 0) → Type 0
@@ -26,7 +26,7 @@ pub record TakesConfig (config : Config) (text rest : List ℕ) : Type 0 where
 pub record TakesEvent (event : Event) (text rest : List ℕ) : Type 0 where
   pub line : List ℕ
   pub whole : text ≡ line ++ 10 ∷ rest
-  pub says : Says line event
+  pub says : IsLineOf line event
 
 -- the next event of text and what follows its line; or text is at its end
 abbrev pub Continues : Option Event → (text rest : List ℕ) → Type 0

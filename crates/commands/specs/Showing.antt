@@ -26,7 +26,7 @@ GoesOn old new rest rest' count count' piece =
     (start : Option (List ℕ)) (read : List ℕ) → SoFar start old read rest count → SoFar start new (read ++ piece) rest' count'
 
 -- What was read begins with frames, and a beginning of their lines was written.
-pub record WroteSome (read : List ℕ) (old new : Option (List ℕ)) : Type 0 where
+pub record ShowedSome (read : List ℕ) (old new : Option (List ℕ)) : Type 0 where
   pub datagrams : List (List ℕ)
   pub after : List ℕ
   pub each : All IsDatagram datagrams
@@ -38,9 +38,9 @@ abbrev pub StopsAt : ShowFault → (start now : Option (List ℕ)) → (read : L
 StopsAt (Frame Truncated number) start now read = ⊥
 StopsAt (Frame FrameTooLong number) start now read = IsTooLong number read start now
 StopsAt Read start now read = ⊥
-StopsAt Write start now read = WroteSome read start now
+StopsAt Write start now read = ShowedSome read start now
 
 -- whatever was done before, this is why it stopped within this piece
-abbrev pub Stops : ShowFault → (old new : Option (List ℕ)) → (rest : List ℕ) → (count : ℕ) → (piece : List ℕ) → Type 0
-Stops fault old new rest count piece =
+abbrev pub StopsWithin : ShowFault → (old new : Option (List ℕ)) → (rest : List ℕ) → (count : ℕ) → (piece : List ℕ) → Type 0
+StopsWithin fault old new rest count piece =
     (start : Option (List ℕ)) (read : List ℕ) → SoFar start old read rest count → StopsAt fault start new (read ++ piece)

@@ -4,7 +4,7 @@ use Rattle.std.specs.Io.KnownBytes.{Appends}
 use Rattle.world.specs.declared.event.Event.{Event}
 use Rattle.world.specs.declared.event.Entry.{Entry}
 use Rattle.world.specs.Config.{Config}
-use Rattle.world.specs.Answers.{Stand, Step, Answers}
+use Rattle.world.specs.Answers.{WorldState, Step, Answers}
 use Rattle.world.specs.World.{Recorded, stand_of}
 use Rattle.commands.specs.declared.fault.SimFault.{SimFault}
 use Rattle.commands.specs.declared.fault.SimFault.TheVariants.{BadLine, Read, Write, OutOfMemory}
@@ -16,7 +16,7 @@ use Rattle.lines.specs.LogText.{entry_line, log_text}
 -- The text is that of the log and the wire that answer these events.
 pub record Prints (c : Config) (events : List Event) (text : List ℕ) : Type 0 where
   pub log : List Entry
-  pub end : Stand
+  pub end : WorldState
   pub answers : Answers c (reverse events) (reverse log) end
   pub is : text ≡ log_text log end.wire
 

@@ -2,7 +2,7 @@
 ghost use Rattle.std.specs.Prelude.{◌≡◌, ◌+◌, ◌-◌, ◌^◌, ◌<◌, All, IfOk, OnErr};
 ghost use Rattle.std.specs.List.Sorted.{IsStrictlyIncreasing};
 ghost use Rattle.runs.specs.Blame.{blame};
-ghost use Rattle.commands.specs.Loopback.{BreaksOff, Loops, loopback_config};
+ghost use Rattle.commands.specs.Loopback.{StopsOverLink, RunsOverLink, loopback_config};
 
 use rtpwire::Session;
 use runs::{DriveFault, Link, Tally, drive};
@@ -32,9 +32,9 @@ pub fn loopback<L: Link>(
     requires rising { IsStrictlyIncreasing drop.now }
     requires below { All (λ number. number < packets) drop.now }
     // The tally is that of the log of such a run, done to its end over this link.
-    ensures counts { IfOk result (Loops packets drop.now (L.traffic link.old) (L.traffic link.new)) }
+    ensures counts { IfOk result (RunsOverLink packets drop.now (L.traffic link.old) (L.traffic link.new)) }
     // A beginning of such a run was done over it.
-    ensures err { OnErr result (BreaksOff packets drop.now (L.traffic link.old) (L.traffic link.new)) }
+    ensures err { OnErr result (StopsOverLink packets drop.now (L.traffic link.old) (L.traffic link.new)) }
     // The link is blamed exactly where it failed.
     ensures blame { L.failed link.new ≡ L.failed link.old + blame result }
 {

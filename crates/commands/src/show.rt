@@ -4,7 +4,7 @@ ghost use Rattle.std.specs.Io.KnownBytes.{IsAtEnd};
 ghost use Rattle.rtpwire.specs.Framing.{IsRest};
 ghost use Rattle.commands.specs.Reading.{IfBoth};
 ghost use Rattle.commands.specs.Show.{IsShown, StopsIn};
-ghost use Rattle.commands.specs.Showing.{GoesOn, Stops};
+ghost use Rattle.commands.specs.Showing.{GoesOn, StopsWithin};
 
 use crate::output::{Stream, WriteFailed, flush};
 use crate::pending::read_some;
@@ -82,7 +82,7 @@ fn show_piece<W: Write>(
     ensures ok { OnOk result (GoesOn (W.contents output.old.writer) (W.contents output.new.writer) deframer.old.rest deframer.new.rest count.old count.new piece.now) }
     ensures unfailed { OnOk result (deframer.new.has_failed ≡ false) }
     ensures rest { OnOk result (IsRest deframer.new.rest) }
-    ensures err { IfErr result (λ fault. Stops fault (W.contents output.old.writer) (W.contents output.new.writer) deframer.old.rest count.old piece.now) }
+    ensures err { IfErr result (λ fault. StopsWithin fault (W.contents output.old.writer) (W.contents output.new.writer) deframer.old.rest count.old piece.now) }
 {
     let mut done = 0;
     while done < piece.len() {
@@ -108,7 +108,7 @@ fn show_next<W: Write>(
     ensures ok { IfOk result (λ taken. GoesOn (W.contents output.old.writer) (W.contents output.new.writer) deframer.old.rest deframer.new.rest count.old count.new (take taken piece.now)) }
     ensures unfailed { OnOk result (deframer.new.has_failed ≡ false) }
     ensures rest { OnOk result (IsRest deframer.new.rest) }
-    ensures err { IfErr result (λ fault. Stops fault (W.contents output.old.writer) (W.contents output.new.writer) deframer.old.rest count.old piece.now) }
+    ensures err { IfErr result (λ fault. StopsWithin fault (W.contents output.old.writer) (W.contents output.new.writer) deframer.old.rest count.old piece.now) }
 {
     framing_is_determined();
     match deframer.feed(piece) {

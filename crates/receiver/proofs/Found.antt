@@ -16,7 +16,7 @@ use Rattle.receiver.specs.declared.fault.ReceiveFault.{ReceiveFault}
 use Rattle.receiver.specs.declared.fault.ReceiveFault.TheVariants as refused
 use Rattle.receiver.specs.declared.stream.Stream.{Stream}
 use Rattle.receiver.specs.declared.stream.Stream.TheVariants.{Media, Repair, Candidate}
-use Rattle.receiver.specs.Window.{Window, StartsAt, TakesPlace, held_in, missed_in, window_of}
+use Rattle.receiver.specs.Window.{ReceiverState, StartsAt, TakesPlace, held_in, missed_in, window_of}
 use Rattle.receiver.specs.Heard.{WasAsked, AnswersIn, TakesNumber}
 use Rattle.receiver.specs.Receiver.{IsUnlearnt}
 use Rattle.receiver.proofs.Takes.{put_takes}
@@ -31,18 +31,18 @@ module _ (room seq : ℕ) (content : Content) (now : ℕ) where
   unstarted (Candidate ssrc) refused.NotStarted never = (refl, refl)
   unstarted stream fault never = absurd never
 
-  not_had : (stream : Stream) (old : Window) (place : ℕ) → (MayHave stream old place → ⊥) → AnswersIn room stream old place content now (Err refused.Unasked) (Some old)
+  not_had : (stream : Stream) (old : ReceiverState) (place : ℕ) → (MayHave stream old place → ⊥) → AnswersIn room stream old place content now (Err refused.Unasked) (Some old)
   not_had Media old place never = absurd (never tt)
   not_had Repair old place never = absurd (never tt)
   not_had (Candidate ssrc) old place never = (never, refl)
 
-  not_near : (stream : Stream) (old : Window) (fault : ReceiveFault) → FindsNear stream old seq (Err fault) → TakesNumber room stream (Some old) seq content now (Err fault) (Some old)
+  not_near : (stream : Stream) (old : ReceiverState) (fault : ReceiveFault) → FindsNear stream old seq (Err fault) → TakesNumber room stream (Some old) seq content now (Err fault) (Some old)
   not_near stream old (refused.Place Far) far = inl (far, refl, refl)
   not_near stream old (refused.Place PastEnd) past_end = inr (inl (past_end, refl, refl))
   not_near stream old refused.Unasked (place, near, fits, never) = inr (inr (place, near, fits, not_had stream old place never))
   not_near stream old fault never = absurd never
 
-  pub refused_number : (stream : Stream) (old : Option Window) (fault : ReceiveFault) (answer : Result Taken ReceiveFault) → FindsPlace stream old seq (Err fault) →
+  pub refused_number : (stream : Stream) (old : Option ReceiverState) (fault : ReceiveFault) (answer : Result Taken ReceiveFault) → FindsPlace stream old seq (Err fault) →
       IsErrAnd answer (λ e. e ≡ fault) → TakesNumber room stream old seq content now answer old
   refused_number stream None fault answer found why = subst (λ (r : Result Taken ReceiveFault). TakesNumber room stream None seq content now r None) (sym (is_err answer fault why)) (unstarted stream fault found)
   refused_number stream (Some old) fault answer found why = subst (λ (r : Result Taken ReceiveFault). TakesNumber room stream (Some old) seq content now r (Some old)) (sym (is_err answer fault why)) (not_near stream old fault found)

@@ -24,9 +24,9 @@ use Rattle.receiver.specs.declared.stream.Stream.{Stream}
 use Rattle.receiver.specs.declared.stream.Stream.TheVariants.{Media, Repair, Candidate}
 use Rattle.receiver.specs.Config.{Config}
 use Rattle.receiver.specs.Fault.{receive_number}
-use Rattle.receiver.specs.Window.{Window, AnswersPlace, StartsAt}
+use Rattle.receiver.specs.Window.{ReceiverState, AnswersPlace, StartsAt}
 use Rattle.receiver.specs.Streams.{learnt_by, source_of, repair_under, stream_under, type_of, typed, stream_of}
-use Rattle.receiver.specs.Heard.{AnswersCandidate, AnswersIn, AnswersNumber, TakesNumber, Carries, IsTooShort, HearsStream, HearsSaid, Says, Hears}
+use Rattle.receiver.specs.Heard.{AnswersCandidate, AnswersIn, AnswersNumber, TakesNumber, Carries, IsTooShort, HearsStream, HearsSaid, ReadsPacket, Hears}
 use Rattle.receiver.specs.Order.{IsToLearn, IsNoRepairSource, HasOtherType, CarriesTooMuch, sought, ahead, raised, near_place, place_order, packet_order, hearing_order}
 
 -- the laws of the crates below that this stands on
@@ -47,7 +47,7 @@ pick P false x y f g = g refl
 
 -- The stream of a packet.
 
-module _ (c : Config) (old : Option Window) (p : RtpPacket) where
+module _ (c : Config) (old : Option ReceiverState) (p : RtpPacket) where
   abbrev IsNoSource : Type 0
   IsNoSource = (p.ssrc ≢ c.session.media_ssrc) × IsNoRepairSource c old p.ssrc
 
@@ -146,37 +146,37 @@ up_is : (h s q : ℕ) → IsNear h s q → (near_place h s ≡ q) × (16384 ≤ 
 up_is h s q near = let by = near_by_distance h s (q + 65536) (near_up h s q near) in let is = by.0 in (omega (arith, is), by.1, by.0)
 
 -- the checks of a content at its place, at a started receiver
-abbrev at_place : Config → RtpPacket → Window → (place : ℕ) → List (ℕ × Type 0)
+abbrev at_place : Config → RtpPacket → ReceiverState → (place : ℕ) → List (ℕ × Type 0)
 at_place c p w place =
     (38, IsToLearn c (Some w) × (p.ssrc ≢ c.session.media_ssrc) × (IsSomeAnd (w.missing place) (λ m. 0 < m.asks) → ⊥))
     ∷ (35, place < w.cursor)
     ∷ (36, IsSome (w.held place))
     ∷ []
 
-window_in_order : (room : ℕ) (w : Window) (place : ℕ) (content : Content) (now : ℕ) (answer : Result Taken ReceiveFault) (new : Option Window) →
+window_in_order : (room : ℕ) (w : ReceiverState) (place : ℕ) (content : Content) (now : ℕ) (answer : Result Taken ReceiveFault) (new : Option ReceiverState) →
     AnswersPlace room w place content now answer new → FirstOf ((35, place < w.cursor) ∷ (36, IsSome (w.held place)) ∷ []) (refusal answer)
 window_in_order room w place content now (Ok taken) new (is, above, free, overrun, takes) = inr ((λ late. omega (arith, late, above)), inr ((λ held. true≢false (sym held ∙ ap (λ o. is_some o) free)), refl))
 window_in_order room w place content now (Err (refused.Put Late)) new (late, same) = inl (late, refl)
 window_in_order room w place content now (Err (refused.Put Duplicate)) new (above, held, same) = inr ((λ late. omega (arith, late, above)), inl (held, refl))
 window_in_order room w place content now (Err fault) new never = absurd never
 
-candidate_in_order : (ssrc room : ℕ) (c : Config) (p : RtpPacket) (w : Window) (place : ℕ) (content : Content) (now : ℕ) (answer : Result Taken ReceiveFault) (new : Option Window) →
+candidate_in_order : (ssrc room : ℕ) (c : Config) (p : RtpPacket) (w : ReceiverState) (place : ℕ) (content : Content) (now : ℕ) (answer : Result Taken ReceiveFault) (new : Option ReceiverState) →
     IsOf c (Some w) p (Candidate ssrc) → AnswersCandidate ssrc room w place content now answer new → FirstOf (at_place c p w place) (refusal answer)
 candidate_in_order ssrc room c p w place content now (Ok taken) new is (asked, step) =
     inr ((λ not. not.2 asked), window_in_order room (record w { learnt = Some ssrc }) place content now (Ok taken) new step)
 candidate_in_order ssrc room c p w place content now (Err refused.Unasked) new is (not, same) = inl ((is.1, is.0, not), refl)
 candidate_in_order ssrc room c p w place content now (Err fault) new is never = absurd never
 
-stream_in_order : (room : ℕ) (c : Config) (p : RtpPacket) (stream : Stream) (w : Window) (place : ℕ) (content : Content) (now : ℕ) (answer : Result Taken ReceiveFault) (new : Option Window) →
+stream_in_order : (room : ℕ) (c : Config) (p : RtpPacket) (stream : Stream) (w : ReceiverState) (place : ℕ) (content : Content) (now : ℕ) (answer : Result Taken ReceiveFault) (new : Option ReceiverState) →
     IsOf c (Some w) p stream → AnswersIn room stream w place content now answer new → FirstOf (at_place c p w place) (refusal answer)
 stream_in_order room c p Media w place content now answer new is step = inr ((λ not. not.1 is), window_in_order room w place content now answer new step)
 stream_in_order room c p Repair w place content now answer new is step = inr ((λ not. is.1 not.0), window_in_order room w place content now answer new step)
 stream_in_order room c p (Candidate ssrc) w place content now answer new is step = candidate_in_order ssrc room c p w place content now answer new is step
 
-some_left : (w : Window) → IsNone (Some w) → ⊥
+some_left : (w : ReceiverState) → IsNone (Some w) → ⊥
 some_left w e = absurd cc
 
-module _ (room : ℕ) (c : Config) (p : RtpPacket) (now : ℕ) (answer : Result Taken ReceiveFault) (new : Option Window) where
+module _ (room : ℕ) (c : Config) (p : RtpPacket) (now : ℕ) (answer : Result Taken ReceiveFault) (new : Option ReceiverState) where
   starts_in_order : (stream : Stream) (seq : ℕ) (content : Content) → IsOf c None p stream → TakesNumber room stream None seq content now answer new → FirstOf (place_order c None p seq) (refusal answer)
   starts_in_order Media seq content is step = inr ((λ wrong. wrong.1 is), inr ((λ never. never), inr ((λ never. never), inr ((λ wrong. wrong.1 is), inr ((λ never. never), inr ((λ never. never), taken answer step))))))
     where
@@ -186,7 +186,7 @@ module _ (room : ℕ) (c : Config) (p : RtpPacket) (now : ℕ) (answer : Result 
   starts_in_order Repair seq content is (why, same) = inl ((refl, is.0), ap refusal why)
   starts_in_order (Candidate ssrc) seq content is (why, same) = inl ((refl, is.0), ap refusal why)
 
-  near_in_order : (stream : Stream) (w : Window) (seq : ℕ) (content : Content) → seq < 65536 → IsOf c (Some w) p stream → AnswersNumber room stream w seq content now answer new → FirstOf (place_order c (Some w) p seq) (refusal answer)
+  near_in_order : (stream : Stream) (w : ReceiverState) (seq : ℕ) (content : Content) → seq < 65536 → IsOf c (Some w) p stream → AnswersNumber room stream w seq content now answer new → FirstOf (place_order c (Some w) p seq) (refusal answer)
   near_in_order stream w seq content fits is (inl (far, why, same)) = inr ((λ wrong. some_left w wrong.0), inl (far_by_distance w.highest seq fits far, ap refusal why))
   near_in_order stream w seq content fits is (inr (inl ((r, near, outside), why, same))) =
       let by = near_by_distance w.highest seq r near in
@@ -206,11 +206,11 @@ module _ (room : ℕ) (c : Config) (p : RtpPacket) (now : ℕ) (answer : Result 
         ),
       )
 
-  number_in_order : (stream : Stream) (old : Option Window) (seq : ℕ) (content : Content) → seq < 65536 → IsOf c old p stream → TakesNumber room stream old seq content now answer new → FirstOf (place_order c old p seq) (refusal answer)
+  number_in_order : (stream : Stream) (old : Option ReceiverState) (seq : ℕ) (content : Content) → seq < 65536 → IsOf c old p stream → TakesNumber room stream old seq content now answer new → FirstOf (place_order c old p seq) (refusal answer)
   number_in_order stream None seq content fits is step = starts_in_order stream seq content is step
   number_in_order stream (Some w) seq content fits is step = near_in_order stream w seq content fits is step
 
-module _ (laws : Laws) (room : ℕ) (c : Config) (old : Option Window) (now : ℕ) (answer : Result Taken ReceiveFault) (new : Option Window) where
+module _ (laws : Laws) (room : ℕ) (c : Config) (old : Option ReceiverState) (now : ℕ) (answer : Result Taken ReceiveFault) (new : Option ReceiverState) where
   -- What a packet of a stream carries, by the packet itself.
   pub record Carried (p : RtpPacket) (seq : ℕ) (carried : RtpPacket) : Type 0 where
     pub number : seq ≡ sought c p
@@ -273,7 +273,7 @@ module _ (laws : Laws) (room : ℕ) (c : Config) (old : Option Window) (now : �
   packet_in_order p fits (Ok stream) (some, same, is) heard = inr (some, inr (same, carried_in_order p stream fits is heard))
   packet_in_order p fits (Err fault) never heard = absurd never
 
-  said_in_order : (octets : List ℕ) (x : Result RtpPacket RtpFault) → Says octets x → HearsSaid room c old x now answer new → FirstOf (hearing_order c old octets) (refusal answer)
+  said_in_order : (octets : List ℕ) (x : Result RtpPacket RtpFault) → ReadsPacket octets x → HearsSaid room c old x now answer new → FirstOf (hearing_order c old octets) (refusal answer)
   unfolding hearing_order
   said_in_order octets (Ok p) says heard =
       let front : FirstOf (rtp_order octets) None = subst (λ (fault : Option RtpFault). FirstOf (rtp_order octets) (option_map rtp_number fault)) (laws.passes p octets says) (laws.rtp_order octets) in

@@ -11,8 +11,8 @@ use Rattle.receiver.specs.declared.fault.ReceiveFault.{ReceiveFault}
 use Rattle.receiver.specs.declared.stream.Stream.{Stream}
 use Rattle.receiver.specs.declared.stream.Stream.TheVariants.{Media, Repair, Candidate}
 use Rattle.receiver.specs.Config.{Config}
-use Rattle.receiver.specs.Window.{Missed, Window, Takes, Passes, AnswersPlace, Plays, PlaysAny}
-use Rattle.receiver.specs.Asks.{is_due, is_among, asked_once, Asks, AsksAny, KeepsLimit}
+use Rattle.receiver.specs.Window.{Missed, ReceiverState, Takes, Passes, AnswersPlace, Plays, PlaysAny}
+use Rattle.receiver.specs.Asks.{is_due, is_among, asked_once, Asks, AsksAny, AsksWithin}
 use Rattle.receiver.specs.Heard.{AnswersIn, TakesNumber, Hears, TakesOrRefuses}
 use Rattle.receiver.proofs.Rising.{among_take}
 use Rattle.receiver.proofs.Whichever.{whichever}
@@ -25,16 +25,16 @@ kept retry limit now None false due keeps = keeps
 kept retry limit now (Some m) true due keeps = let is = due refl in grind (arith, nat_tests)
 kept retry limit now (Some m) false due keeps = keeps
 
-keeps_at : (c : Config) (now : ℕ) (old : Window) (due : List ℕ) (count : ℕ) (new : Option Window) → ((q : ℕ) → is_among due q ≡ is_due c.retry c.asks now (old.missing q)) →
-    IsSomeAnd new (Asks old (take count (take 1088 due)) now) → KeepsLimit c.asks (Some old) → KeepsLimit c.asks new
+keeps_at : (c : Config) (now : ℕ) (old : ReceiverState) (due : List ℕ) (count : ℕ) (new : Option ReceiverState) → ((q : ℕ) → is_among due q ≡ is_due c.retry c.asks now (old.missing q)) →
+    IsSomeAnd new (Asks old (take count (take 1088 due)) now) → AsksWithin c.asks (Some old) → AsksWithin c.asks new
 keeps_at c now old due count None each none keeps = absurd none
 keeps_at c now old due count (Some new) each asks keeps =
     λ k. subst (λ (m : Option Missed). IfSome m (λ x. x.asks ≤ c.asks)) (sym (asks.missing k))
     (kept c.retry c.asks now (old.missing k) _ (λ among. sym (each k) ∙ among_take 1088 due k (among_take count (take 1088 due) k among)) (keeps k))
 
-pub asks_keep : (c : Config) (now : ℕ) (old : Option Window) (answer : Option (ArrayVec ℕ)) (new : Option Window) → AsksAny c old now answer new → KeepsLimit c.asks old → KeepsLimit c.asks new
-asks_keep c now None answer new (none, is) keeps = subst (λ (s : Option Window). KeepsLimit c.asks s) (sym is) keeps
-asks_keep c now (Some old) None new a keeps = subst (λ (s : Option Window). KeepsLimit c.asks s) (sym a.answers.1) keeps
+pub asks_keep : (c : Config) (now : ℕ) (old : Option ReceiverState) (answer : Option (ArrayVec ℕ)) (new : Option ReceiverState) → AsksAny c old now answer new → AsksWithin c.asks old → AsksWithin c.asks new
+asks_keep c now None answer new (none, is) keeps = subst (λ (s : Option ReceiverState). AsksWithin c.asks s) (sym is) keeps
+asks_keep c now (Some old) None new a keeps = subst (λ (s : Option ReceiverState). AsksWithin c.asks s) (sym a.answers.1) keeps
 asks_keep c now (Some old) (Some datagram) new a keeps = keeps_at c now old a.due a.answers.1.asked.count new a.each.each a.answers.1.asked.asks keeps
 
 -- one place keeps the limit: it isn't missing, or is as it was, or was only noticed
@@ -47,11 +47,11 @@ gone limit m is = subst (λ (x : Option Missed). Within limit x) (sym is) tt
 as_it_was : (limit : ℕ) (m n : Option Missed) → m ≡ n → Within limit n → Within limit m
 as_it_was limit m n is keeps = subst (λ (x : Option Missed). Within limit x) (sym is) keeps
 
-unchanged : (limit : ℕ) (old new : Option Window) → new ≡ old → KeepsLimit limit old → KeepsLimit limit new
-unchanged limit old new is keeps = subst (λ (x : Option Window). KeepsLimit limit x) (sym is) keeps
+unchanged : (limit : ℕ) (old new : Option ReceiverState) → new ≡ old → AsksWithin limit old → AsksWithin limit new
+unchanged limit old new is keeps = subst (λ (x : Option ReceiverState). AsksWithin limit x) (sym is) keeps
 
 module _ (limit room : ℕ) (place : ℕ) (content : Content) (now : ℕ) where
-  takes_keep : (old new : Window) → Takes room old place content now new → KeepsLimit limit (Some old) → KeepsLimit limit (Some new)
+  takes_keep : (old new : ReceiverState) → Takes room old place content now new → AsksWithin limit (Some old) → AsksWithin limit (Some new)
   takes_keep old new t keeps k =
       elim (cases_lt k new.cursor) [
         | inl under ↦ gone limit _ (t.missing_dropped k under)
@@ -70,17 +70,17 @@ module _ (limit room : ℕ) (place : ℕ) (content : Content) (now : ℕ) where
       less : (k : ℕ) → k ≢ place → k ≤ place → k < place
       less k other near = elim (cases_lt k place) [ inl under ↦ under | inr above ↦ absurd (other (omega arith)) ]
 
-  placed_keep : (taken : Taken) (old : Window) (new : Option Window) → AnswersPlace room old place content now (Ok taken) new → KeepsLimit limit (Some old) → KeepsLimit limit new
+  placed_keep : (taken : Taken) (old : ReceiverState) (new : Option ReceiverState) → AnswersPlace room old place content now (Ok taken) new → AsksWithin limit (Some old) → AsksWithin limit new
   placed_keep taken old None (at, above, free, over, none) keeps = absurd none
   placed_keep taken old (Some w) (at, above, free, over, takes) keeps = takes_keep old w takes keeps
 
-  in_keep : (stream : Stream) (taken : Taken) (old : Window) (new : Option Window) → AnswersIn room stream old place content now (Ok taken) new → KeepsLimit limit (Some old) → KeepsLimit limit new
+  in_keep : (stream : Stream) (taken : Taken) (old : ReceiverState) (new : Option ReceiverState) → AnswersIn room stream old place content now (Ok taken) new → AsksWithin limit (Some old) → AsksWithin limit new
   in_keep Media taken old new step keeps = placed_keep taken old new step keeps
   in_keep Repair taken old new step keeps = placed_keep taken old new step keeps
   in_keep (Candidate ssrc) taken old new (asked, step) keeps = placed_keep taken (record old { learnt = Some ssrc }) new step keeps
 
 module _ (limit room seq : ℕ) (content : Content) (now : ℕ) (taken : Taken) where
-  number_keeps : (stream : Stream) (old new : Option Window) → TakesNumber room stream old seq content now (Ok taken) new → KeepsLimit limit old → KeepsLimit limit new
+  number_keeps : (stream : Stream) (old new : Option ReceiverState) → TakesNumber room stream old seq content now (Ok taken) new → AsksWithin limit old → AsksWithin limit new
   number_keeps Media None None (at, over, none) keeps = absurd none
   number_keeps Media None (Some w) (at, over, starts) keeps = λ k. gone limit _ (starts.missing k)
   number_keeps Repair None new (is, same) keeps = unchanged limit None new same keeps
@@ -89,16 +89,16 @@ module _ (limit room seq : ℕ) (content : Content) (now : ℕ) (taken : Taken) 
   number_keeps stream (Some old) new (inr (inl (past_end, is, same))) keeps = unchanged limit (Some old) new same keeps
   number_keeps stream (Some old) new (inr (inr (place, near, fits, step))) keeps = in_keep limit room place content now stream taken old new step keeps
 
-spelled_keeps : (limit room : ℕ) (c : Config) (octets : List ℕ) (now : ℕ) (answer : Result Taken ReceiveFault) (old new : Option Window) →
-    TakesOrRefuses room c old octets now answer new → KeepsLimit limit old → KeepsLimit limit new
+spelled_keeps : (limit room : ℕ) (c : Config) (octets : List ℕ) (now : ℕ) (answer : Result Taken ReceiveFault) (old new : Option ReceiverState) →
+    TakesOrRefuses room c old octets now answer new → AsksWithin limit old → AsksWithin limit new
 spelled_keeps limit room c octets now (Ok taken) old new step keeps = number_keeps limit room step.seq step.content now taken step.stream old new step.takes keeps
 spelled_keeps limit room c octets now (Err fault) old new same keeps = unchanged limit old new same keeps
 
-pub hears_keep : (limit room : ℕ) (c : Config) (octets : List ℕ) (now : ℕ) (answer : Result Taken ReceiveFault) (old new : Option Window) →
-    Hears room c old octets now answer new → KeepsLimit limit old → KeepsLimit limit new
+pub hears_keep : (limit room : ℕ) (c : Config) (octets : List ℕ) (now : ℕ) (answer : Result Taken ReceiveFault) (old new : Option ReceiverState) →
+    Hears room c old octets now answer new → AsksWithin limit old → AsksWithin limit new
 hears_keep limit room c octets now answer old new hears keeps = spelled_keeps limit room c octets now answer old new (whichever room c old octets now answer new hears) keeps
 
-passes_keep : (limit : ℕ) (old : Window) (new : Option Window) → IsSomeAnd new (Passes old) → KeepsLimit limit (Some old) → KeepsLimit limit new
+passes_keep : (limit : ℕ) (old : ReceiverState) (new : Option ReceiverState) → IsSomeAnd new (Passes old) → AsksWithin limit (Some old) → AsksWithin limit new
 passes_keep limit old None none keeps = absurd none
 passes_keep limit old (Some w) passes keeps =
     λ k. elim (cases_eq k old.cursor) [
@@ -106,12 +106,12 @@ passes_keep limit old (Some w) passes keeps =
       | inr other ↦ as_it_was limit _ _ (passes.missing k other) (keeps k)
     ]
 
-plays_keep_from : (limit patience now : ℕ) (old : Window) (played : Played) (new : Option Window) → Plays patience old now played new → KeepsLimit limit (Some old) → KeepsLimit limit new
+plays_keep_from : (limit patience now : ℕ) (old : ReceiverState) (played : Played) (new : Option ReceiverState) → Plays patience old now played new → AsksWithin limit (Some old) → AsksWithin limit new
 plays_keep_from limit patience now old (Packet place content) new (at, held, passes) keeps = passes_keep limit old new passes keeps
 plays_keep_from limit patience now old (Gap place) new (at, free, cause, passes) keeps = passes_keep limit old new passes keeps
 plays_keep_from limit patience now old Wait new (free, waits, same) keeps = unchanged limit (Some old) new same keeps
 
-pub plays_keep : (limit patience now : ℕ) (old : Option Window) (played : Played) (new : Option Window) → PlaysAny patience old now played new → KeepsLimit limit old → KeepsLimit limit new
+pub plays_keep : (limit patience now : ℕ) (old : Option ReceiverState) (played : Played) (new : Option ReceiverState) → PlaysAny patience old now played new → AsksWithin limit old → AsksWithin limit new
 plays_keep limit patience now None Wait new same keeps = unchanged limit None new same keeps
 plays_keep limit patience now None (Packet place content) new never keeps = absurd never
 plays_keep limit patience now None (Gap place) new never keeps = absurd never

@@ -12,7 +12,7 @@ use Rattle.receiver.specs.declared.fault.ReceiveFault.{ReceiveFault}
 use Rattle.receiver.specs.declared.fault.ReceiveFault.TheVariants as refused
 use Rattle.receiver.specs.declared.stream.Stream.{Stream}
 use Rattle.receiver.specs.Config.{Config}
-use Rattle.receiver.specs.Window.{Window, window_at, window_of}
+use Rattle.receiver.specs.Window.{ReceiverState, window_at, window_of}
 use Rattle.receiver.specs.Streams.{known_to, source_of, stream_of}
 use Rattle.receiver.specs.Receiver.{IsUnlearnt}
 use Rattle.receiver.specs.Heard.{TakesNumber, TakesCarried, Carries, HearsStream, Hears}
@@ -34,7 +34,7 @@ same_source c learnt s (Some k) unlearnt = refl
 -- a datagram that spells a packet of a stream, and what this carries
 module _ (c : Config) (learnt : Option ℕ) (s : Span) (unlearnt : IsUnlearnt s learnt) {octets : List ℕ} {p : RtpPacket} (spelled : RtpSpells p octets) {stream : Stream}
     (found : Ok stream ≡ stream_of c.session (known_to c learnt) p) (seq : ℕ) (payload : List ℕ) (carries : Carries stream p seq (record p { payload = payload })) (now : ℕ) (answer : Result Taken ReceiveFault) where
-  hears : (new : Option Window) → TakesCarried s.capacity stream (window_of learnt s) seq (record p { payload = payload }) now answer new → Hears s.capacity c (window_of learnt s) octets now answer new
+  hears : (new : Option ReceiverState) → TakesCarried s.capacity stream (window_of learnt s) seq (record p { payload = payload }) now answer new → Hears s.capacity c (window_of learnt s) octets now answer new
   hears new takes =
       record {
         said = Ok p;
@@ -50,5 +50,5 @@ module _ (c : Config) (learnt : Option ℕ) (s : Span) (unlearnt : IsUnlearnt s 
 
   -- its content is taken by its number, or refused there
   pub hears_number : (content : Content) → packet_of content p.padding p.sequence p.payload_type p.ssrc ≡ record p { payload = payload } → (IsTooLong (record p { payload = payload }) → false ≡ true) →
-      (new : Option Window) → TakesNumber s.capacity stream (window_of learnt s) seq content now answer new → Hears s.capacity c (window_of learnt s) octets now answer new
+      (new : Option ReceiverState) → TakesNumber s.capacity stream (window_of learnt s) seq content now answer new → Hears s.capacity c (window_of learnt s) octets now answer new
   hears_number content held short new takes = hears new (inr ((λ long. true≢false (sym (short long))), content, held, takes))

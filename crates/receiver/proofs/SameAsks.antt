@@ -6,12 +6,12 @@ use Rattle.fbwire.specs.declared.nack.Pair.{Pair}
 use Rattle.fbwire.specs.Nack.{Nack, nack_octets}
 use Rattle.fbwire.specs.Packing.{IsPacking, IsNarrow}
 use Rattle.receiver.specs.Config.{Config}
-use Rattle.receiver.specs.Window.{Window}
+use Rattle.receiver.specs.Window.{ReceiverState}
 use Rattle.receiver.specs.Asks.{is_due, Asks, AsksFor, AsksAny, AnswersAsk}
 use Rattle.receiver.proofs.Rising.{rising_take, one_list}
 use Rattle.receiver.proofs.SameWindows.{Same, same_window, one_such}
 
-one_asks : (old : Window) (covered : List ℕ) (now : ℕ) (v w : Window) → Asks old covered now v → Asks old covered now w → v ≡ w
+one_asks : (old : ReceiverState) (covered : List ℕ) (now : ℕ) (v w : ReceiverState) → Asks old covered now v → Asks old covered now w → v ≡ w
 one_asks old covered now v w a b =
     same_window v w (a.cursor ∙ sym b.cursor) (a.highest ∙ sym b.highest) (λ k. a.held k ∙ sym (b.held k)) (λ k. a.missing k ∙ sym (b.missing k)) (a.learnt ∙ sym b.learnt)
 
@@ -19,8 +19,8 @@ one_asks old covered now v w a b =
 abbrev pub OnePacking : Type 0
 OnePacking = (places : List ℕ) (a b : List Pair) (m n : ℕ) → IsStrictlyIncreasing places → IsNarrow places → IsPacking places a m → IsPacking places b n → (a ≡ b) × (m ≡ n)
 
-module _ (one_packing : OnePacking) (c : Config) (now : ℕ) (v w : Option Window) where
-  one_ask_for : (old : Window) (due : List ℕ) (x y : ArrayVec ℕ) → IsStrictlyIncreasing due → AsksFor c old due now x v → AsksFor c old due now y w → Same x y v w
+module _ (one_packing : OnePacking) (c : Config) (now : ℕ) (v w : Option ReceiverState) where
+  one_ask_for : (old : ReceiverState) (due : List ℕ) (x y : ArrayVec ℕ) → IsStrictlyIncreasing due → AsksFor c old due now x v → AsksFor c old due now y w → Same x y v w
   one_ask_for old due x y rising a b =
       let v_asked = a.asked in
       let w_asked = b.asked in
@@ -32,7 +32,7 @@ module _ (one_packing : OnePacking) (c : Config) (now : ℕ) (v w : Option Windo
             (subst (λ n. IsSomeAnd w (Asks old (take n (take 1088 due)) now)) (sym packing.1) w_asked.asks),
       )
 
-  one_answer : (old : Window) (due : List ℕ) (r s : Option (ArrayVec ℕ)) → IsStrictlyIncreasing due → AnswersAsk c old due now r v → AnswersAsk c old due now s w → Same r s v w
+  one_answer : (old : ReceiverState) (due : List ℕ) (r s : Option (ArrayVec ℕ)) → IsStrictlyIncreasing due → AnswersAsk c old due now r v → AnswersAsk c old due now s w → Same r s v w
   one_answer old due None None rising (none, is) (none', is') = (refl, is ∙ sym is')
   one_answer old due None (Some y) rising (none, is) (some, asks) = absurd (some none)
   one_answer old due (Some x) None rising (some, asks) (none, is) = absurd (some none)
@@ -40,7 +40,7 @@ module _ (one_packing : OnePacking) (c : Config) (now : ℕ) (v w : Option Windo
       let same = one_ask_for old due x y rising a b in
       (ap (λ (d : ArrayVec ℕ). Some d) same.0, same.1)
 
-  pub one_ask : (old : Option Window) (r s : Option (ArrayVec ℕ)) → AsksAny c old now r v → AsksAny c old now s w → Same r s v w
+  pub one_ask : (old : Option ReceiverState) (r s : Option (ArrayVec ℕ)) → AsksAny c old now r v → AsksAny c old now s w → Same r s v w
   one_ask None r s (none, is) (none', is') = (none ∙ sym none', is ∙ sym is')
   one_ask (Some old) r s a b =
       one_answer old a.due r s a.each.rises a.answers

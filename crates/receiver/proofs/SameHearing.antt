@@ -14,9 +14,9 @@ use Rattle.receiver.specs.declared.fault.ReceiveFault.TheVariants as refused
 use Rattle.receiver.specs.declared.stream.Stream.{Stream}
 use Rattle.receiver.specs.declared.stream.Stream.TheVariants.{Media, Repair, Candidate}
 use Rattle.receiver.specs.Config.{Config}
-use Rattle.receiver.specs.Window.{Window}
+use Rattle.receiver.specs.Window.{ReceiverState}
 use Rattle.receiver.specs.Streams.{stream_of, source_of}
-use Rattle.receiver.specs.Heard.{AnswersCandidate, AnswersIn, AnswersNumber, TakesNumber, TakesCarried, Carries, IsTooShort, HearsStream, HearsSaid, Says, Hears}
+use Rattle.receiver.specs.Heard.{AnswersCandidate, AnswersIn, AnswersNumber, TakesNumber, TakesCarried, Carries, IsTooShort, HearsStream, HearsSaid, ReadsPacket, Hears}
 use Rattle.receiver.proofs.SameWindows.{Same, one_start_at, one_answer}
 
 -- the laws of the crates below that this stands on
@@ -48,8 +48,8 @@ module _ (laws : Laws) where
   not_short Repair p seq carried carries short = let long = laws.long _ p carries in omega (arith, long, short)
   not_short (Candidate ssrc) p seq carried carries short = let long = laws.long _ p carries in omega (arith, long, short)
 
-  module _ (room now : ℕ) (r s : Result Taken ReceiveFault) (v w : Option Window) where
-    one_candidate : (ssrc : ℕ) (old : Window) (place : ℕ) (content : Content) (x y : Result Taken ReceiveFault) → AnswersCandidate ssrc room old place content now x v → AnswersCandidate ssrc room old place content now y w → Same x y v w
+  module _ (room now : ℕ) (r s : Result Taken ReceiveFault) (v w : Option ReceiverState) where
+    one_candidate : (ssrc : ℕ) (old : ReceiverState) (place : ℕ) (content : Content) (x y : Result Taken ReceiveFault) → AnswersCandidate ssrc room old place content now x v → AnswersCandidate ssrc room old place content now y w → Same x y v w
     one_candidate ssrc old place content (Ok t) (Ok u) (asked, a) (asked', b) = one_answer room (record old { learnt = Some ssrc }) place content now v w (Ok t) (Ok u) a b
     one_candidate ssrc old place content (Ok t) (Err refused.Unasked) (asked, a) (unasked, is) = absurd (unasked asked)
     one_candidate ssrc old place content (Err refused.Unasked) (Ok u) (unasked, is) (asked, b) = absurd (unasked asked)
@@ -58,12 +58,12 @@ module _ (laws : Laws) where
     one_candidate ssrc old place content (Err refused.Unasked) (Err fault) a never = absurd never
     one_candidate ssrc old place content (Err fault) y never b = absurd never
 
-    one_in : (stream : Stream) (old : Window) (place : ℕ) (content : Content) → AnswersIn room stream old place content now r v → AnswersIn room stream old place content now s w → Same r s v w
+    one_in : (stream : Stream) (old : ReceiverState) (place : ℕ) (content : Content) → AnswersIn room stream old place content now r v → AnswersIn room stream old place content now s w → Same r s v w
     one_in Media old place content a b = one_answer room old place content now v w r s a b
     one_in Repair old place content a b = one_answer room old place content now v w r s a b
     one_in (Candidate ssrc) old place content a b = one_candidate ssrc old place content r s a b
 
-    one_near : (stream : Stream) (old : Window) (seq : ℕ) (content : Content) → AnswersNumber room stream old seq content now r v → AnswersNumber room stream old seq content now s w → Same r s v w
+    one_near : (stream : Stream) (old : ReceiverState) (seq : ℕ) (content : Content) → AnswersNumber room stream old seq content now r v → AnswersNumber room stream old seq content now s w → Same r s v w
     one_near stream old seq content (inl (far, is, same)) (inl (far', is', same')) = (is ∙ sym is', same ∙ sym same')
     one_near stream old seq content (inl (far, is, same)) (inr (inl (past, is', same'))) = absurd (laws.far_not_past_end old.highest seq far past)
     one_near stream old seq content (inl (far, is, same)) (inr (inr (q, near, fits, step))) = absurd (laws.near_not_far old.highest seq q near far)
@@ -75,13 +75,13 @@ module _ (laws : Laws) where
     one_near stream old seq content (inr (inr (p, near, fits, step))) (inr (inr (q, near', fits', step'))) =
         one_in stream old p content step (subst (λ n. AnswersIn room stream old n content now s w) (laws.one_near old.highest seq q p near' near) step')
 
-    one_number : (stream : Stream) (old : Option Window) (seq : ℕ) (content : Content) → TakesNumber room stream old seq content now r v → TakesNumber room stream old seq content now s w → Same r s v w
+    one_number : (stream : Stream) (old : Option ReceiverState) (seq : ℕ) (content : Content) → TakesNumber room stream old seq content now r v → TakesNumber room stream old seq content now s w → Same r s v w
     one_number Media None seq content a b = one_start_at (65536 + seq) content r s v w a b
     one_number Repair None seq content (is, same) (is', same') = (is ∙ sym is', same ∙ sym same')
     one_number (Candidate ssrc) None seq content (is, same) (is', same') = (is ∙ sym is', same ∙ sym same')
     one_number stream (Some old) seq content a b = one_near stream old seq content a b
 
-    one_carried : (stream : Stream) (old : Option Window) (seq : ℕ) (p : RtpPacket) → TakesCarried room stream old seq p now r v → TakesCarried room stream old seq p now s w → Same r s v w
+    one_carried : (stream : Stream) (old : Option ReceiverState) (seq : ℕ) (p : RtpPacket) → TakesCarried room stream old seq p now r v → TakesCarried room stream old seq p now s w → Same r s v w
     one_carried stream old seq p (inl (long, is, same)) (inl (long', is', same')) = (is ∙ sym is', same ∙ sym same')
     one_carried stream old seq p (inl (long, is, same)) (inr (short, d, carries, takes)) = absurd (short long)
     one_carried stream old seq p (inr (short, c, carries, takes)) (inl (long, is, same)) = absurd (short long)
@@ -89,7 +89,7 @@ module _ (laws : Laws) where
         let same : d ≡ c = laws.one_content d c p.padding p.sequence p.payload_type p.ssrc (carries' ∙ sym carries) in
         one_number stream old seq c takes (subst (λ (x : Content). TakesNumber room stream old seq x now s w) same takes')
 
-    one_stream : (old : Option Window) (p : RtpPacket) (x : Result Stream ReceiveFault) → HearsStream room old p now x r v → HearsStream room old p now x s w → Same r s v w
+    one_stream : (old : Option ReceiverState) (p : RtpPacket) (x : Result Stream ReceiveFault) → HearsStream room old p now x r v → HearsStream room old p now x s w → Same r s v w
     one_stream old p (Ok stream) (inl (short, is, same)) (inl (short', is', same')) = (is ∙ sym is', same ∙ sym same')
     one_stream old p (Ok stream) (inl (short, is, same)) (inr (seq, carried, carries, takes)) = absurd (not_short stream p seq carried carries short)
     one_stream old p (Ok stream) (inr (seq, carried, carries, takes)) (inl (short, is, same)) = absurd (not_short stream p seq carried carries short)
@@ -98,24 +98,24 @@ module _ (laws : Laws) where
         one_carried stream old m a takes (subst (λ (x : ℕ × RtpPacket). TakesCarried room stream old x.0 x.1 now s w) (λ i. (same.0 i, same.1 i)) takes')
     one_stream old p (Err fault) (is, same) (is', same') = (is ∙ sym is', same ∙ sym same')
 
-    one_packet_heard : (c : Config) (old : Option Window) (x : Result RtpPacket RtpFault) → HearsSaid room c old x now r v → HearsSaid room c old x now s w → Same r s v w
+    one_packet_heard : (c : Config) (old : Option ReceiverState) (x : Result RtpPacket RtpFault) → HearsSaid room c old x now r v → HearsSaid room c old x now s w → Same r s v w
     one_packet_heard c old (Ok p) a b = one_stream old p (stream_of c.session (source_of c old) p) a b
     one_packet_heard c old (Err fault) (is, same) (is', same') = (is ∙ sym is', same ∙ sym same')
 
   -- octets say one thing
-  one_said : (octets : List ℕ) (x y : Result RtpPacket RtpFault) → Says octets x → Says octets y → x ≡ y
+  one_said : (octets : List ℕ) (x y : Result RtpPacket RtpFault) → ReadsPacket octets x → ReadsPacket octets y → x ≡ y
   one_said octets (Ok p) (Ok q) a b = ap (λ (z : RtpPacket). Ok z) (laws.one_packet p q octets a b)
   one_said octets (Ok p) (Err fault) a b = absurd (none-some fault (sym (laws.passes p octets a) ∙ b))
   one_said octets (Err fault) (Ok q) a b = absurd (none-some fault (sym (laws.passes q octets b) ∙ a))
   one_said octets (Err f) (Err g) a b = ap (λ (z : RtpFault). Err z) (same_Some f g (sym a ∙ b))
 
-  pub one_hearing : (room : ℕ) (c : Config) (old : Option Window) (octets : List ℕ) (now : ℕ) (r s : Result Taken ReceiveFault) (v w : Option Window) →
+  pub one_hearing : (room : ℕ) (c : Config) (old : Option ReceiverState) (octets : List ℕ) (now : ℕ) (r s : Result Taken ReceiveFault) (v w : Option ReceiverState) →
       Hears room c old octets now r v → Hears room c old octets now s w → Same r s v w
   one_hearing room c old octets now r s v w a b =
       one_packet_heard room now r s v w c old a.said a.heard
       (subst (λ (x : Result RtpPacket RtpFault). HearsSaid room c old x now s w) (one_said octets b.said a.said b.says a.says) b.heard)
 
-  module _ (room : ℕ) (c : Config) (old : Option Window) (octets : List ℕ) (now : ℕ) (answer : Result Taken ReceiveFault) (new : Option Window) where
+  module _ (room : ℕ) (c : Config) (old : Option ReceiverState) (octets : List ℕ) (now : ℕ) (answer : Result Taken ReceiveFault) (new : Option ReceiverState) where
     abbrev media_packet : Content → (padding seq : ℕ) → RtpPacket
     media_packet content padding seq = packet_of content padding seq c.session.media_type c.session.media_ssrc
 

@@ -10,10 +10,10 @@ use Rattle.receiver.specs.declared.answer.Played.{Played}
 use Rattle.receiver.specs.declared.answer.Played.TheVariants.{Packet, Gap, Wait}
 use Rattle.receiver.specs.declared.fault.ReceiveFault.{ReceiveFault}
 use Rattle.receiver.specs.declared.fault.ReceiveFault.TheVariants as refused
-use Rattle.receiver.specs.Window.{Window, Missed, Starts, Takes, Passes, HasPassed, AnswersPlace, StartsAt, Plays, PlaysAny}
+use Rattle.receiver.specs.Window.{ReceiverState, Missed, Starts, Takes, Passes, HasPassed, AnswersPlace, StartsAt, Plays, PlaysAny}
 
 -- windows that agree at every place are one
-pub same_window : (v w : Window) → v.cursor ≡ w.cursor → v.highest ≡ w.highest → ((k : ℕ) → v.held k ≡ w.held k) → ((k : ℕ) → v.missing k ≡ w.missing k) → v.learnt ≡ w.learnt → v ≡ w
+pub same_window : (v w : ReceiverState) → v.cursor ≡ w.cursor → v.highest ≡ w.highest → ((k : ℕ) → v.held k ≡ w.held k) → ((k : ℕ) → v.missing k ≡ w.missing k) → v.learnt ≡ w.learnt → v ≡ w
 same_window v w cursor highest held missing learnt =
     λ i. record { cursor = cursor i; highest = highest i; held = λ k. held k i; missing = λ k. missing k i; learnt = learnt i }
 
@@ -22,13 +22,13 @@ at_each : {A : Type 0} (f g : ℕ → A) (p : ℕ) → f p ≡ g p → ((k : ℕ
 at_each f g p here elsewhere k =
     elim (cases_eq k p) [ inl same ↦ subst (λ n. f n ≡ g n) (sym same) here | inr other ↦ elsewhere k other ]
 
-one_start : (place : ℕ) (content : Content) (v w : Window) → Starts place content v → Starts place content w → v ≡ w
+one_start : (place : ℕ) (content : Content) (v w : ReceiverState) → Starts place content v → Starts place content w → v ≡ w
 one_start place content v w a b =
     same_window v w (a.cursor ∙ sym b.cursor) (a.highest ∙ sym b.highest)
     (at_each v.held w.held place (a.held ∙ sym b.held) (λ k other. a.held_else k other ∙ sym (b.held_else k other)))
     (λ k. a.missing k ∙ sym (b.missing k)) (a.learnt ∙ sym b.learnt)
 
-module _ (room : ℕ) (old : Window) (place : ℕ) (content : Content) (now : ℕ) (v w : Window) (a : Takes room old place content now v) (b : Takes room old place content now w) where
+module _ (room : ℕ) (old : ReceiverState) (place : ℕ) (content : Content) (now : ℕ) (v w : ReceiverState) (a : Takes room old place content now v) (b : Takes room old place content now w) where
   cursors : v.cursor ≡ w.cursor
   cursors = a.cursor ∙ sym b.cursor
 
@@ -73,7 +73,7 @@ module _ (room : ℕ) (old : Window) (place : ℕ) (content : Content) (now : �
       (at_each v.missing w.missing place (a.missing ∙ sym b.missing) same_missing)
       (a.learnt ∙ sym b.learnt)
 
-one_pass : (old v w : Window) → Passes old v → Passes old w → v ≡ w
+one_pass : (old v w : ReceiverState) → Passes old v → Passes old w → v ≡ w
 one_pass old v w a b =
     same_window v w (a.cursor ∙ sym b.cursor) (a.highest ∙ sym b.highest)
     (at_each v.held w.held old.cursor (a.held_dropped ∙ sym b.held_dropped) (λ k other. a.held k other ∙ sym (b.held k other)))
@@ -81,10 +81,10 @@ one_pass old v w a b =
     (a.learnt ∙ sym b.learnt)
 
 -- a window that is some one
-pub one_such : (P : Window → Type 0) → ((v w : Window) → P v → P w → v ≡ w) → (v w : Option Window) → IsSomeAnd v P → IsSomeAnd w P → v ≡ w
+pub one_such : (P : ReceiverState → Type 0) → ((v w : ReceiverState) → P v → P w → v ≡ w) → (v w : Option ReceiverState) → IsSomeAnd v P → IsSomeAnd w P → v ≡ w
 one_such P one None w none b = absurd none
 one_such P one (Some v) None a none = absurd none
-one_such P one (Some v) (Some w) a b = ap (λ (x : Window). Some x) (one v w a b)
+one_such P one (Some v) (Some w) a b = ap (λ (x : ReceiverState). Some x) (one v w a b)
 
 -- the same answer, and the same receiver after it
 abbrev pub Same : {A B : Type 0} (a b : A) (x y : B) → Type 0
@@ -93,7 +93,7 @@ Same a b x y = (a ≡ b) × (x ≡ y)
 same_taken : (s t : Taken) → s.place ≡ t.place → s.overrun ≡ t.overrun → s ≡ t
 same_taken s t place overrun = λ i. record { place = place i; overrun = overrun i }
 
-pub one_start_at : (place : ℕ) (content : Content) (r s : Result Taken ReceiveFault) (v w : Option Window) →
+pub one_start_at : (place : ℕ) (content : Content) (r s : Result Taken ReceiveFault) (v w : Option ReceiverState) →
     StartsAt place content r v → StartsAt place content s w → Same r s v w
 one_start_at place content (Err fault) s v w never b = absurd never
 one_start_at place content (Ok t) (Err fault) v w a never = absurd never
@@ -106,7 +106,7 @@ some_is : (o : Option Content) → IsSome o → o ≡ None → ⊥
 some_is None some is = cc
 some_is (Some x) some is = none-some x (sym is)
 
-module _ (room : ℕ) (old : Window) (place : ℕ) (content : Content) (now : ℕ) (v w : Option Window) where
+module _ (room : ℕ) (old : ReceiverState) (place : ℕ) (content : Content) (now : ℕ) (v w : Option ReceiverState) where
   pub one_answer : (r s : Result Taken ReceiveFault) → AnswersPlace room old place content now r v → AnswersPlace room old place content now s w → Same r s v w
   one_answer (Ok t) (Ok u) (at, above, free, over, takes) (at', above', free', over', takes') = (
     ap (λ (x : Taken). Ok x) (same_taken t u (at ∙ sym at') (over ∙ sym over')),
@@ -128,8 +128,8 @@ passed : (patience now : ℕ) (o : Option Missed) → IsSomeAnd o (λ m. HasPass
 passed patience now None none waits = none
 passed patience now (Some m) long waits = waits m refl long
 
-module _ (patience : ℕ) (now : ℕ) (v w : Option Window) where
-  one_play_from : (old : Window) (r s : Played) → Plays patience old now r v → Plays patience old now s w → Same r s v w
+module _ (patience : ℕ) (now : ℕ) (v w : Option ReceiverState) where
+  one_play_from : (old : ReceiverState) (r s : Played) → Plays patience old now r v → Plays patience old now s w → Same r s v w
   one_play_from old (Packet p x) (Packet q y) (at, held, passes) (at', held', passes') =
       let here : p ≡ q = at ∙ sym at' in
       let content : x ≡ y = same_Some x y (sym held ∙ ap old.held here ∙ held') in
@@ -150,7 +150,7 @@ module _ (patience : ℕ) (now : ℕ) (v w : Option Window) where
       absurd (passed patience now (old.missing old.cursor) (subst (λ n. IsSomeAnd (old.missing n) (λ m. HasPassed patience m.noticed now)) at cause) waits)
   one_play_from old Wait Wait (free, waits, is) (free', waits', is') = (refl, is ∙ sym is')
 
-  pub one_play : (old : Option Window) (r s : Played) → PlaysAny patience old now r v → PlaysAny patience old now s w → Same r s v w
+  pub one_play : (old : Option ReceiverState) (r s : Played) → PlaysAny patience old now r v → PlaysAny patience old now s w → Same r s v w
   one_play None Wait Wait is is' = (refl, is ∙ sym is')
   one_play None (Packet p x) s never b = absurd never
   one_play None (Gap p) s never b = absurd never

@@ -9,7 +9,7 @@ use Rattle.fbwire.specs.Nack.{NackSpells}
 use Rattle.fbwire.specs.Packing.{IsPacking, IsNarrow}
 use Rattle.stores.specs.PlaceLists.{Lists}
 use Rattle.receiver.specs.Config.{Config}
-use Rattle.receiver.specs.Window.{Missed, Window}
+use Rattle.receiver.specs.Window.{Missed, ReceiverState}
 
 -- Whether a place is due to be asked for: it is missing, it was asked for fewer times than the limit, and
 -- never so far or last so long ago. A moment before the last ask is never long enough after it.
@@ -30,7 +30,7 @@ abbrev pub asked_once : (now : ℕ) → Missed → Missed
 asked_once now m = record { noticed = m.noticed; asks = m.asks + 1; last = now }
 
 -- Each of the covered places was asked for once more, at the moment `now`. All else is as it was.
-pub record Asks (old : Window) (covered : List ℕ) (now : ℕ) (new : Window) : Type 0 where
+pub record Asks (old : ReceiverState) (covered : List ℕ) (now : ℕ) (new : ReceiverState) : Type 0 where
   pub cursor : new.cursor ≡ old.cursor
   pub highest : new.highest ≡ old.highest
   pub held : (k : ℕ) → new.held k ≡ old.held k
@@ -39,7 +39,7 @@ pub record Asks (old : Window) (covered : List ℕ) (now : ℕ) (new : Window) :
 
 -- An ask for due places by pairs. The first 1088 of them, or all, are packed into as few pairs as name them, 64
 -- at most. A due place that the pairs do not cover stays due.
-pub record AsksBy (old : Window) (due : List ℕ) (now : ℕ) (pairs : List Pair) (new : Option Window) : Type 0 where
+pub record AsksBy (old : ReceiverState) (due : List ℕ) (now : ℕ) (pairs : List Pair) (new : Option ReceiverState) : Type 0 where
   pub count : ℕ
   pub covers : 0 < count
   -- the places lie within one window, so no two of them have one sequence number
@@ -48,37 +48,37 @@ pub record AsksBy (old : Window) (due : List ℕ) (now : ℕ) (pairs : List Pair
   pub asks : IsSomeAnd new (Asks old (take count (take 1088 due)) now)
 
 -- An ask as a datagram: the NACK of the pairs, from the receiver to the media source.
-pub record AsksFor (c : Config) (old : Window) (due : List ℕ) (now : ℕ) (datagram : ArrayVec ℕ) (new : Option Window) : Type 0 where
+pub record AsksFor (c : Config) (old : ReceiverState) (due : List ℕ) (now : ℕ) (datagram : ArrayVec ℕ) (new : Option ReceiverState) : Type 0 where
   pub pairs : List Pair
   pub asked : AsksBy old due now pairs new
   pub spells : NackSpells (record { reporter = c.session.receiver_ssrc; media = c.session.media_ssrc; pairs = pairs }) datagram.items
 
 -- where no place is due there is no ask, and nothing changes
-abbrev pub AnswersAsk : Config → Window → (due : List ℕ) → (now : ℕ) → Option (ArrayVec ℕ) → Option Window → Type 0
+abbrev pub AnswersAsk : Config → ReceiverState → (due : List ℕ) → (now : ℕ) → Option (ArrayVec ℕ) → Option ReceiverState → Type 0
 AnswersAsk c old due now (Some datagram) new = (due ≢ []) × AsksFor c old due now datagram new
 AnswersAsk c old due now None new = (due ≡ []) × (new ≡ Some old)
 
 -- an ask at a started receiver
-pub record AsksDue (c : Config) (old : Window) (now : ℕ) (answer : Option (ArrayVec ℕ)) (new : Option Window) : Type 0 where
+pub record AsksDue (c : Config) (old : ReceiverState) (now : ℕ) (answer : Option (ArrayVec ℕ)) (new : Option ReceiverState) : Type 0 where
   pub due : List ℕ
   pub each : Lists due (λ k. is_due c.retry c.asks now (old.missing k))
   pub answers : AnswersAsk c old due now answer new
 
 -- A receiver that took nothing asks for nothing.
-abbrev pub AsksAny : Config → Option Window → (now : ℕ) → Option (ArrayVec ℕ) → Option Window → Type 0
+abbrev pub AsksAny : Config → Option ReceiverState → (now : ℕ) → Option (ArrayVec ℕ) → Option ReceiverState → Type 0
 AsksAny c None now answer new = (answer ≡ None) × (new ≡ None)
 AsksAny c (Some old) now answer new = AsksDue c old now answer new
 
 -- how many places are missing
-pub record CountsMissed (old : Window) (count : ℕ) : Type 0 where
+pub record CountsMissed (old : ReceiverState) (count : ℕ) : Type 0 where
   pub places : List ℕ
   pub each : Lists places (λ k. is_missed (old.missing k))
   pub counted : count ≡ length places
 
-abbrev pub CountsMissing : Option Window → (count : ℕ) → Type 0
+abbrev pub CountsMissing : Option ReceiverState → (count : ℕ) → Type 0
 CountsMissing None count = count ≡ 0
 CountsMissing (Some old) count = CountsMissed old count
 
 -- no place was asked for more often than this limit
-abbrev pub KeepsLimit : (limit : ℕ) → Option Window → Type 0
-KeepsLimit limit state = IfSome state (λ w. (k : ℕ) → IfSome (w.missing k) (λ m. m.asks ≤ limit))
+abbrev pub AsksWithin : (limit : ℕ) → Option ReceiverState → Type 0
+AsksWithin limit state = IfSome state (λ w. (k : ℕ) → IfSome (w.missing k) (λ m. m.asks ≤ limit))

@@ -7,7 +7,7 @@ use Rattle.receiver.specs.declared.fault.ReceiveFault.{ReceiveFault}
 use Rattle.receiver.specs.declared.fault.ReceiveFault.TheVariants as refused
 use Rattle.receiver.specs.declared.stream.Stream.{Stream}
 use Rattle.receiver.specs.declared.stream.Stream.TheVariants.{Media, Repair, Candidate}
-use Rattle.receiver.specs.Window.{Window}
+use Rattle.receiver.specs.Window.{ReceiverState}
 use Rattle.receiver.specs.Heard.{WasAsked}
 
 -- a packet of this stream starts a receiver
@@ -17,13 +17,13 @@ MayStart Repair = ⊥
 MayStart (Candidate ssrc) = ⊥
 
 -- A packet of this stream may have the place: where the stream is to be learnt, the place is one that was asked for.
-abbrev pub MayHave : Stream → Window → (place : ℕ) → Type 0
+abbrev pub MayHave : Stream → ReceiverState → (place : ℕ) → Type 0
 MayHave Media old place = Unit {0}
 MayHave Repair old place = Unit {0}
 MayHave (Candidate ssrc) old place = WasAsked (old.missing place)
 
 -- at a started receiver: the near place, or the one check that fails
-abbrev pub FindsNear : Stream → Window → (seq : ℕ) → Result ℕ ReceiveFault → Type 0
+abbrev pub FindsNear : Stream → ReceiverState → (seq : ℕ) → Result ℕ ReceiveFault → Type 0
 FindsNear stream old seq (Ok place) = IsNear old.highest seq place × (place < 2 ^ 48) × MayHave stream old place
 FindsNear stream old seq (Err (refused.Place Far)) = IsFar old.highest seq
 FindsNear stream old seq (Err (refused.Place PastEnd)) = IsPastEnd old.highest seq
@@ -37,6 +37,6 @@ FindsFirst stream seq (Ok place) = (place ≡ 65536 + seq) × MayStart stream
 FindsFirst stream seq (Err refused.NotStarted) = MayStart stream → ⊥
 FindsFirst stream seq (Err fault) = ⊥
 
-abbrev pub FindsPlace : Stream → Option Window → (seq : ℕ) → Result ℕ ReceiveFault → Type 0
+abbrev pub FindsPlace : Stream → Option ReceiverState → (seq : ℕ) → Result ℕ ReceiveFault → Type 0
 FindsPlace stream None seq found = FindsFirst stream seq found
 FindsPlace stream (Some old) seq found = FindsNear stream old seq found

@@ -6,17 +6,17 @@ use Rattle.rtpwire.specs.RtpReading.{packet_in}
 use Rattle.rtpwire.specs.RtpOrder.{rtp_order}
 use Rattle.rtpwire.specs.Retransmission.{original_in}
 use Rattle.receiver.specs.Config.{Config}
-use Rattle.receiver.specs.Window.{Window}
+use Rattle.receiver.specs.Window.{ReceiverState}
 use Rattle.receiver.specs.Streams.{learnt_by}
 
 -- the SSRC of the retransmissions is still to be learnt
-pub record IsToLearn (c : Config) (old : Option Window) : Type 0 where
+pub record IsToLearn (c : Config) (old : Option ReceiverState) : Type 0 where
   pub learns : c.learns ≡ true
   pub nothing : learnt_by old ≡ None
 
 -- The SSRC is not that of the retransmissions: of the session's at a receiver that does not learn, and of the one
 -- that was learnt at one that does. While that is to be learnt, the receiver's own is none.
-abbrev pub IsNoRepairSource : Config → Option Window → (ssrc : ℕ) → Type 0
+abbrev pub IsNoRepairSource : Config → Option ReceiverState → (ssrc : ℕ) → Type 0
 IsNoRepairSource c old ssrc =
     ((c.learns ≡ false) × (ssrc ≢ c.session.repair_ssrc))
     ⊎ ((c.learns ≡ true) × MatchOption (learnt_by old) (ssrc ≡ c.session.receiver_ssrc) (λ known. ssrc ≢ known))
@@ -50,7 +50,7 @@ abbrev pub near_place : (highest seq : ℕ) → ℕ
 near_place highest seq = raised highest seq - 65536
 
 -- The checks of the place that a sequence number has. A receiver that took nothing passes all but the first.
-abbrev pub place_order : Config → Option Window → RtpPacket → (seq : ℕ) → List (ℕ × Type 0)
+abbrev pub place_order : Config → Option ReceiverState → RtpPacket → (seq : ℕ) → List (ℕ × Type 0)
 place_order c old p seq =
     (33, IsNone old × (p.ssrc ≢ c.session.media_ssrc))
     ∷ (34, IsSomeAnd old (λ w. (16384 ≤ ahead w.highest seq) × (ahead w.highest seq ≤ 49152)))
@@ -60,7 +60,7 @@ place_order c old p seq =
     ∷ (36, IsSomeAnd old (λ w. IsSome (w.held (near_place w.highest seq))))
     ∷ []
 
-abbrev pub packet_order : Config → Option Window → RtpPacket → List (ℕ × Type 0)
+abbrev pub packet_order : Config → Option ReceiverState → RtpPacket → List (ℕ × Type 0)
 packet_order c old p =
     (31, (p.ssrc ≢ c.session.media_ssrc) × IsNoRepairSource c old p.ssrc)
     ∷ (32, HasOtherType c p)
@@ -69,7 +69,7 @@ packet_order c old p =
     ∷ place_order c old p (sought c p)
 
 -- all checks of a datagram: of its octets (1 to 5), and then of the packet in them
-unfoldable pub hearing_order : Config → Option Window → List ℕ → List (ℕ × Type 0)
+unfoldable pub hearing_order : Config → Option ReceiverState → List ℕ → List (ℕ × Type 0)
 hearing_order c old octets = rtp_order octets ++ packet_order c old (packet_in octets)
 
 -- The checks of a configuration: the table of limits in docs/PROTOCOL.md, where a limit of a type's own is none.

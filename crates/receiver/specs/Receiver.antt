@@ -2,8 +2,8 @@
 use Rattle.std.specs.Prelude.{◌≡◌, ℕ, Option, None}
 use Rattle.stores.specs.Span.{Span}
 use Rattle.receiver.specs.Config.{Config}
-use Rattle.receiver.specs.Window.{Window, window_of}
-use Rattle.receiver.specs.Asks.{KeepsLimit}
+use Rattle.receiver.specs.Window.{ReceiverState, window_of}
+use Rattle.receiver.specs.Asks.{AsksWithin}
 
 pub record Receiving : Type 0 where
   pub config : Config
@@ -15,10 +15,10 @@ abbrev pub IsUnlearnt : Span → (learnt : Option ℕ) → Type 0
 IsUnlearnt s learnt = s.cursor ≡ None → learnt ≡ None
 
 -- the receiver over places
-abbrev pub state_of : Receiving → Option Window
+abbrev pub state_of : Receiving → Option ReceiverState
 state_of r = window_of r.learnt r.span
 
 -- What is true of every receiver: no place was asked for more often than the configuration says.
 pub record IsReceiving (r : Receiving) : Type 0 where
   pub unlearnt : IsUnlearnt r.span r.learnt
-  pub limit : KeepsLimit r.config.asks (state_of r)
+  pub limit : AsksWithin r.config.asks (state_of r)

@@ -4,14 +4,14 @@ use Rattle.std.specs.Prelude.{ℕ, ◌==◌, Option, Some, None, Result, Ok, Err
 use Rattle.rtpwire.specs.Rtp.{RtpPacket}
 use Rattle.rtpwire.specs.Session.{Streams}
 use Rattle.receiver.specs.Config.{Config}
-use Rattle.receiver.specs.Window.{Window}
+use Rattle.receiver.specs.Window.{ReceiverState}
 use Rattle.receiver.specs.declared.fault.ReceiveFault.{ReceiveFault}
 use Rattle.receiver.specs.declared.fault.ReceiveFault.TheVariants as refused
 use Rattle.receiver.specs.declared.stream.Stream.{Stream}
 use Rattle.receiver.specs.declared.stream.Stream.TheVariants.{Media, Repair, Candidate}
 
 -- what a receiver learnt: nothing before its start
-abbrev pub learnt_by : Option Window → Option ℕ
+abbrev pub learnt_by : Option ReceiverState → Option ℕ
 learnt_by None = None
 learnt_by (Some old) = old.learnt
 
@@ -19,7 +19,7 @@ learnt_by (Some old) = old.learnt
 abbrev pub known_to : (c : Config) → (learnt : Option ℕ) → Option ℕ
 known_to c learnt = if c.learns then learnt else Some c.session.repair_ssrc
 
-abbrev pub source_of : Config → Option Window → Option ℕ
+abbrev pub source_of : Config → Option ReceiverState → Option ℕ
 source_of c old = known_to c (learnt_by old)
 
 -- The stream of an SSRC that isn't the media's: where the SSRC of the retransmissions is known, it is that; else

@@ -20,7 +20,7 @@ pub record Missed : Type 0 where
   pub last : ℕ
 
 -- A receiver that took a place. One that took none so far is no window.
-pub record Window : Type 0 where
+pub record ReceiverState : Type 0 where
   pub cursor : ℕ  -- the next place to play
   pub highest : ℕ  -- the highest place that was taken
   pub held : ℕ → Option Content
@@ -39,7 +39,7 @@ missed_in (Some (Held content)) = None
 missed_in (Some (Missing noticed asks last)) = Some (record { noticed = noticed; asks = asks; last = last })
 
 -- the receiver that learnt this and whose window is kept so, by its cursor
-abbrev pub window_at : (learnt cursor : Option ℕ) → Span → Option Window
+abbrev pub window_at : (learnt cursor : Option ℕ) → Span → Option ReceiverState
 window_at learnt None s = None
 window_at learnt (Some k) s =
     Some (record {
@@ -50,7 +50,7 @@ window_at learnt (Some k) s =
       learnt = learnt;
     })
 
-abbrev pub window_of : (learnt : Option ℕ) → Span → Option Window
+abbrev pub window_of : (learnt : Option ℕ) → Span → Option ReceiverState
 window_of learnt s = window_at learnt s.cursor s
 
 abbrev pub new_missed : ℕ → Missed
@@ -61,7 +61,7 @@ abbrev pub cursor_after : ℕ → ℕ → ℕ → ℕ
 cursor_after room cursor place = max cursor (place + 1 - room)
 
 -- The first place that is taken starts the window.
-pub record Starts (place : ℕ) (content : Content) (new : Window) : Type 0 where
+pub record Starts (place : ℕ) (content : Content) (new : ReceiverState) : Type 0 where
   pub cursor : new.cursor ≡ place
   pub highest : new.highest ≡ place
   pub held : new.held place ≡ Some content
@@ -71,7 +71,7 @@ pub record Starts (place : ℕ) (content : Content) (new : Window) : Type 0 wher
 
 -- A later place that is taken. What falls below the cursor is dropped for good; the places that lie
 -- between the highest so far and this one are noticed to be missing.
-pub record Takes (room : ℕ) (old : Window) (place : ℕ) (content : Content) (now : ℕ) (new : Window) : Type 0 where
+pub record Takes (room : ℕ) (old : ReceiverState) (place : ℕ) (content : Content) (now : ℕ) (new : ReceiverState) : Type 0 where
   pub cursor : new.cursor ≡ cursor_after room old.cursor place
   pub highest : new.highest ≡ max old.highest place
   pub held : new.held place ≡ Some content
@@ -85,7 +85,7 @@ pub record Takes (room : ℕ) (old : Window) (place : ℕ) (content : Content) (
   pub learnt : new.learnt ≡ old.learnt
 
 -- The cursor rises by one.
-pub record Passes (old new : Window) : Type 0 where
+pub record Passes (old new : ReceiverState) : Type 0 where
   pub cursor : new.cursor ≡ old.cursor + 1
   pub highest : new.highest ≡ old.highest
   pub held : (k : ℕ) → k ≢ old.cursor → new.held k ≡ old.held k
@@ -96,7 +96,7 @@ pub record Passes (old new : Window) : Type 0 where
 
 -- What a started receiver answers to a content at its place: it takes it, or refuses it below the cursor
 -- (35) or where the place is held already (36), which changes nothing.
-abbrev pub AnswersPlace : (room : ℕ) → Window → (place : ℕ) → Content → (now : ℕ) → Result Taken ReceiveFault → Option Window → Type 0
+abbrev pub AnswersPlace : (room : ℕ) → ReceiverState → (place : ℕ) → Content → (now : ℕ) → Result Taken ReceiveFault → Option ReceiverState → Type 0
 AnswersPlace room old place content now (Ok taken) new =
     (taken.place ≡ place)
     × (old.cursor ≤ place)
@@ -109,11 +109,11 @@ AnswersPlace room old place content now (Err (refused.Put Duplicate)) new =
 AnswersPlace room old place content now (Err fault) new = ⊥
 
 -- A receiver that took nothing takes any place.
-abbrev pub StartsAt : (place : ℕ) → Content → Result Taken ReceiveFault → Option Window → Type 0
+abbrev pub StartsAt : (place : ℕ) → Content → Result Taken ReceiveFault → Option ReceiverState → Type 0
 StartsAt place content (Ok taken) new = (taken.place ≡ place) × (taken.overrun ≡ 0) × IsSomeAnd new (Starts place content)
 StartsAt place content (Err fault) new = ⊥
 
-abbrev pub TakesPlace : (room : ℕ) → Option Window → (place : ℕ) → Content → (now : ℕ) → Result Taken ReceiveFault → Option Window → Type 0
+abbrev pub TakesPlace : (room : ℕ) → Option ReceiverState → (place : ℕ) → Content → (now : ℕ) → Result Taken ReceiveFault → Option ReceiverState → Type 0
 TakesPlace room None place content now answer new = StartsAt place content answer new
 TakesPlace room (Some old) place content now answer new = AnswersPlace room old place content now answer new
 
@@ -123,7 +123,7 @@ pub record HasPassed (patience noticed now : ℕ) : Type 0 where
   pub long : patience ≤ now - noticed
 
 -- What playing answers at a started receiver.
-abbrev pub Plays : (patience : ℕ) → Window → (now : ℕ) → Played → Option Window → Type 0
+abbrev pub Plays : (patience : ℕ) → ReceiverState → (now : ℕ) → Played → Option ReceiverState → Type 0
 Plays patience old now (Packet place content) new =
     (place ≡ old.cursor) × (old.held place ≡ Some content) × IsSomeAnd new (Passes old)
 Plays patience old now (Gap place) new =
@@ -137,7 +137,7 @@ Plays patience old now Wait new =
     × (new ≡ Some old)
 
 -- A receiver that took nothing only waits.
-abbrev pub PlaysAny : (patience : ℕ) → Option Window → (now : ℕ) → Played → Option Window → Type 0
+abbrev pub PlaysAny : (patience : ℕ) → Option ReceiverState → (now : ℕ) → Played → Option ReceiverState → Type 0
 PlaysAny patience None now Wait new = new ≡ None
 PlaysAny patience None now (Packet place content) new = ⊥
 PlaysAny patience None now (Gap place) new = ⊥

@@ -13,7 +13,7 @@ ghost use Rattle.receiver.specs.declared.answer.Taken.{Taken};
 ghost use Rattle.receiver.specs.declared.answer.Played.{Played};
 ghost use Rattle.receiver.specs.declared.fault.ReceiveFault.{ReceiveFault};
 ghost use Rattle.receiver.specs.Config.{Config};
-ghost use Rattle.receiver.specs.Window.{Window, PlaysAny};
+ghost use Rattle.receiver.specs.Window.{ReceiverState, PlaysAny};
 ghost use Rattle.receiver.specs.Asks.{AsksAny};
 ghost use Rattle.receiver.specs.Streams.{stream_of, source_of};
 ghost use Rattle.receiver.specs.Fault.{receive_number};
@@ -30,18 +30,18 @@ use rtpwire::{
 /// What a receiver answers to a datagram.
 pub fn hearing_is_determined()
     // The octets, the moment and the receiver before determine the answer and the receiver after.
-    ensures one { (room : ℕ) (c : Config) (old : Option Window) (octets : List ℕ) (now : ℕ) (r s : Result Taken ReceiveFault) (v w : Option Window)
+    ensures one { (room : ℕ) (c : Config) (old : Option ReceiverState) (octets : List ℕ) (now : ℕ) (r s : Result Taken ReceiveFault) (v w : Option ReceiverState)
         → Hears room c old octets now r v → Hears room c old octets now s w → (r ≡ s) × (v ≡ w) }
     // Octets that spell a media packet of the session are answered as the content that it carries, by its
     // sequence number, if a content holds what it carries.
-    ensures media { (room : ℕ) (c : Config) (old : Option Window) (octets : List ℕ) (now : ℕ) (answer : Result Taken ReceiveFault) (new : Option Window)
+    ensures media { (room : ℕ) (c : Config) (old : Option ReceiverState) (octets : List ℕ) (now : ℕ) (answer : Result Taken ReceiveFault) (new : Option ReceiverState)
         (content : Content) (padding seq : ℕ)
         → RtpSpells (packet_of content padding seq c.session.media_type c.session.media_ssrc) octets
         → (IsTooLong (packet_of content padding seq c.session.media_type c.session.media_ssrc) → ⊥)
         → Hears room c old octets now answer new → TakesNumber room Stream.Media old seq content now answer new }
     // Octets that spell a retransmission are answered as the content that it carries, by its original sequence
     // number, if a content holds that.
-    ensures repair { (room : ℕ) (c : Config) (old : Option Window) (octets : List ℕ) (now : ℕ) (answer : Result Taken ReceiveFault) (new : Option Window)
+    ensures repair { (room : ℕ) (c : Config) (old : Option ReceiverState) (octets : List ℕ) (now : ℕ) (answer : Result Taken ReceiveFault) (new : Option ReceiverState)
         (content : Content) (original sequence payload_type ssrc : ℕ) (stream : Stream)
         → RepairSpells content original sequence payload_type ssrc octets
         → (IsTooLong (packet_of content 0 sequence payload_type ssrc) → ⊥)
@@ -49,7 +49,7 @@ pub fn hearing_is_determined()
         → (stream ≡ Stream.Media → ⊥)
         → Hears room c old octets now answer new → TakesNumber room stream old original content now answer new }
     // Whatever the octets: the receiver takes the content that they spell, or refuses it and is as it was.
-    ensures any { (room : ℕ) (c : Config) (old : Option Window) (octets : List ℕ) (now : ℕ) (answer : Result Taken ReceiveFault) (new : Option Window)
+    ensures any { (room : ℕ) (c : Config) (old : Option ReceiverState) (octets : List ℕ) (now : ℕ) (answer : Result Taken ReceiveFault) (new : Option ReceiverState)
         → Hears room c old octets now answer new → TakesOrRefuses room c old octets now answer new }
 {
     spelling_is_determined();
@@ -61,7 +61,7 @@ pub fn hearing_is_determined()
 /// The order in which a receiver checks a datagram.
 pub fn hearing_is_in_order()
     // A refusal has the number of the first check whose condition holds, and what is taken passes all of them.
-    ensures { (room : ℕ) (c : Config) (old : Option Window) (octets : List ℕ) (now : ℕ) (answer : Result Taken ReceiveFault) (new : Option Window)
+    ensures { (room : ℕ) (c : Config) (old : Option ReceiverState) (octets : List ℕ) (now : ℕ) (answer : Result Taken ReceiveFault) (new : Option ReceiverState)
         → Hears room c old octets now answer new → FirstOf (hearing_order c old octets) (option_map receive_number (result_err answer)) }
 {
     checks_are_in_order();
@@ -71,13 +71,13 @@ pub fn hearing_is_in_order()
 
 /// What a receiver plays: the moment and the receiver before determine it, and the receiver after.
 pub fn playing_is_determined()
-    ensures { (patience now : ℕ) (old : Option Window) (r s : Played) (v w : Option Window)
+    ensures { (patience now : ℕ) (old : Option ReceiverState) (r s : Played) (v w : Option ReceiverState)
         → PlaysAny patience old now r v → PlaysAny patience old now s w → (r ≡ s) × (v ≡ w) }
 {}
 
 /// What a receiver asks for: the moment and the receiver before determine it, and the receiver after.
 pub fn asking_is_determined()
-    ensures { (c : Config) (now : ℕ) (old : Option Window) (r s : Option (ArrayVec ℕ)) (v w : Option Window)
+    ensures { (c : Config) (now : ℕ) (old : Option ReceiverState) (r s : Option (ArrayVec ℕ)) (v w : Option ReceiverState)
         → AsksAny c old now r v → AsksAny c old now s w → (r ≡ s) × (v ≡ w) }
 {
     packing_is_determined();

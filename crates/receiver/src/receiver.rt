@@ -6,7 +6,7 @@ ghost use Rattle.std.specs.List.Sorted.{IsStrictlyIncreasing};
 ghost use Rattle.rtpwire.specs.FirstOf.{FirstOf};
 ghost use Rattle.stores.specs.Span.{IsSpan};
 ghost use Rattle.stores.specs.ByPlace.{slot_at};
-ghost use Rattle.receiver.specs.Asks.{AsksAny, CountsMissing, KeepsLimit};
+ghost use Rattle.receiver.specs.Asks.{AsksAny, CountsMissing, AsksWithin};
 ghost use Rattle.receiver.specs.Counted.{CanAllBeAsked, CountsAsks};
 ghost use Rattle.receiver.specs.Window.{window_of, missed_in, PlaysAny};
 ghost use Rattle.receiver.specs.Streams.{source_of};
@@ -160,7 +160,7 @@ impl<W: Window> Receiver<W> {
     /// configuration says.
     pub fn window(&self) -> &W
         ensures span { W.meaning result.now ≡ self.now.span }
-        ensures limit { KeepsLimit self.now.config.asks (state_of self.now) }
+        ensures limit { AsksWithin self.now.config.asks (state_of self.now) }
     {
         &self.window
     }

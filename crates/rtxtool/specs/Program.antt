@@ -22,7 +22,7 @@ use Rattle.rtxtool.specs.declared.tell.ToolFault.TheVariants as tool_fault
 use Rattle.rtxtool.specs.CommandLine as asks
 use Rattle.rtxtool.specs.CommandLine.{Asked, LacksValue, Sims, Shows, Packs, Soaks, asked, tool}
 use Rattle.commands.specs.DropList.{drops_of}
-use Rattle.commands.specs.Loopback.{Loops}
+use Rattle.commands.specs.Loopback.{RunsOverLink}
 use Rattle.commands.specs.Pack.{WroteNone, WrotePacking}
 use Rattle.commands.specs.Script.{bad_line}
 use Rattle.commands.specs.Show.{IsCut, IsShown, IsTooLong}
@@ -48,7 +48,7 @@ PrintedTally seed packets loss old new =
 abbrev pub PrintedLoop : (packets : ℕ) → (drops : Text) → (old new : Option (List ℕ)) → Type 0
 PrintedLoop packets drops old new =
     (list : List ℕ) × (told : Option (List Transfer)) × (telling : Option (List Transfer)) × (tally : Tally)
-    × (drops_of drops packets ≡ Some list) × Loops packets list told telling tally × Appends old new (tally_line (codes "dropped") tally)
+    × (drops_of drops packets ≡ Some list) × RunsOverLink packets list told telling tally × Appends old new (tally_line (codes "dropped") tally)
 
 -- What stands in each file, where that is known.
 abbrev pub Files : Type 0

@@ -17,8 +17,8 @@ use Rattle.runs.specs.declared.link.Transfer.{Transfer}
 use Rattle.runs.specs.Scene.{Scene, Happens}
 use Rattle.runs.specs.Playing.{goes, Plays, PlaysOut}
 use Rattle.runs.specs.Traffic.{Grows}
-use Rattle.runs.specs.Exchange.{written_at, HandsAny, Exchanges, BreaksOff, Breaks}
-use Rattle.runs.specs.Drive.{Plan, Phase, sending, asking, repairing, playing, done, handing, round_from, send_from, moment_of, is_dropped, after_send, after_ask, after_repair, after_play, Acts, Moves, Goes, Reaches, IsPending, Stops}
+use Rattle.runs.specs.Exchange.{written_at, HandsAny, Exchanges, StopsHandingOver, IsInterrupted}
+use Rattle.runs.specs.Drive.{Plan, Phase, sending, asking, repairing, playing, done, handing, round_from, send_from, moment_of, is_dropped, after_send, after_ask, after_repair, after_play, Acts, Moves, Goes, Reaches, IsPending, StopsRun}
 use Rattle.runs.proofs.TrafficSteps.{grows_nothing, grows_then}
 
 -- ---- moves one after the other
@@ -50,15 +50,15 @@ nothing_pending playing wire = refl
 nothing_pending done wire = refl
 nothing_pending (handing to index now after) wire = tt
 
-pub stops_at : (c : Config) (plan : Plan) (p q : Phase) (old new : Scene) (a b : Option (List Transfer)) → Reaches c plan p old a q new b → Stops c plan p old a new b
+pub stops_at : (c : Config) (plan : Plan) (p q : Phase) (old new : Scene) (a b : Option (List Transfer)) → Reaches c plan p old a q new b → StopsRun c plan p old a new b
 stops_at c plan p q old new a b r =
     record { next = q; count = r.count; moved = r.moved; begun = []; goes = r.goes; pending = nothing_pending q new.stand.wire; tells = subst (λ (xs : List Transfer). Grows a xs b) (sym (append-nil r.moved)) r.tells }
 
 -- it stops where it began
-pub stops_here : (c : Config) (plan : Plan) (p : Phase) (old new : Scene) (a b : Option (List Transfer)) → new ≡ old → b ≡ a → Stops c plan p old a new b
+pub stops_here : (c : Config) (plan : Plan) (p : Phase) (old new : Scene) (a b : Option (List Transfer)) → new ≡ old → b ≡ a → StopsRun c plan p old a new b
 stops_here c plan p old new a b same told = rw (same, told) (stops_at c plan p p old old a a (reach_nothing c plan p old a))
 
-pub reach_stops : (c : Config) (plan : Plan) (p q : Phase) (old mid new : Scene) (a b d : Option (List Transfer)) → Reaches c plan p old a q mid b → Stops c plan q mid b new d → Stops c plan p old a new d
+pub reach_stops : (c : Config) (plan : Plan) (p q : Phase) (old mid new : Scene) (a b d : Option (List Transfer)) → Reaches c plan p old a q mid b → StopsRun c plan q mid b new d → StopsRun c plan p old a new d
 reach_stops c plan p q old mid new a b d first stop =
     let whole = goes_then c plan first.count stop.count p q stop.next old mid new first.moved stop.moved first.goes stop.goes in
     record {
@@ -97,13 +97,13 @@ module _ (c : Config) (plan : Plan) (p next idle : Phase) (event : Event) (to : 
   pub exchange_reaches : (went : Bool) (old new : Scene) (a b : Option (List Transfer)) → Exchanges c event to now old a went new b → Reaches c plan p old a (if went then next else idle) new b
   exchange_reaches went old new a b e = handed (written_at e.entry) e.entry went old e.mid new e.moved a b refl e.happens e.hands e.tells
 
-  broken : (old new : Scene) (a b : Option (List Transfer)) → BreaksOff c event to old a new b → Stops c plan p old a new b
+  broken : (old new : Scene) (a b : Option (List Transfer)) → StopsHandingOver c event to old a new b → StopsRun c plan p old a new b
   broken old new a b e =
       let first = acts_reach c plan p (handing to e.index now next) event after e.entry old new a (acts old new) e.happens (some e.entry e.index e.written) in
       reach_stops c plan p (handing to e.index now next) old new new a a b first
       (record { next = handing to e.index now next; count = zero; moved = []; begun = e.begun; goes = (refl, refl, refl); pending = e.pending; tells = e.tells })
 
-  pub exchange_stops : (old new : Scene) (a b : Option (List Transfer)) → Breaks c event to old a new b → Stops c plan p old a new b
+  pub exchange_stops : (old new : Scene) (a b : Option (List Transfer)) → IsInterrupted c event to old a new b → StopsRun c plan p old a new b
   exchange_stops old new a b breaks = ⊎_elim (λ (same : (new ≡ old) × (b ≡ a)). stops_here c plan p old new a b same.0 same.1) (broken old new a b) breaks
 
 either : (b : Bool) (p : Phase) → (if b then p else p) ≡ p
@@ -126,7 +126,7 @@ send_reaches c plan number went old new a b kept e =
     (λ entry is. send_none plan number entry kept is) (λ entry index is. send_some plan number entry index kept is) went old new a b e)
 
 pub send_stops : (c : Config) (plan : Plan) (number : ℕ) (old new : Scene) (a b : Option (List Transfer)) → is_dropped plan number ≡ false
-    → Breaks c (Send (numbered_content number) 0) Receiver old a new b → Stops c plan (sending number) old a new b
+    → IsInterrupted c (Send (numbered_content number) 0) Receiver old a new b → StopsRun c plan (sending number) old a new b
 send_stops c plan number old new a b kept e =
     exchange_stops c plan (sending number) (send_from plan (number + 1)) (send_from plan (number + 1)) (Send (numbered_content number) 0) Receiver number (after_send plan number) (λ old new moved q acts. acts)
     (λ entry is. send_none plan number entry kept is) (λ entry index is. send_some plan number entry index kept is) old new a b e
@@ -162,10 +162,10 @@ ask_reaches c plan round now went old new a b at e =
     (ask_none plan round) (ask_some plan round) went old new a b (subst (λ n. Exchanges c (Ask n) Sender n old a went new b) (sym at) e))
 
 pub ask_stops : (c : Config) (plan : Plan) (round now : ℕ) (old new : Scene) (a b : Option (List Transfer)) → moment_of plan round ≡ now
-    → Breaks c (Ask now) Sender old a new b → Stops c plan (asking round) old a new b
+    → IsInterrupted c (Ask now) Sender old a new b → StopsRun c plan (asking round) old a new b
 ask_stops c plan round now old new a b at e =
     exchange_stops c plan (asking round) (repairing round) (repairing round) (Ask (moment_of plan round)) Sender (moment_of plan round) (after_ask plan round) (λ old new moved q acts. acts)
-    (ask_none plan round) (ask_some plan round) old new a b (subst (λ n. Breaks c (Ask n) Sender old a new b) (sym at) e)
+    (ask_none plan round) (ask_some plan round) old new a b (subst (λ n. IsInterrupted c (Ask n) Sender old a new b) (sym at) e)
 
 repair_none : (plan : Plan) (round : ℕ) (entry : Entry) → written_at entry ≡ None → after_repair plan round entry ≡ round_from (round + 1)
 repair_none plan round entry is = rw is refl
@@ -192,7 +192,7 @@ repair_over c plan round now went old new a b at is e =
     subst (λ (w : Bool). Reaches c plan (repairing round) old a (if w then repairing round else round_from (round + 1)) new b) is (repair_reaches c plan round now went old new a b at e)
 
 pub repair_stops : (c : Config) (plan : Plan) (round now : ℕ) (old new : Scene) (a b : Option (List Transfer)) → moment_of plan round ≡ now
-    → Breaks c Repair Receiver old a new b → Stops c plan (repairing round) old a new b
+    → IsInterrupted c Repair Receiver old a new b → StopsRun c plan (repairing round) old a new b
 repair_stops c plan round now old new a b at e =
     exchange_stops c plan (repairing round) (repairing round) (round_from (round + 1)) Repair Receiver (moment_of plan round) (after_repair plan round) (λ old new moved q acts. acts)
     (repair_none plan round) (repair_some plan round) old new a b e

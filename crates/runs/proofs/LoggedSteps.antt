@@ -8,7 +8,7 @@ use Rattle.world.specs.declared.event.End.{End}
 use Rattle.world.specs.declared.event.Event.{Event}
 use Rattle.world.specs.declared.event.Entry.{Entry}
 use Rattle.world.specs.Config.{Config}
-use Rattle.world.specs.Answers.{Stand, Step, Answers}
+use Rattle.world.specs.Answers.{WorldState, Step, Answers}
 use Rattle.world.specs.Round.{Adds}
 use Rattle.world.specs.Schedule.{schedule, after_words}
 use Rattle.world.specs.World.{IsLogged}
@@ -28,7 +28,7 @@ new_logged c = record { events = []; answers = refl }
 same_logged : (c : Config) (old new : Scene) → new ≡ old → Logged c old → Logged c new
 same_logged c old new same was = subst (λ (s : Scene). Logged c s) (sym same) was
 
-step_logged : (c : Config) (log grown : List Entry) (event : Event) (entry : Entry) (old new : Stand) → IsLogged c log old → Step c old event entry new → grown ≡ log ++ entry ∷ [] → IsLogged c grown new
+step_logged : (c : Config) (log grown : List Entry) (event : Event) (entry : Entry) (old new : WorldState) → IsLogged c log old → Step c old event entry new → grown ≡ log ++ entry ∷ [] → IsLogged c grown new
 step_logged c log grown event entry old new was step more =
     record {
       events = was.events ++ event ∷ [];
@@ -65,8 +65,8 @@ does_logged : (c : Config) (events : List Event) (old new : Scene) → Logged c 
 does_logged c [] old new was same = same_logged c old new same was
 does_logged c (event ∷ events) old new was (entry, mid, happens, rest) = does_logged c events mid new (happens_logged c old event entry mid was happens) rest
 
-adds_logged : (c : Config) (log : List Entry) (events : List Event) (added : List Entry) (old new : Stand) → IsLogged c log old → Adds c old events added new → IsLogged c (log ++ reverse added) new
-adds_logged c log [] [] old new was same = subst (λ (xs : List Entry). IsLogged c xs new) (sym (append-nil log)) (subst (λ (s : Stand). IsLogged c log s) (sym same) was)
+adds_logged : (c : Config) (log : List Entry) (events : List Event) (added : List Entry) (old new : WorldState) → IsLogged c log old → Adds c old events added new → IsLogged c (log ++ reverse added) new
+adds_logged c log [] [] old new was same = subst (λ (xs : List Entry). IsLogged c xs new) (sym (append-nil log)) (subst (λ (s : WorldState). IsLogged c log s) (sym same) was)
 adds_logged c log [] (entry ∷ added) old new was never = absurd never
 adds_logged c log (event ∷ events) [] old new was never = absurd never
 adds_logged c log (event ∷ events) (entry ∷ added) old new was (mid, before, step) =

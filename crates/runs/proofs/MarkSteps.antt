@@ -4,13 +4,13 @@ use Rattle.std.proofs.lemmas.Bool.{cases_eq}
 use Rattle.arrayvec.specs.ArrayVec.{ArrayVec}
 use Rattle.stores.specs.declared.entry.HistoryEntry.{HistoryEntry}
 use Rattle.stores.specs.PastByPlace.{is_marked}
-use Rattle.sender.specs.History.{History, Repairs}
+use Rattle.sender.specs.History.{SenderState, Repairs}
 use Rattle.world.specs.declared.event.End.TheVariants.{Receiver}
 use Rattle.world.specs.declared.event.Event.TheVariants.{Repair, Inject}
 use Rattle.world.specs.declared.event.Entry.{Entry}
 use Rattle.world.specs.declared.event.Entry.TheVariants.{Repaired, NoRepair, Injected}
 use Rattle.world.specs.Config.{Config}
-use Rattle.world.specs.Answers.{Stand, Step}
+use Rattle.world.specs.Answers.{WorldState, Step}
 use Rattle.runs.specs.declared.link.Transfer.{Transfer}
 use Rattle.runs.specs.Scene.{Scene}
 use Rattle.runs.specs.Exchange.{written_at, Injects, HandsAny, Exchanges}
@@ -23,14 +23,14 @@ abbrev one_marked : Option HistoryEntry → ℕ
 one_marked entry = bit (is_marked entry)
 
 -- the place is above them all
-marks_same : (base room place : ℕ) (old new : History) → ((q : ℕ) → q ≢ place → new.entries q ≡ old.entries q) → base + room ≤ place → marks base room new ≡ marks base room old
+marks_same : (base room place : ℕ) (old new : SenderState) → ((q : ℕ) → q ≢ place → new.entries q ≡ old.entries q) → base + room ≤ place → marks base room new ≡ marks base room old
 marks_same base zero place old new others above = refl
 marks_same base (suc room) place old new others above =
     let here = ap one_marked (others (base + room) (λ is. omega (arith, is, above))) in
     let rest = marks_same base room place old new others (omega (arith, above)) in
     omega (arith, here, rest)
 
-marks_less : (base room place : ℕ) (old new : History) → ((q : ℕ) → q ≢ place → new.entries q ≡ old.entries q) → is_marked (old.entries place) ≡ true → is_marked (new.entries place) ≡ false → base ≤ place → place < base + room
+marks_less : (base room place : ℕ) (old new : SenderState) → ((q : ℕ) → q ≢ place → new.entries q ≡ old.entries q) → is_marked (old.entries place) ≡ true → is_marked (new.entries place) ≡ false → base ≤ place → place < base + room
     → marks base room new < marks base room old
 marks_less base zero place old new others was is low high = absurd (omega (arith, low, high))
 marks_less base (suc room) place old new others was is low high =
@@ -47,14 +47,14 @@ marks_less base (suc room) place old new others was is low high =
     (cases_eq (base + room) place)
 
 -- a retransmission
-pub record Falls (base room : ℕ) (old new : History) : Type 0 where
+pub record Falls (base room : ℕ) (old new : SenderState) : Type 0 where
   pub covers : Covers base room new
   pub fewer : marks base room new < marks base room old
 
 some_is : (o : Option HistoryEntry) (entry : HistoryEntry) → o ≡ Some entry → IsSome o
 some_is o entry is = subst (λ (x : Option HistoryEntry). IsSome x) (sym is) refl
 
-repairs_fall : (base room place : ℕ) (entry : HistoryEntry) (old new : History) → Covers base room old → Repairs old place entry new → Falls base room old new
+repairs_fall : (base room place : ℕ) (entry : HistoryEntry) (old new : SenderState) → Covers base room old → Repairs old place entry new → Falls base room old new
 repairs_fall base room place entry old new covers t =
     let inside = covers place (some_is (old.entries place) entry t.was) in
     record {
@@ -66,7 +66,7 @@ repairs_fall base room place entry old new covers t =
     }
 
 -- what comes to the receiver leaves the sender as it was
-kept_by : (c : Config) (now : ℕ) (octets : ArrayVec ℕ) (entry : Entry) (old new : Stand) → Step c old (Inject Receiver octets now) entry new → new.sender ≡ old.sender
+kept_by : (c : Config) (now : ℕ) (octets : ArrayVec ℕ) (entry : Entry) (old new : WorldState) → Step c old (Inject Receiver octets now) entry new → new.sender ≡ old.sender
 kept_by c now octets (Injected at moment answer) old new (at_is, now_is, hears, wire) = hears.sender
 kept_by c now octets entry old new never = absurd never
 
@@ -74,10 +74,10 @@ injects_keep : (c : Config) (now : ℕ) (came : Option (ArrayVec ℕ)) (old new 
 injects_keep c now None old new same = ap (λ (s : Scene). s.stand.sender) same
 injects_keep c now (Some octets) old new (entry, happens) = kept_by c now octets entry old.stand new.stand happens.step
 
-repaired : (c : Config) (base room now : ℕ) (entry : Entry) (old mid : Stand) (scene new : Scene) (moved : List Transfer) → scene.stand ≡ mid → Covers base room old.sender → Step c old Repair entry mid
+repaired : (c : Config) (base room now : ℕ) (entry : Entry) (old mid : WorldState) (scene new : Scene) (moved : List Transfer) → scene.stand ≡ mid → Covers base room old.sender → Step c old Repair entry mid
     → HandsAny c Receiver now (written_at entry) true scene moved new → Falls base room old.sender new.stand.sender
 repaired c base room now (Repaired place index) old mid scene new moved at covers step (went, hands) =
-    subst (λ (s : History). Falls base room old.sender s) (sym (injects_keep c now hands.came scene new hands.injects ∙ ap (λ (s : Stand). s.sender) at))
+    subst (λ (s : SenderState). Falls base room old.sender s) (sym (injects_keep c now hands.came scene new hands.injects ∙ ap (λ (s : WorldState). s.sender) at))
     (repairs_fall base room place step.repairs.entry old.sender mid.sender covers step.repairs.repairs)
 repaired c base room now NoRepair old mid scene new moved at covers step (went, same, unmoved) = absurd cc
 repaired c base room now entry old mid scene new moved at covers never hands = absurd never

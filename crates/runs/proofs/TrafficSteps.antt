@@ -7,7 +7,7 @@ use Rattle.world.specs.Answers.{Item}
 use Rattle.runs.specs.declared.link.Transfer.{Transfer}
 use Rattle.runs.specs.declared.link.Transfer.TheVariants.{Put}
 use Rattle.runs.specs.Traffic.{Grows, MayGrow, receipt}
-use Rattle.runs.specs.Exchange.{IsOnWire, IsBegun}
+use Rattle.runs.specs.Exchange.{IsOnWire, IsHandOverBegun}
 
 pub on_err : {T E : Type 0} (r : Result T E) (P : Type 0) → P → OnErr r P
 on_err (Ok x) P p = tt
@@ -47,7 +47,7 @@ grows_put to octets datagram a b is grows = subst (λ (xs : List ℕ). Grows a (
 
 -- the put may be missing
 pub begun_put : (to : End) (index : ℕ) (wire : List Item) (datagram : ArrayVec ℕ) (octets : List ℕ) (a b : Option (List Transfer)) → octets ≡ datagram.items → IsOnWire wire index datagram → MayGrow a (put to octets) b
-    → (begun : List Transfer) × IsBegun to index wire begun × Grows a begun b
+    → (begun : List Transfer) × IsHandOverBegun to index wire begun × Grows a begun b
 begun_put to index wire datagram octets None b is on may = ([], tt, tt)
 begun_put to index wire datagram octets (Some told) b is on may =
     ⊎_elim

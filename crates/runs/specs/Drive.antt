@@ -15,7 +15,7 @@ use Rattle.world.specs.Schedule.{numbered_content}
 use Rattle.runs.specs.declared.link.Transfer.{Transfer}
 use Rattle.runs.specs.Scene.{Scene, Happens}
 use Rattle.runs.specs.Traffic.{Grows}
-use Rattle.runs.specs.Exchange.{written_at, Hands, IsBegun}
+use Rattle.runs.specs.Exchange.{written_at, Hands, IsHandOverBegun}
 
 -- How many packets are sent, and the numbers of those that are not put into the link.
 pub record Plan : Type 0 where
@@ -108,7 +108,7 @@ pub record Reaches (c : Config) (plan : Plan) (phase : Phase) (old : Scene) (tol
 
 -- what was moved of the next move, which was not done
 abbrev pub IsPending : Phase → List Item → List Transfer → Type 0
-IsPending (handing to index now after) wire moved = IsBegun to index wire moved
+IsPending (handing to index now after) wire moved = IsHandOverBegun to index wire moved
 IsPending (sending number) wire moved = moved ≡ []
 IsPending (asking round) wire moved = moved ≡ []
 IsPending (repairing round) wire moved = moved ≡ []
@@ -116,7 +116,7 @@ IsPending playing wire moved = moved ≡ []
 IsPending done wire moved = moved ≡ []
 
 -- A run stopped somewhere on its way: each move is whole, but of the next one something may have been moved over the link.
-pub record Stops (c : Config) (plan : Plan) (phase : Phase) (old : Scene) (told : Option (List Transfer)) (new : Scene) (telling : Option (List Transfer)) : Type 0 where
+pub record StopsRun (c : Config) (plan : Plan) (phase : Phase) (old : Scene) (told : Option (List Transfer)) (new : Scene) (telling : Option (List Transfer)) : Type 0 where
   pub next : Phase
   pub count : ℕ
   pub moved : List Transfer

@@ -43,11 +43,11 @@ pub record Hands (c : Config) (to : End) (index now : ℕ) (old : Scene) (moved 
   pub injects : Injects c to now came old new
 
 -- What was moved of a hand-over that was not done: nothing, or the put, or the put and what came.
-abbrev pub IsBegun : End → (index : ℕ) → List Item → List Transfer → Type 0
-IsBegun to index wire [] = Unit {0}
-IsBegun to index wire (Put at datagram ∷ []) = (at ≡ to) × IsOnWire wire index datagram
-IsBegun to index wire (Put at datagram ∷ Receipt from octets ∷ []) = (at ≡ to) × IsOnWire wire index datagram × (from ≡ to)
-IsBegun to index wire moved = ⊥
+abbrev pub IsHandOverBegun : End → (index : ℕ) → List Item → List Transfer → Type 0
+IsHandOverBegun to index wire [] = Unit {0}
+IsHandOverBegun to index wire (Put at datagram ∷ []) = (at ≡ to) × IsOnWire wire index datagram
+IsHandOverBegun to index wire (Put at datagram ∷ Receipt from octets ∷ []) = (at ≡ to) × IsOnWire wire index datagram × (from ≡ to)
+IsHandOverBegun to index wire moved = ⊥
 
 -- what was written, if anything was, is handed over
 abbrev pub HandsAny : Config → End → (now : ℕ) → (written : Option ℕ) → (went : Bool) → Scene → List Transfer → Scene → Type 0
@@ -64,15 +64,15 @@ pub record Exchanges (c : Config) (event : Event) (to : End) (now : ℕ) (old : 
   pub tells : Grows told moved telling
 
 -- the event happened, and what it wrote was not handed over whole
-pub record BreaksOff (c : Config) (event : Event) (to : End) (old : Scene) (told : Option (List Transfer)) (new : Scene) (telling : Option (List Transfer)) : Type 0 where
+pub record StopsHandingOver (c : Config) (event : Event) (to : End) (old : Scene) (told : Option (List Transfer)) (new : Scene) (telling : Option (List Transfer)) : Type 0 where
   pub entry : Entry
   pub happens : Happens c old event entry new
   pub index : ℕ
   pub written : written_at entry ≡ Some index
   pub begun : List Transfer
-  pub pending : IsBegun to index new.stand.wire begun
+  pub pending : IsHandOverBegun to index new.stand.wire begun
   pub tells : Grows told begun telling
 
 -- the event did not happen, and nothing was moved; or it broke off
-abbrev pub Breaks : Config → Event → End → Scene → Option (List Transfer) → Scene → Option (List Transfer) → Type 0
-Breaks c event to old told new telling = ((new ≡ old) × (telling ≡ told)) ⊎ BreaksOff c event to old told new telling
+abbrev pub IsInterrupted : Config → Event → End → Scene → Option (List Transfer) → Scene → Option (List Transfer) → Type 0
+IsInterrupted c event to old told new telling = ((new ≡ old) × (telling ≡ told)) ⊎ StopsHandingOver c event to old told new telling

@@ -3,12 +3,12 @@ use Rattle.std.specs.Prelude.{◌≡◌, List, [], ◌∷◌, ◌++◌}
 use Rattle.world.specs.declared.event.Event.{Event}
 use Rattle.world.specs.declared.event.Entry.{Entry}
 use Rattle.world.specs.Config.{Config}
-use Rattle.world.specs.Answers.{Stand, new_stand, Step}
+use Rattle.world.specs.Answers.{WorldState, new_stand, Step}
 use Rattle.world.specs.World.{Recorded, stand_of}
 
 -- both ends and the wire, and the log, the oldest entry first
 pub record Scene : Type 0 where
-  pub stand : Stand
+  pub stand : WorldState
   pub log : List Entry
 
 abbrev pub scene_of : Recorded → Scene

@@ -6,7 +6,7 @@ ghost use Rattle.runs.specs.Tally.{tally_of};
 ghost use Rattle.runs.specs.Scene.{new_scene, scene_of};
 ghost use Rattle.runs.specs.Blame.{blame};
 ghost use Rattle.runs.specs.Marks.{Covers, first_kept};
-ghost use Rattle.runs.specs.Drive.{Plan, sending, asking, repairing, playing, done, plan_of, round_from, send_from, moment_of, Reaches, Stops};
+ghost use Rattle.runs.specs.Drive.{Plan, sending, asking, repairing, playing, done, plan_of, round_from, send_from, moment_of, Reaches, StopsRun};
 
 use crate::exchange::exchange;
 use crate::fault::DriveFault;
@@ -48,7 +48,7 @@ pub fn drive<L: Link, H: History, W: Window>(
         (new_scene world.old.config) (L.traffic link.old) done (scene_of world.new) (L.traffic link.new)) }
     ensures tally { IfOk result (λ tally. tally ≡ tally_of (length drop.now) world.new.log) }
     // A beginning of it was done.
-    ensures err { OnErr result (Stops world.old.config (plan_of packets drop.now) (send_from (plan_of packets drop.now) 0)
+    ensures err { OnErr result (StopsRun world.old.config (plan_of packets drop.now) (send_from (plan_of packets drop.now) 0)
         (new_scene world.old.config) (L.traffic link.old) (scene_of world.new) (L.traffic link.new)) }
     // The link is blamed exactly where it failed.
     ensures blame { L.failed link.new ≡ L.failed link.old + blame result }
@@ -69,7 +69,7 @@ fn send_and_mend<L: Link, H: History, W: Window>(
     requires working { L.failed link.old < 2 ^ 64 - 1 }
     ensures done { OnOk result (Reaches world.old.config (plan_of packets drop.now) (send_from (plan_of packets drop.now) 0)
         (scene_of world.old) (L.traffic link.old) playing (scene_of world.new) (L.traffic link.new)) }
-    ensures err { OnErr result (Stops world.old.config (plan_of packets drop.now) (send_from (plan_of packets drop.now) 0)
+    ensures err { OnErr result (StopsRun world.old.config (plan_of packets drop.now) (send_from (plan_of packets drop.now) 0)
         (scene_of world.old) (L.traffic link.old) (scene_of world.new) (L.traffic link.new)) }
     ensures blame { L.failed link.new ≡ L.failed link.old + blame result }
     ensures config { world.new.config ≡ world.old.config }
@@ -88,7 +88,7 @@ fn send_all<L: Link, H: History, W: Window>(
     requires working { L.failed link.old < 2 ^ 64 - 1 }
     ensures done { OnOk result (Reaches world.old.config (plan_of packets drop.now) (send_from (plan_of packets drop.now) 0)
         (scene_of world.old) (L.traffic link.old) (round_from 0) (scene_of world.new) (L.traffic link.new)) }
-    ensures err { OnErr result (Stops world.old.config (plan_of packets drop.now) (send_from (plan_of packets drop.now) 0)
+    ensures err { OnErr result (StopsRun world.old.config (plan_of packets drop.now) (send_from (plan_of packets drop.now) 0)
         (scene_of world.old) (L.traffic link.old) (scene_of world.new) (L.traffic link.new)) }
     ensures blame { L.failed link.new ≡ L.failed link.old + blame result }
     ensures config { world.new.config ≡ world.old.config }
@@ -109,7 +109,7 @@ fn send_one<L: Link, H: History, W: Window>(
     requires working { L.failed link.old < 2 ^ 64 - 1 }
     ensures done { OnOk result ((packets : ℕ) → Reaches world.old.config (plan_of packets drop.now) (sending number)
         (scene_of world.old) (L.traffic link.old) (send_from (plan_of packets drop.now) (number + 1)) (scene_of world.new) (L.traffic link.new)) }
-    ensures err { OnErr result ((packets : ℕ) → Stops world.old.config (plan_of packets drop.now) (sending number)
+    ensures err { OnErr result ((packets : ℕ) → StopsRun world.old.config (plan_of packets drop.now) (sending number)
         (scene_of world.old) (L.traffic link.old) (scene_of world.new) (L.traffic link.new)) }
     ensures blame { L.failed link.new ≡ L.failed link.old + blame result }
     ensures config { world.new.config ≡ world.old.config }
@@ -133,7 +133,7 @@ fn mend<L: Link, H: History, W: Window>(
     requires working { L.failed link.old < 2 ^ 64 - 1 }
     ensures done { OnOk result ((plan : Plan) → plan.packets ≡ packets → Reaches world.old.config plan (round_from 0)
         (scene_of world.old) (L.traffic link.old) playing (scene_of world.new) (L.traffic link.new)) }
-    ensures err { OnErr result ((plan : Plan) → plan.packets ≡ packets → Stops world.old.config plan (round_from 0)
+    ensures err { OnErr result ((plan : Plan) → plan.packets ≡ packets → StopsRun world.old.config plan (round_from 0)
         (scene_of world.old) (L.traffic link.old) (scene_of world.new) (L.traffic link.new)) }
     ensures blame { L.failed link.new ≡ L.failed link.old + blame result }
     ensures config { world.new.config ≡ world.old.config }
@@ -153,7 +153,7 @@ fn mend_once<L: Link, H: History, W: Window>(
     requires working { L.failed link.old < 2 ^ 64 - 1 }
     ensures done { OnOk result ((plan : Plan) (round : ℕ) → moment_of plan round ≡ now → Reaches world.old.config plan (asking round)
         (scene_of world.old) (L.traffic link.old) (round_from (round + 1)) (scene_of world.new) (L.traffic link.new)) }
-    ensures err { OnErr result ((plan : Plan) (round : ℕ) → moment_of plan round ≡ now → Stops world.old.config plan (asking round)
+    ensures err { OnErr result ((plan : Plan) (round : ℕ) → moment_of plan round ≡ now → StopsRun world.old.config plan (asking round)
         (scene_of world.old) (L.traffic link.old) (scene_of world.new) (L.traffic link.new)) }
     ensures blame { L.failed link.new ≡ L.failed link.old + blame result }
     ensures config { world.new.config ≡ world.old.config }
@@ -171,7 +171,7 @@ fn repair_all<L: Link, H: History, W: Window>(
     requires working { L.failed link.old < 2 ^ 64 - 1 }
     ensures done { OnOk result ((plan : Plan) (round : ℕ) → moment_of plan round ≡ now → Reaches world.old.config plan (repairing round)
         (scene_of world.old) (L.traffic link.old) (round_from (round + 1)) (scene_of world.new) (L.traffic link.new)) }
-    ensures err { OnErr result ((plan : Plan) (round : ℕ) → moment_of plan round ≡ now → Stops world.old.config plan (repairing round)
+    ensures err { OnErr result ((plan : Plan) (round : ℕ) → moment_of plan round ≡ now → StopsRun world.old.config plan (repairing round)
         (scene_of world.old) (L.traffic link.old) (scene_of world.new) (L.traffic link.new)) }
     ensures blame { L.failed link.new ≡ L.failed link.old + blame result }
     ensures config { world.new.config ≡ world.old.config }

@@ -5,7 +5,7 @@ ghost use Rattle.runs.specs.declared.link.Transfer.{Transfer};
 ghost use Rattle.runs.specs.Scene.{scene_of};
 ghost use Rattle.runs.specs.Blame.{blame};
 ghost use Rattle.runs.specs.Traffic.{Grows};
-ghost use Rattle.runs.specs.Exchange.{written_at, IsOnWire, Hands, IsBegun, Exchanges, Breaks};
+ghost use Rattle.runs.specs.Exchange.{written_at, IsOnWire, Hands, IsHandOverBegun, Exchanges, IsInterrupted};
 
 use crate::fault::DriveFault;
 use crate::link::{Link, Transfer};
@@ -36,7 +36,7 @@ pub(crate) fn exchange<L: Link, H: History, W: Window>(
 ) -> Result<bool, DriveFault>
     requires working { L.failed link.old < 2 ^ 64 - 1 }
     ensures done { IfOk result (λ went. Exchanges world.old.config event.now to now (scene_of world.old) (L.traffic link.old) went (scene_of world.new) (L.traffic link.new)) }
-    ensures err { OnErr result (Breaks world.old.config event.now to (scene_of world.old) (L.traffic link.old) (scene_of world.new) (L.traffic link.new)) }
+    ensures err { OnErr result (IsInterrupted world.old.config event.now to (scene_of world.old) (L.traffic link.old) (scene_of world.new) (L.traffic link.new)) }
     ensures blame { L.failed link.new ≡ L.failed link.old + blame result }
     ensures config { world.new.config ≡ world.old.config }
 {
@@ -62,7 +62,7 @@ fn hand<L: Link, H: History, W: Window>(
     requires working { L.failed link.old < 2 ^ 64 - 1 }
     ensures hands { OnOk result ((moved : List Transfer) × Hands world.old.config to index now (scene_of world.old) moved (scene_of world.new)
         × Grows (L.traffic link.old) moved (L.traffic link.new)) }
-    ensures err { OnErr result ((begun : List Transfer) × IsBegun to index world.new.wire begun × Grows (L.traffic link.old) begun (L.traffic link.new)) }
+    ensures err { OnErr result ((begun : List Transfer) × IsHandOverBegun to index world.new.wire begun × Grows (L.traffic link.old) begun (L.traffic link.new)) }
     ensures same { OnErr result (world.new ≡ world.old) }
     ensures blame { L.failed link.new ≡ L.failed link.old + blame result }
     ensures config { world.new.config ≡ world.old.config }
@@ -86,7 +86,7 @@ fn put<L: Link, H: History, W: Window>(
     requires working { L.failed link.old < 2 ^ 64 - 1 }
     ensures put { OnOk result ((datagram : ArrayVec ℕ) × IsOnWire world.now.wire index datagram
         × Grows (L.traffic link.old) (Transfer.Put to datagram ∷ []) (L.traffic link.new)) }
-    ensures err { OnErr result ((begun : List Transfer) × IsBegun to index world.now.wire begun × Grows (L.traffic link.old) begun (L.traffic link.new)) }
+    ensures err { OnErr result ((begun : List Transfer) × IsHandOverBegun to index world.now.wire begun × Grows (L.traffic link.old) begun (L.traffic link.new)) }
     ensures blame { L.failed link.new ≡ L.failed link.old + blame result }
 {
     let datagram = &world.wire()[index as usize].1;

@@ -22,9 +22,9 @@ use Rattle.sender.specs.declared.fault.SendFault.{SendFault}
 use Rattle.sender.specs.declared.fault.SendFault.TheVariants.{PaddedEmpty, Exhausted}
 use Rattle.sender.specs.Config.{Config}
 use Rattle.sender.specs.Fault.{send_number}
-use Rattle.sender.specs.History.{History}
+use Rattle.sender.specs.History.{SenderState}
 use Rattle.sender.specs.Sending.{CanBePadded, SendsAny}
-use Rattle.sender.specs.Feedback.{first_wrong, Says, MarksNamed, HearsNacks, HearsSaid, HearsFeedback}
+use Rattle.sender.specs.Feedback.{first_wrong, ReadsFeedback, MarksNamed, HearsNacks, HearsSaid, HearsFeedback}
 use Rattle.sender.specs.Order.{session_order, feedback_order, send_order}
 
 pick : {A : Type 0} (P : A → Type 0) (b : Bool) (x y : A) → (b ≡ true → P x) → (b ≡ false → P y) → P (cond b x y)
@@ -51,7 +51,7 @@ pub record Laws : Type 0 where
 abbrev refusal : Result Marked FeedbackFault → Option ℕ
 refusal answer = option_map feedback_number (result_err answer)
 
-module _ (laws : Laws) (c : Config) (old : History) (octets : List ℕ) (fits : (i : ℕ) → slice_index octets i < 2 ^ 8) (answer : Result Marked FeedbackFault) (new : History) where
+module _ (laws : Laws) (c : Config) (old : SenderState) (octets : List ℕ) (fits : (i : ℕ) → slice_index octets i < 2 ^ 8) (answer : Result Marked FeedbackFault) (new : SenderState) where
   taken : (nacks : List Nack) (r : Result Marked FeedbackFault) → MarksNamed c old nacks r new → refusal r ≡ None
   taken nacks (Ok marked) marks = refl
   taken nacks (Err fault) never = absurd never
@@ -60,7 +60,7 @@ module _ (laws : Laws) (c : Config) (old : History) (octets : List ℕ) (fits : 
   heard_so nacks None marks = taken nacks answer marks
   heard_so nacks (Some fault) (is, same) = ap refusal is
 
-  said_in_order : (said : Result (List Nack) FeedbackFault) → Says octets said → HearsSaid c old said answer new → FirstOf (feedback_order c.session octets) (refusal answer)
+  said_in_order : (said : Result (List Nack) FeedbackFault) → ReadsFeedback octets said → HearsSaid c old said answer new → FirstOf (feedback_order c.session octets) (refusal answer)
   unfolding feedback_order
   said_in_order (Ok nacks) says heard =
       none_in_front (compound_order octets) (session_order c.session (nacks_in octets)) (refusal answer) (laws.order octets (Ok nacks) fits says)
@@ -83,7 +83,7 @@ not_padded content padding cannot = (
 padded : (content : Content) (padding : ℕ) → CanBePadded content padding → (0 < padding) × (content.payload.items ≡ []) → ⊥
 padded content padding can (some, none) = let long = can some in let size : length content.payload.items ≡ 0 = ap (λ (xs : List ℕ). length xs) none in omega (arith, long, size)
 
-pub send_in_order : (s : Streams) (room : ℕ) (old : History) (content : Content) (padding : ℕ) (answer : Result (ℕ × ArrayVec ℕ) SendFault) (new : History) →
+pub send_in_order : (s : Streams) (room : ℕ) (old : SenderState) (content : Content) (padding : ℕ) (answer : Result (ℕ × ArrayVec ℕ) SendFault) (new : SenderState) →
     SendsAny s room old content padding answer new → FirstOf (send_order old content padding) (option_map send_number (result_err answer))
 send_in_order s room old content padding (Ok sent) new sends =
     inr (padded content padding sends.padded, inr ((λ past. let at = sends.place_is in let fits = sends.fits in omega (arith, past, at, fits)), refl))

@@ -7,12 +7,12 @@ use Rattle.rtpwire.specs.declared.content.Content.{Content}
 use Rattle.stores.specs.declared.entry.HistoryEntry.{HistoryEntry}
 use Rattle.stores.specs.Past.{Past, entry_at, fresh, repeated}
 use Rattle.stores.specs.PastByPlace.{Pushes, Changes, is_marked}
-use Rattle.sender.specs.Sender.{IsBounded, KeepsLimit}
+use Rattle.sender.specs.Sender.{IsBounded, RepeatsWithin}
 use Rattle.sender.specs.Marking.{is_among, marked_below, marked_if, MarksNumbers}
 use Rattle.places.specs.Place.{number}
 
 module _ (repeats : ℕ) (old new : Past) where
-  pub push_keeps : (p : ℕ) (content : Content) → Pushes old new p content → KeepsLimit repeats old → KeepsLimit repeats new
+  pub push_keeps : (p : ℕ) (content : Content) → Pushes old new p content → RepeatsWithin repeats old → RepeatsWithin repeats new
   push_keeps p content pushes keeps q entry e = by (q == p) (nat_lt q (p + 1 - old.capacity)) (sym (pushes.entries q) ∙ e)
     where
       by : (a b : Bool) → cond a (Some (fresh p content)) (cond b None (entry_at old q)) ≡ Some entry → IsBounded repeats entry
@@ -20,7 +20,7 @@ module _ (repeats : ℕ) (old new : Past) where
       by false true is = absurd (none-some entry is)
       by false false is = keeps q entry is
 
-  pub repeat_keeps : (p : ℕ) → Changes repeated old new p → is_marked (entry_at old p) ≡ true → KeepsLimit repeats old → KeepsLimit repeats new
+  pub repeat_keeps : (p : ℕ) → Changes repeated old new p → is_marked (entry_at old p) ≡ true → RepeatsWithin repeats old → RepeatsWithin repeats new
   repeat_keeps p changes is_so keeps q entry e = by (q == p) refl (entry_at old q) refl (sym (changes.entries q) ∙ e)
     where
       by : (a : Bool) → (q == p) ≡ a → (o : Option HistoryEntry) → entry_at old q ≡ o → cond a (option_map repeated o) o ≡ Some entry → IsBounded repeats entry
@@ -31,7 +31,7 @@ module _ (repeats : ℕ) (old new : Past) where
           subst (IsBounded repeats) (same_Some _ _ is) (record { limit = omega arith; below = λ never. absurd (cc) })
       by false there o at is = keeps q entry (at ∙ is)
 
-  pub marks_keep : (numbers : List ℕ) (count : ℕ) → MarksNumbers repeats numbers old count new → KeepsLimit repeats old → KeepsLimit repeats new
+  pub marks_keep : (numbers : List ℕ) (count : ℕ) → MarksNumbers repeats numbers old count new → RepeatsWithin repeats old → RepeatsWithin repeats new
   marks_keep numbers count marks keeps q entry e = by (is_among numbers (number q)) (entry_at old q) refl (sym (marks.entries q) ∙ e)
     where
       one : (before : HistoryEntry) (less : Bool) → nat_lt before.repeats repeats ≡ less → IsBounded repeats before → IsBounded repeats (marked_below repeats before)

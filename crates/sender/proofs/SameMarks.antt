@@ -12,8 +12,8 @@ use Rattle.stores.specs.declared.entry.HistoryEntry.{HistoryEntry}
 use Rattle.stores.specs.PlaceLists.{Lists}
 use Rattle.sender.specs.declared.answer.Marked.{Marked}
 use Rattle.sender.specs.Config.{Config}
-use Rattle.sender.specs.History.{History, Marks, CanBeMarked, becomes_marked}
-use Rattle.sender.specs.Feedback.{first_wrong, Says, MarksNamed, HearsNacks, HearsSaid, HearsFeedback, MarksAlone, MarksOrRefuses}
+use Rattle.sender.specs.History.{SenderState, Marks, CanBeMarked, becomes_marked}
+use Rattle.sender.specs.Feedback.{first_wrong, ReadsFeedback, MarksNamed, HearsNacks, HearsSaid, HearsFeedback, MarksAlone, MarksOrRefuses}
 use Rattle.sender.specs.Marking.{is_among}
 use Rattle.sender.proofs.Named.{or_left, or_cases, contained_among}
 use Rattle.sender.proofs.SameSteps.{Same, same_history}
@@ -71,7 +71,7 @@ can_or_not : (repeats : ℕ) (o : Option HistoryEntry) → CanBeMarked repeats o
 can_or_not repeats None = inr (λ never. never)
 can_or_not repeats (Some entry) = elim (cases_lt entry.repeats repeats) [ inl less ↦ inl less | inr more ↦ inr (λ less. absurd (omega arith)) ]
 
-module _ (repeats : ℕ) (named : ℕ → Type 0) (old : History) (v w : History) where
+module _ (repeats : ℕ) (named : ℕ → Type 0) (old : SenderState) (v w : SenderState) where
   one_marking : ((n : ℕ) → named n ⊎ (named n → ⊥)) → (i j : ℕ) → Marks repeats named old i v → Marks repeats named old j w → Same i j v w
   one_marking decided i j a b = (
     a.counted ∙ one_listing a.places b.places _ _ a.listed b.listed (λ q. ap (becomes_marked (old.entries q)) (entries q)) ∙ sym b.counted,
@@ -88,7 +88,7 @@ module _ (repeats : ℕ) (named : ℕ → Type 0) (old : History) (v w : History
       ]
 
 -- marking for a set is marking for another set with the same numbers
-same_set : (repeats : ℕ) (named other : ℕ → Type 0) → ((n : ℕ) → named n ↔ other n) → (old : History) (count : ℕ) (new : History) → Marks repeats named old count new → Marks repeats other old count new
+same_set : (repeats : ℕ) (named other : ℕ → Type 0) → ((n : ℕ) → named n ↔ other n) → (old : SenderState) (count : ℕ) (new : SenderState) → Marks repeats named old count new → Marks repeats other old count new
 same_set repeats named other same old count new m =
     record {
       next = m.next;
@@ -108,8 +108,8 @@ pub record Laws : Type 0 where
   pub alone : (nack : Nack) (octets : List ℕ) → NackSpells nack octets → CompoundSpells (nack ∷ []) octets
   pub decided : (nacks : List Nack) (n : ℕ) → NacksName nacks n ⊎ (NacksName nacks n → ⊥)
 
-module _ (laws : Laws) (c : Config) (old : History) (octets : List ℕ) where
-  module _ (x y : Result Marked FeedbackFault) (v w : History) where
+module _ (laws : Laws) (c : Config) (old : SenderState) (octets : List ℕ) where
+  module _ (x y : Result Marked FeedbackFault) (v w : SenderState) where
     one_naming : (nacks : List Nack) → MarksNamed c old nacks x v → MarksNamed c old nacks y w → Same x y v w
     one_naming nacks a b = by x y a b
       where
@@ -124,7 +124,7 @@ module _ (laws : Laws) (c : Config) (old : History) (octets : List ℕ) where
     one_reading nacks None a b = one_naming nacks a b
     one_reading nacks (Some fault) (is, same) (is', same') = (is ∙ sym is', same ∙ sym same')
 
-    one_said : (said other : Result (List Nack) FeedbackFault) → Says octets said → Says octets other → HearsSaid c old said x v → HearsSaid c old other y w → Same x y v w
+    one_said : (said other : Result (List Nack) FeedbackFault) → ReadsFeedback octets said → ReadsFeedback octets other → HearsSaid c old said x v → HearsSaid c old other y w → Same x y v w
     one_said (Ok nacks) (Ok others) says says' a b =
         one_reading nacks (first_wrong c.session nacks) a
         (subst (λ (n : List Nack). HearsNacks c old n (first_wrong c.session n) y w) (laws.one_list octets others nacks says' says) b)
@@ -136,7 +136,7 @@ module _ (laws : Laws) (c : Config) (old : History) (octets : List ℕ) where
     pub one_feedback : HearsFeedback c old octets x v → HearsFeedback c old octets y w → Same x y v w
     one_feedback a b = one_said a.said b.said a.says b.says a.heard b.heard
 
-  module _ (answer : Result Marked FeedbackFault) (new : History) where
+  module _ (answer : Result Marked FeedbackFault) (new : SenderState) where
     alone_names : (nack : Nack) (n : ℕ) → NacksName (nack ∷ []) n ↔ Names nack.pairs n
     alone_names nack n = (λ named. elim named [ inl names ↦ names | inr never ↦ absurd never ], λ names. inl names)
 
@@ -150,7 +150,7 @@ module _ (laws : Laws) (c : Config) (old : History) (octets : List ℕ) where
     pub one_alone : (nack : Nack) → NackSpells nack octets → nack.media ≡ c.session.media_ssrc → nack.reporter ≡ c.session.receiver_ssrc → HearsFeedback c old octets answer new → MarksAlone c old nack answer new
     one_alone nack spells media reporter hears = by hears.said hears.says hears.heard
       where
-        by : (said : Result (List Nack) FeedbackFault) → Says octets said → HearsSaid c old said answer new → MarksAlone c old nack answer new
+        by : (said : Result (List Nack) FeedbackFault) → ReadsFeedback octets said → HearsSaid c old said answer new → MarksAlone c old nack answer new
         by (Ok nacks) says heard =
             let one = laws.one_list octets nacks (nack ∷ []) says (laws.alone nack octets spells) in
             alone_named nack answer

@@ -13,7 +13,7 @@ use Rattle.stores.specs.Past.{repeated}
 use Rattle.stores.specs.PastByPlace.{is_marked}
 use Rattle.sender.specs.declared.fault.SendFault.{SendFault}
 use Rattle.sender.specs.declared.fault.SendFault.TheVariants.{PaddedEmpty, Exhausted}
-use Rattle.sender.specs.History.{History, Sends, Repairs}
+use Rattle.sender.specs.History.{SenderState, Sends, Repairs}
 use Rattle.sender.specs.Sending.{SendsAny, media_packet}
 use Rattle.sender.specs.Repairing.{RepairsAny}
 
@@ -28,10 +28,10 @@ same_packet : (x y : ℕ × ArrayVec ℕ) → x.0 ≡ y.0 → x.1.items ≡ y.1.
 same_packet x y place octets = λ i. (place i, same_vector x.1 y.1 octets i)
 
 -- senders are compared place by place
-pub same_history : (v w : History) → v.next ≡ w.next → v.repair ≡ w.repair → ((q : ℕ) → v.entries q ≡ w.entries q) → v ≡ w
+pub same_history : (v w : SenderState) → v.next ≡ w.next → v.repair ≡ w.repair → ((q : ℕ) → v.entries q ≡ w.entries q) → v ≡ w
 same_history v w next repair entries = λ i. record { next = next i; repair = repair i; entries = λ q. entries q i }
 
-module _ (room : ℕ) (old : History) (content : Content) (v w : History) where
+module _ (room : ℕ) (old : SenderState) (content : Content) (v w : SenderState) where
   one_send : Sends room old content v → Sends room old content w → v ≡ w
   one_send a b =
       same_history v w (a.next ∙ sym b.next) (a.repair ∙ sym b.repair) (λ q. elim (cases_eq q old.next) [
@@ -42,7 +42,7 @@ module _ (room : ℕ) (old : History) (content : Content) (v w : History) where
         ]
       ])
 
-module _ (s : Streams) (room : ℕ) (old : History) (content : Content) (padding : ℕ) (v w : History) where
+module _ (s : Streams) (room : ℕ) (old : SenderState) (content : Content) (padding : ℕ) (v w : SenderState) where
   pub one_answer : (x y : Result (ℕ × ArrayVec ℕ) SendFault) → SendsAny s room old content padding x v → SendsAny s room old content padding y w → Same x y v w
   one_answer (Ok x) (Ok y) a b =
       let place : x.0 ≡ y.0 = a.place_is ∙ sym b.place_is in
@@ -62,7 +62,7 @@ module _ (s : Streams) (room : ℕ) (old : History) (content : Content) (padding
 marked_there : (o : Option HistoryEntry) (entry : HistoryEntry) → o ≡ Some entry → entry.marked ≡ true → is_marked o ≡ false → ⊥
 marked_there o entry at is not = let same = ap is_marked at in let never : true ≡ false = sym is ∙ sym same ∙ not in cc
 
-module _ (old : History) (v w : History) where
+module _ (old : SenderState) (v w : SenderState) where
   -- both are the least marked place
   one_place : (p q : ℕ) (e f : HistoryEntry) → Repairs old p e v → Repairs old q f w → p ≡ q
   one_place p q e f a b = elim (cases_lt p q) [

@@ -10,7 +10,7 @@ use Rattle.fbwire.specs.Compound.{CompoundSpells, NacksName}
 use Rattle.fbwire.specs.CompoundChecks.{IsRefused}
 use Rattle.sender.specs.declared.answer.Marked.{Marked}
 use Rattle.sender.specs.Config.{Config}
-use Rattle.sender.specs.History.{History, Marks}
+use Rattle.sender.specs.History.{SenderState, Marks}
 
 -- What is wrong with the first NACK that is not from this session's receiver on its media: the SSRC of the media
 -- source, or else that of the packet's sender (RFC 4585, section 6.1).
@@ -22,36 +22,36 @@ first_wrong s (nack ∷ nacks) =
     else Some WrongMedia
 
 -- what octets say: the NACKs of a compound datagram, or the fault that decides
-abbrev pub Says : List ℕ → Result (List Nack) FeedbackFault → Type 0
-Says octets (Ok nacks) = CompoundSpells nacks octets
-Says octets (Err fault) = IsRefused octets fault
+abbrev pub ReadsFeedback : List ℕ → Result (List Nack) FeedbackFault → Type 0
+ReadsFeedback octets (Ok nacks) = CompoundSpells nacks octets
+ReadsFeedback octets (Err fault) = IsRefused octets fault
 
 -- the numbers that all the NACKs name are marked
-abbrev pub MarksNamed : Config → History → List Nack → Result Marked FeedbackFault → History → Type 0
+abbrev pub MarksNamed : Config → SenderState → List Nack → Result Marked FeedbackFault → SenderState → Type 0
 MarksNamed c old nacks (Ok marked) new = Marks c.repeats (NacksName nacks) old marked.places new
 MarksNamed c old nacks (Err fault) new = ⊥
 
-abbrev pub HearsNacks : Config → History → List Nack → Option FeedbackFault → Result Marked FeedbackFault → History → Type 0
+abbrev pub HearsNacks : Config → SenderState → List Nack → Option FeedbackFault → Result Marked FeedbackFault → SenderState → Type 0
 HearsNacks c old nacks None answer new = MarksNamed c old nacks answer new
 HearsNacks c old nacks (Some fault) answer new = (answer ≡ Err fault) × (new ≡ old)
 
-abbrev pub HearsSaid : Config → History → Result (List Nack) FeedbackFault → Result Marked FeedbackFault → History → Type 0
+abbrev pub HearsSaid : Config → SenderState → Result (List Nack) FeedbackFault → Result Marked FeedbackFault → SenderState → Type 0
 HearsSaid c old (Ok nacks) answer new = HearsNacks c old nacks (first_wrong c.session nacks) answer new
 HearsSaid c old (Err fault) answer new = (answer ≡ Err fault) × (new ≡ old)
 
 -- One datagram at a sender.
-pub record HearsFeedback (c : Config) (old : History) (octets : List ℕ) (answer : Result Marked FeedbackFault) (new : History) : Type 0 where
+pub record HearsFeedback (c : Config) (old : SenderState) (octets : List ℕ) (answer : Result Marked FeedbackFault) (new : SenderState) : Type 0 where
   pub said : Result (List Nack) FeedbackFault
-  pub says : Says octets said
+  pub says : ReadsFeedback octets said
   pub heard : HearsSaid c old said answer new
 
 -- one NACK's numbers are marked
-abbrev pub MarksAlone : Config → History → Nack → Result Marked FeedbackFault → History → Type 0
+abbrev pub MarksAlone : Config → SenderState → Nack → Result Marked FeedbackFault → SenderState → Type 0
 MarksAlone c old nack (Ok marked) new = Marks c.repeats (Names nack.pairs) old marked.places new
 MarksAlone c old nack (Err fault) new = ⊥
 
 -- What follows for a caller that has no interest in octets: feedback marks for the numbers of some NACKs, or it is
 -- refused and changes nothing.
-abbrev pub MarksOrRefuses : Config → History → Result Marked FeedbackFault → History → Type 0
+abbrev pub MarksOrRefuses : Config → SenderState → Result Marked FeedbackFault → SenderState → Type 0
 MarksOrRefuses c old (Ok marked) new = (nacks : List Nack) × Marks c.repeats (NacksName nacks) old marked.places new
 MarksOrRefuses c old (Err fault) new = new ≡ old

@@ -9,13 +9,13 @@ use Rattle.stores.specs.declared.entry.HistoryEntry.{HistoryEntry}
 use Rattle.stores.specs.PastByPlace.{is_marked}
 use Rattle.stores.specs.PlaceLists.{Lists}
 
-pub record History : Type 0 where
+pub record SenderState : Type 0 where
   pub next : ℕ  -- the place that the next content gets
   pub repair : ℕ  -- the sequence number that the next retransmission gets
   pub entries : ℕ → Option HistoryEntry
 
 -- a sender that sent nothing: its first place is one cycle of 65536 above its first sequence number
-abbrev pub new_history : (first repair_first : ℕ) → History
+abbrev pub new_history : (first repair_first : ℕ) → SenderState
 new_history first repair_first = record { next = 65536 + first; repair = repair_first; entries = λ q. None }
 
 -- the entry of a content that was just sent: neither repeated nor marked
@@ -32,7 +32,7 @@ once_more entry = record entry { repeats = entry.repeats + 1; marked = false }
 
 -- A content is sent: the next place has its entry, neither repeated nor marked. There is room for so many
 -- entries, so those of places further below go, with their marks.
-pub record Sends (room : ℕ) (old : History) (content : Content) (new : History) : Type 0 where
+pub record Sends (room : ℕ) (old : SenderState) (content : Content) (new : SenderState) : Type 0 where
   pub next : new.next ≡ old.next + 1
   pub repair : new.repair ≡ old.repair
   pub sent : new.entries old.next ≡ Some (sent_entry old.next content)
@@ -49,7 +49,7 @@ becomes_marked before after = is_marked after && not (is_marked before)
 
 -- Feedback names a set of sequence numbers: the entry of each, if there is one and it is below the limit, is
 -- marked, whether it was before or not. The count is of the places that became marked.
-pub record Marks (repeats : ℕ) (named : ℕ → Type 0) (old : History) (count : ℕ) (new : History) : Type 0 where
+pub record Marks (repeats : ℕ) (named : ℕ → Type 0) (old : SenderState) (count : ℕ) (new : SenderState) : Type 0 where
   pub next : new.next ≡ old.next
   pub repair : new.repair ≡ old.repair
   pub marks : (q : ℕ) → named (number q) → CanBeMarked repeats (old.entries q) → new.entries q ≡ option_map to_repeat (old.entries q)
@@ -60,7 +60,7 @@ pub record Marks (repeats : ℕ) (named : ℕ → Type 0) (old : History) (count
 
 -- The least marked place is retransmitted: its entry's mark goes, and its repeats rise by one. (An entry keeps
 -- its content.)
-pub record Repairs (old : History) (place : ℕ) (entry : HistoryEntry) (new : History) : Type 0 where
+pub record Repairs (old : SenderState) (place : ℕ) (entry : HistoryEntry) (new : SenderState) : Type 0 where
   pub next : new.next ≡ old.next
   pub repair : new.repair ≡ (old.repair + 1) % 65536
   pub was : old.entries place ≡ Some entry
@@ -70,5 +70,5 @@ pub record Repairs (old : History) (place : ℕ) (entry : HistoryEntry) (new : H
   pub others : (q : ℕ) → q ≢ place → new.entries q ≡ old.entries q
 
 -- no place is marked
-abbrev pub NoneMarked : History → Type 0
+abbrev pub NoneMarked : SenderState → Type 0
 NoneMarked h = (q : ℕ) → is_marked (h.entries q) ≡ false

@@ -1,6 +1,6 @@
 pub mod Config
 pub mod Fault
-pub mod History
+pub mod SenderState
 pub mod Sender
 pub mod Sending
 pub mod Feedback

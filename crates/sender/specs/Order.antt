@@ -6,7 +6,7 @@ use Rattle.rtpwire.specs.Session.{Streams}
 use Rattle.fbwire.specs.Nack.{Nack}
 use Rattle.fbwire.specs.CompoundReading.{nacks_in}
 use Rattle.fbwire.specs.Order.{compound_order}
-use Rattle.sender.specs.History.{History}
+use Rattle.sender.specs.History.{SenderState}
 
 -- of NACKs, one after another: whether it is for the session's media, and from its receiver (RFC 4585, section 6.1)
 abbrev pub session_order : Streams → List Nack → List (ℕ × Type 0)
@@ -19,7 +19,7 @@ unfoldable pub feedback_order : Streams → List ℕ → List (ℕ × Type 0)
 feedback_order s octets = compound_order octets ++ session_order s (nacks_in octets)
 
 -- of a content that is to be sent with so much padding
-abbrev pub send_order : History → Content → (padding : ℕ) → List (ℕ × Type 0)
+abbrev pub send_order : SenderState → Content → (padding : ℕ) → List (ℕ × Type 0)
 send_order old content padding =
     (44, (0 < padding) × (content.payload.items ≡ [])) ∷ (45, 2 ^ 48 ≤ old.next) ∷ []
 

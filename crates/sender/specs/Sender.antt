@@ -4,7 +4,7 @@ use Rattle.std.specs.Option.{ForSome}
 use Rattle.stores.specs.declared.entry.HistoryEntry.{HistoryEntry}
 use Rattle.stores.specs.Past.{Past, next_of, entry_at}
 use Rattle.sender.specs.Config.{Config}
-use Rattle.sender.specs.History.{History}
+use Rattle.sender.specs.History.{SenderState}
 
 pub record Sending : Type 0 where
   pub config : Config
@@ -23,10 +23,10 @@ new_sending c past =
     }
 
 -- the sender over places
-abbrev pub history_of : (next repair : ℕ) → Past → History
+abbrev pub history_of : (next repair : ℕ) → Past → SenderState
 history_of next repair past = record { next = next; repair = repair; entries = λ q. entry_at past q }
 
-abbrev pub state_of : Sending → History
+abbrev pub state_of : Sending → SenderState
 state_of s = history_of s.next s.repair s.past
 
 -- an entry was repeated no more often than the limit, and less often where it is to be again
@@ -35,12 +35,12 @@ pub record IsBounded (repeats : ℕ) (entry : HistoryEntry) : Type 0 where
   pub below : entry.marked ≡ true → entry.repeats < repeats
 
 -- each entry keeps the limit
-abbrev pub KeepsLimit : (repeats : ℕ) → Past → Type 0
-KeepsLimit repeats past = (q : ℕ) (entry : HistoryEntry) → entry_at past q ≡ Some entry → IsBounded repeats entry
+abbrev pub RepeatsWithin : (repeats : ℕ) → Past → Type 0
+RepeatsWithin repeats past = (q : ℕ) (entry : HistoryEntry) → entry_at past q ≡ Some entry → IsBounded repeats entry
 
 -- What is true of every sender: the next place follows the last entry's, and each entry keeps the limit.
 pub record IsSending (s : Sending) : Type 0 where
   pub ends : s.next ≤ 2 ^ 48
   pub follows : ForSome (next_of s.past) (λ next. s.next ≡ next)
   pub counted : s.config.repeats ≤ 255
-  pub limit : KeepsLimit s.config.repeats s.past
+  pub limit : RepeatsWithin s.config.repeats s.past

@@ -8,7 +8,7 @@ use Rattle.rtpwire.specs.Content.{packet_of, IsTooLong}
 use Rattle.rtpwire.specs.Session.{Streams}
 use Rattle.sender.specs.declared.fault.SendFault.{SendFault}
 use Rattle.sender.specs.declared.fault.SendFault.TheVariants.{PaddedEmpty, Exhausted}
-use Rattle.sender.specs.History.{History, Sends}
+use Rattle.sender.specs.History.{SenderState, Sends}
 
 -- padding stands only behind a payload (RFC 3550, section 5.1, leaves it open)
 abbrev pub CanBePadded : Content → ℕ → Type 0
@@ -19,7 +19,7 @@ abbrev pub media_packet : Streams → Content → (padding place : ℕ) → RtpP
 media_packet s content padding place = packet_of content padding (number place) s.media_type s.media_ssrc
 
 -- A content is sent at the next place: the octets spell its packet, with zeros for padding.
-pub record SendsAt (s : Streams) (room : ℕ) (old : History) (content : Content) (padding place : ℕ) (octets : List ℕ) (new : History) : Type 0 where
+pub record SendsAt (s : Streams) (room : ℕ) (old : SenderState) (content : Content) (padding place : ℕ) (octets : List ℕ) (new : SenderState) : Type 0 where
   pub place_is : place ≡ old.next
   pub fits : place < 2 ^ 48
   pub padded : CanBePadded content padding
@@ -35,7 +35,7 @@ sent_in datagram (Err fault) = Err fault
 
 -- What a send answers: padding without a payload (44), no place left (45), or a packet. A refusal changes
 -- nothing.
-abbrev pub SendsAny : Streams → (room : ℕ) → History → Content → (padding : ℕ) → Result (ℕ × ArrayVec ℕ) SendFault → History → Type 0
+abbrev pub SendsAny : Streams → (room : ℕ) → SenderState → Content → (padding : ℕ) → Result (ℕ × ArrayVec ℕ) SendFault → SenderState → Type 0
 SendsAny s room old content padding (Ok sent) new = SendsAt s room old content padding sent.0 sent.1.items new
 SendsAny s room old content padding (Err PaddedEmpty) new = (CanBePadded content padding → ⊥) × (new ≡ old)
 SendsAny s room old content padding (Err Exhausted) new = CanBePadded content padding × (2 ^ 48 ≤ old.next) × (new ≡ old)

@@ -13,9 +13,9 @@ use Rattle.fbwire.specs.Nack.{Nack, NackSpells}
 use Rattle.fbwire.specs.Packing.{IsPacking}
 use Rattle.stores.specs.declared.entry.HistoryEntry.{HistoryEntry}
 use Rattle.stores.specs.Past.{fresh, repeated}
-use Rattle.sender.specs.History.{History}
+use Rattle.sender.specs.History.{SenderState}
 use Rattle.sender.specs.Sending.{media_packet}
-use Rattle.receiver.specs.Window.{Window}
+use Rattle.receiver.specs.Window.{ReceiverState}
 use Rattle.receiver.specs.Asks.{AsksAny}
 use Rattle.world.specs.declared.event.Event.{Event}
 use Rattle.world.specs.declared.event.Event.TheVariants.{Send, Repair as Retransmit, Ask, Deliver, Play, Inject}
@@ -28,7 +28,7 @@ use Rattle.world.specs.declared.event.Entry.{Entry}
 use Rattle.world.specs.declared.event.Entry.TheVariants.{Sent, SendRefused, Repaired, NoRepair, Asked, NoAsk, Nothing, Delivered, Injected, Played}
 use Rattle.world.specs.Config.{Config, IsConfig, sending}
 use Rattle.world.specs.Labels.{end_of}
-use Rattle.world.specs.Answers.{Item, Stand, new_stand, nack_of, SendsTo, RepairsTo, AsksTo, HearsAt, Answers}
+use Rattle.world.specs.Answers.{Item, WorldState, new_stand, nack_of, SendsTo, RepairsTo, AsksTo, HearsAt, Answers}
 use Rattle.world.specs.Reading.{contents, repairs_in, WasSent}
 use Rattle.world.specs.Wire.{IsAskedAs, IsFaithful, SpellsLabel}
 use Rattle.world.proofs.Marked.{AnyFeedback, Decided, was_found, same_next, same_repair}
@@ -65,7 +65,7 @@ CanBeSent c place content = (place < 2 ^ 48) × (IsTooLong (media_packet c.recei
 abbrev pub IsKept : Config → List Entry → (next place : ℕ) → HistoryEntry → Type 0
 IsKept c past next place e = WasSent c past place e.content × (next ≤ place + c.history)
 
-pub record Wired (c : Config) (past : List Entry) (s : Stand) : Type 0 where
+pub record Wired (c : Config) (past : List Entry) (s : WorldState) : Type 0 where
   pub next : s.sender.next ≡ 65536 + c.first + length (contents past)
   pub repair : s.sender.repair ≡ (c.repair_first + repairs_in past) % 65536
   pub sent : (place : ℕ) (content : Content) → WasSent c past place content → CanBeSent c place content
@@ -73,13 +73,13 @@ pub record Wired (c : Config) (past : List Entry) (s : Stand) : Type 0 where
   pub faithful : IsFaithful c past s.wire
 
 -- a stand with the same sender and wire
-wired_as : (c : Config) (past : List Entry) (old new : Stand) → new.sender ≡ old.sender → new.wire ≡ old.wire → Wired c past old → Wired c past new
+wired_as : (c : Config) (past : List Entry) (old new : WorldState) → new.sender ≡ old.sender → new.wire ≡ old.wire → Wired c past old → Wired c past new
 wired_as c past old new sender wire was =
     record {
-      next = ap (λ (x : History). x.next) sender ∙ was.next;
-      repair = ap (λ (x : History). x.repair) sender ∙ was.repair;
+      next = ap (λ (x : SenderState). x.next) sender ∙ was.next;
+      repair = ap (λ (x : SenderState). x.repair) sender ∙ was.repair;
       sent = was.sent;
-      kept = subst (λ (h : History). (q : ℕ) (e : HistoryEntry) → h.entries q ≡ Some e → IsKept c past h.next q e) (sym sender) was.kept;
+      kept = subst (λ (h : SenderState). (q : ℕ) (e : HistoryEntry) → h.entries q ≡ Some e → IsKept c past h.next q e) (sym sender) was.kept;
       faithful = subst (λ (w : List Item). IsFaithful c past w) (sym wire) was.faithful;
     }
 
@@ -87,7 +87,7 @@ wired_as c past old new sender wire was =
 was_sent_more : (c : Config) (past : List Entry) (place index q : ℕ) (sent content : Content) → WasSent c past q content → WasSent c (Sent place index sent ∷ past) q content
 was_sent_more c past place index q sent content (count, at, there) = (count, at, get_front (contents past) (sent ∷ []) count content there)
 
-sent_now : (c : Config) (past : List Entry) (place index padding : ℕ) (content sent : Content) (old new : Stand) → sent ≡ content →
+sent_now : (c : Config) (past : List Entry) (place index padding : ℕ) (content sent : Content) (old new : WorldState) → sent ≡ content →
     SendsTo c old content padding place index new → Wired c past old → Wired c (Sent place index sent ∷ past) new
 sent_now c past place index padding content sent old new same step was =
     let sends = step.sends in
@@ -124,7 +124,7 @@ sent_now c past place index padding content sent old new same step was =
         (was_sent_more c past place index q sent e.content (was.kept q e (sym (step.sends.sends.others q other high) ∙ is)).0, high)
 
 -- a place is retransmitted
-repaired_now : (c : Config) (past : List Entry) (place index : ℕ) (old new : Stand) → RepairsTo c old place index new → Wired c past old → Wired c (Repaired place index ∷ past) new
+repaired_now : (c : Config) (past : List Entry) (place index : ℕ) (old new : WorldState) → RepairsTo c old place index new → Wired c past old → Wired c (Repaired place index ∷ past) new
 repaired_now c past place index old new step was =
     let repairs = step.repairs.repairs in
     let entry = step.repairs.entry in
@@ -159,10 +159,10 @@ abbrev pub OneNack : Type 0
 OneNack = (octets : List ℕ) (a b : Nack) → NackSpells a octets → NackSpells b octets → a ≡ b
 
 -- an ask, by its pairs
-asked_as : OneNack → (c : Config) (old new : Stand) (now index : ℕ) (step : AsksTo c old now index new) → IsAskedAs c step.pairs.items step.datagram.items
+asked_as : OneNack → (c : Config) (old new : WorldState) (now index : ℕ) (step : AsksTo c old now index new) → IsAskedAs c step.pairs.items step.datagram.items
 asked_as one c old new now index step = by old.receiver step.asks
   where
-    by : (r : Option Window) → AsksAny c.receiver r now (Some step.datagram) new.receiver → IsAskedAs c step.pairs.items step.datagram.items
+    by : (r : Option ReceiverState) → AsksAny c.receiver r now (Some step.datagram) new.receiver → IsAskedAs c step.pairs.items step.datagram.items
     by None (none, is) = absurd cc
     by (Some w) asks =
         let answer = asks.answers.1 in
@@ -177,7 +177,7 @@ asked_as one c old new now index step = by old.receiver step.asks
           spelled = step.spells;
         }
 
-asked_now : OneNack → (c : Config) (past : List Entry) (now index moment : ℕ) (old new : Stand) → AsksTo c old now index new → Wired c past old → Wired c (Asked index moment ∷ past) new
+asked_now : OneNack → (c : Config) (past : List Entry) (now index moment : ℕ) (old new : WorldState) → AsksTo c old now index new → Wired c past old → Wired c (Asked index moment ∷ past) new
 asked_now one c past now index moment old new step was =
     let same = wired_as c past old (record new { wire = old.wire }) step.sender refl was in
     record {
@@ -188,11 +188,11 @@ asked_now one c past now index moment old new step was =
       faithful = (old.wire, step.datagram, step.pairs, step.wire, step.index_is, asked_as one c old new now index step, was.faithful);
     }
 
-stand_is : (c : Config) (past : List Entry) (old new : Stand) → new ≡ old → Wired c past old → Wired c past new
-stand_is c past old new is was = wired_as c past old new (ap (λ (s : Stand). s.sender) is) (ap (λ (s : Stand). s.wire) is) was
+stand_is : (c : Config) (past : List Entry) (old new : WorldState) → new ≡ old → Wired c past old → Wired c past new
+stand_is c past old new is was = wired_as c past old new (ap (λ (s : WorldState). s.sender) is) (ap (λ (s : WorldState). s.wire) is) was
 
 -- an entry of which the wire knows nothing
-same_wire : (c : Config) (past : List Entry) (entry : Entry) (s : Stand) → contents (entry ∷ past) ≡ contents past → repairs_in (entry ∷ past) ≡ repairs_in past → (IsFaithful c past s.wire → IsFaithful c (entry ∷ past) s.wire) →
+same_wire : (c : Config) (past : List Entry) (entry : Entry) (s : WorldState) → contents (entry ∷ past) ≡ contents past → repairs_in (entry ∷ past) ≡ repairs_in past → (IsFaithful c past s.wire → IsFaithful c (entry ∷ past) s.wire) →
     Wired c past s → Wired c (entry ∷ past) s
 same_wire c past entry s same count keeps was =
     record {
@@ -205,7 +205,7 @@ same_wire c past entry s same count keeps was =
 
 module _ (any : AnyFeedback) (decided : Decided) where
   -- what reaches an end leaves what was sent
-  heard : (c : Config) (past : List Entry) (end : End) (old new : Stand) (octets : List ℕ) (now : ℕ) (answer : Answer) → HearsAt c end old octets now answer new → new.wire ≡ old.wire → Wired c past old → Wired c past new
+  heard : (c : Config) (past : List Entry) (end : End) (old new : WorldState) (octets : List ℕ) (now : ℕ) (answer : Answer) → HearsAt c end old octets now answer new → new.wire ≡ old.wire → Wired c past old → Wired c past new
   heard c past Receiver old new octets now answer hears wire was = wired_as c past old new hears.sender wire was
   heard c past Sender old new octets now answer hears wire was =
       let marks = any (sending c) old.sender octets hears.heard new.sender hears.hears in
@@ -222,7 +222,7 @@ module _ (any : AnyFeedback) (decided : Decided) where
       }
 
   module _ (one : OneNack) where
-    pub wired : (c : Config) → IsConfig c → (events : List Event) (past : List Entry) (end : Stand) → Answers c events past end → Wired c past end
+    pub wired : (c : Config) → IsConfig c → (events : List Event) (past : List Entry) (end : WorldState) → Answers c events past end → Wired c past end
     wired c met [] [] end is =
         stand_is c [] (new_stand c) end is (record { next = omega arith; repair = omega (arith, met.repair_first); sent = λ q d (count, at, there). absurd (none-some d there); kept = λ q e none. absurd (none-some e none); faithful = refl })
     wired c met [] (entry ∷ past) end never = absurd never

@@ -5,7 +5,7 @@ use Rattle.std.proofs.lemmas.Bool.{cases_eq}
 use Rattle.std.proofs.lemmas.Option.{none-some, same_Some}
 use Rattle.places.specs.Place.{number}
 use Rattle.rtpwire.specs.declared.content.Content.{Content}
-use Rattle.receiver.specs.Window.{Missed, Window, cursor_after, Starts, Takes, Passes}
+use Rattle.receiver.specs.Window.{Missed, ReceiverState, cursor_after, Starts, Takes, Passes}
 use Rattle.receiver.specs.Asks.{is_among, asked_once, Asks}
 use Rattle.world.specs.declared.event.Entry.{Entry}
 use Rattle.world.specs.Config.{Config}
@@ -20,7 +20,7 @@ noticed_in (Some m) = Some m.noticed
 
 -- A started window beside what a log says. The parameters are readings of the log, and not the log: an entry
 -- that changes none of them leaves this type as it is.
-pub record Kept (shift : ℕ) (cursor_at highest_at : Option ℕ) (Was : ℕ → Content → Type 0) (Reached : ℕ → Type 0) (noticed_at : ℕ → Option ℕ) (w : Window) : Type 0 where
+pub record Kept (shift : ℕ) (cursor_at highest_at : Option ℕ) (Was : ℕ → Content → Type 0) (Reached : ℕ → Type 0) (noticed_at : ℕ → Option ℕ) (w : ReceiverState) : Type 0 where
   pub cycles : ℕ
   pub whole : shift ≡ cycles * 65536
   pub started : 65536 ≤ w.highest
@@ -42,28 +42,28 @@ pub record Fresh (shift : ℕ) (cursor_at highest_at : Option ℕ) (Reached : �
   pub reached : (k : ℕ) → Reached k → ⊥
   pub noticed : (k : ℕ) → noticed_at k ≡ None
 
-abbrev pub KeptBy : Config → List Entry → Window → Type 0
+abbrev pub KeptBy : Config → List Entry → ReceiverState → Type 0
 KeptBy c past w = Kept (shift_of past) (cursor_of past) (highest_taken past) (WasSent c past) (IsReached past) (noticed_of past) w
 
-abbrev pub Keeps : Config → List Entry → Option Window → Type 0
+abbrev pub Keeps : Config → List Entry → Option ReceiverState → Type 0
 Keeps c past None = Fresh (shift_of past) (cursor_of past) (highest_taken past) (IsReached past) (noticed_of past)
 Keeps c past (Some w) = KeptBy c past w
 
 -- what is held after the start is what was taken
-starts_place : (p q k : ℕ) (new : Window) (c d : Content) → q ≤ p → Starts q c new → new.held k ≡ Some d → p ≡ k + (p - q)
+starts_place : (p q k : ℕ) (new : ReceiverState) (c d : Content) → q ≤ p → Starts q c new → new.held k ≡ Some d → p ≡ k + (p - q)
 starts_place p q k new c d above t h = grind (arith, cases_eq k q, t.held_else k)
 
-starts_content : (q k : ℕ) (new : Window) (c d : Content) → Starts q c new → new.held k ≡ Some d → c ≡ d
+starts_content : (q k : ℕ) (new : ReceiverState) (c d : Content) → Starts q c new → new.held k ≡ Some d → c ≡ d
 starts_content q k new c d t h = grind (arith, cases_eq k q, t.held_else k, t.held)
 
 -- what is held after a take is what was taken, or what was held
-takes_held : (room : ℕ) (old new : Window) (q now : ℕ) (c : Content) → Takes room old q c now new → (k : ℕ) (d : Content) → new.held k ≡ Some d → ((k ≡ q) × (c ≡ d)) ⊎ (old.held k ≡ Some d)
+takes_held : (room : ℕ) (old new : ReceiverState) (q now : ℕ) (c : Content) → Takes room old q c now new → (k : ℕ) (d : Content) → new.held k ≡ Some d → ((k ≡ q) × (c ≡ d)) ⊎ (old.held k ≡ Some d)
 takes_held room old new q now c t k d h = grind (arith, cases_eq k q, t.held, t.held_else k, t.held_dropped k)
 
 -- One step each, over readings that are variables.
 module _ (shift : ℕ) (cursor_at highest_at : Option ℕ) (Was : ℕ → Content → Type 0) (Reached : ℕ → Type 0) (noticed_at : ℕ → Option ℕ) where
   -- The receiver's place q is taken, which is the sender's place p.
-  pub takes : (room : ℕ) (old new : Window) (p q now overrun : ℕ) (c : Content) → Kept shift cursor_at highest_at Was Reached noticed_at old → q + shift ≡ p → Was p c → old.cursor ≤ q → old.held q ≡ None → overrun ≡ cursor_after room old.cursor q - old.cursor → Takes room old q c now new →
+  pub takes : (room : ℕ) (old new : ReceiverState) (p q now overrun : ℕ) (c : Content) → Kept shift cursor_at highest_at Was Reached noticed_at old → q + shift ≡ p → Was p c → old.cursor ≤ q → old.held q ≡ None → overrun ≡ cursor_after room old.cursor q - old.cursor → Takes room old q c now new →
       Kept shift (cursor_from cursor_at q overrun) (greater highest_at (Some p)) Was (λ k. ((Some p ≡ Some k) × Unit {0}) ⊎ Reached k) (λ k. earlier_or (noticed_at k) k q now) new
   takes room old new p q now overrun c kept at sent above free over t =
       record {
@@ -97,7 +97,7 @@ module _ (shift : ℕ) (cursor_at highest_at : Option ℕ) (Was : ℕ → Conten
       }
 
   -- The sender's place p is the first that is taken.
-  pub starts : (new : Window) (p now overrun : ℕ) (c : Content) → Fresh shift cursor_at highest_at Reached noticed_at → 65536 ≤ p → Was p c → Starts (65536 + number p) c new →
+  pub starts : (new : ReceiverState) (p now overrun : ℕ) (c : Content) → Fresh shift cursor_at highest_at Reached noticed_at → 65536 ≤ p → Was p c → Starts (65536 + number p) c new →
       Kept (p - (65536 + number p)) (cursor_from cursor_at (65536 + number p) overrun) (greater highest_at (Some p)) Was (λ k. ((Some p ≡ Some k) × Unit {0}) ⊎ Reached k) (λ k. earlier_or (noticed_at k) k (65536 + number p) now) new
   starts new p now overrun c none big sent t = by (65536 + number p) (omega arith) (p / 65536 - 1) (first_shift p big) t (omega arith)
     where
@@ -123,7 +123,7 @@ module _ (shift : ℕ) (cursor_at highest_at : Option ℕ) (Was : ℕ → Conten
           }
 
   -- A delivery that is refused is no new one of a place that can still be played.
-  pub refused : (w : Window) (Also : ℕ → Type 0) → Kept shift cursor_at highest_at Was Reached noticed_at w → ((k : ℕ) → w.cursor ≤ k → Also (k + shift) → w.held k ≡ None → ⊥) → Kept shift cursor_at highest_at Was (λ k. Also k ⊎ Reached k) noticed_at w
+  pub refused : (w : ReceiverState) (Also : ℕ → Type 0) → Kept shift cursor_at highest_at Was Reached noticed_at w → ((k : ℕ) → w.cursor ≤ k → Also (k + shift) → w.held k ≡ None → ⊥) → Kept shift cursor_at highest_at Was (λ k. Also k ⊎ Reached k) noticed_at w
   refused w Also kept because =
       record {
         cycles = kept.cycles;
@@ -140,11 +140,11 @@ module _ (shift : ℕ) (cursor_at highest_at : Option ℕ) (Was : ℕ → Conten
         seen = kept.seen;
       }
 
-  passes_held : (old new : Window) → Passes old new → (k : ℕ) (c : Content) → new.held k ≡ Some c → old.held k ≡ Some c
+  passes_held : (old new : ReceiverState) → Passes old new → (k : ℕ) (c : Content) → new.held k ≡ Some c → old.held k ≡ Some c
   passes_held old new t k c h = grind (arith, cases_eq k old.cursor, t.held k, t.held_dropped)
 
   -- The cursor passes its place.
-  pub passes : (old new : Window) → Kept shift cursor_at highest_at Was Reached noticed_at old → Passes old new → Kept shift (cursor_next cursor_at) highest_at Was Reached noticed_at new
+  pub passes : (old new : ReceiverState) → Kept shift cursor_at highest_at Was Reached noticed_at old → Passes old new → Kept shift (cursor_next cursor_at) highest_at Was Reached noticed_at new
   passes old new kept t =
       record {
         cycles = kept.cycles;
@@ -162,7 +162,7 @@ module _ (shift : ℕ) (cursor_at highest_at : Option ℕ) (Was : ℕ → Conten
       }
 
   -- What was learnt says nothing of places.
-  pub learns : (old : Window) (learnt : Option ℕ) → Kept shift cursor_at highest_at Was Reached noticed_at old → Kept shift cursor_at highest_at Was Reached noticed_at (record old { learnt = learnt })
+  pub learns : (old : ReceiverState) (learnt : Option ℕ) → Kept shift cursor_at highest_at Was Reached noticed_at old → Kept shift cursor_at highest_at Was Reached noticed_at (record old { learnt = learnt })
   learns old learnt kept =
       record {
         cycles = kept.cycles;
@@ -180,7 +180,7 @@ module _ (shift : ℕ) (cursor_at highest_at : Option ℕ) (Was : ℕ → Conten
       }
 
   -- Missing places are asked for.
-  pub asks : (old new : Window) (covered : List ℕ) (now : ℕ) → Kept shift cursor_at highest_at Was Reached noticed_at old → Asks old covered now new → Kept shift cursor_at highest_at Was Reached noticed_at new
+  pub asks : (old new : ReceiverState) (covered : List ℕ) (now : ℕ) → Kept shift cursor_at highest_at Was Reached noticed_at old → Asks old covered now new → Kept shift cursor_at highest_at Was Reached noticed_at new
   asks old new covered now kept t =
       record {
         cycles = kept.cycles;
@@ -206,7 +206,7 @@ module _ (shift : ℕ) (cursor_at highest_at : Option ℕ) (Was : ℕ → Conten
       noticed_after k = ap noticed_in (t.missing k) ∙ same_noticed (is_among covered k) (old.missing k)
 
   -- More was sent.
-  pub sends : (w : Window) (More : ℕ → Content → Type 0) → ((k : ℕ) (c : Content) → Was k c → More k c) → Kept shift cursor_at highest_at Was Reached noticed_at w → Kept shift cursor_at highest_at More Reached noticed_at w
+  pub sends : (w : ReceiverState) (More : ℕ → Content → Type 0) → ((k : ℕ) (c : Content) → Was k c → More k c) → Kept shift cursor_at highest_at Was Reached noticed_at w → Kept shift cursor_at highest_at More Reached noticed_at w
   sends w More more kept =
       record {
         cycles = kept.cycles;

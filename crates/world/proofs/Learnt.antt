@@ -11,7 +11,7 @@ use Rattle.receiver.specs.declared.fault.ReceiveFault.{ReceiveFault}
 use Rattle.receiver.specs.declared.fault.ReceiveFault.TheVariants as refused
 use Rattle.receiver.specs.declared.stream.Stream.{Stream}
 use Rattle.receiver.specs.declared.stream.Stream.TheVariants as streams
-use Rattle.receiver.specs.Window.{Window, Passes, AnswersPlace, StartsAt, PlaysAny}
+use Rattle.receiver.specs.Window.{ReceiverState, Passes, AnswersPlace, StartsAt, PlaysAny}
 use Rattle.receiver.specs.Streams.{known_to, learnt_by}
 use Rattle.receiver.specs.Heard.{AnswersIn}
 use Rattle.receiver.specs.Asks.{Asks}
@@ -31,7 +31,7 @@ use Rattle.world.specs.PlaceRun.{PlaceWorld, new_places, repair_in, stream_in, R
 abbrev pub IsOwn : Config → Option ℕ → Type 0
 IsOwn c learnt = (ssrc : ℕ) → learnt ≡ Some ssrc → ssrc ≡ c.receiver.session.repair_ssrc
 
-abbrev pub LearntIs : Config → Option Window → Type 0
+abbrev pub LearntIs : Config → Option ReceiverState → Type 0
 LearntIs c r = IsOwn c (learnt_by r)
 
 -- a stream that would be learnt is the session's
@@ -44,7 +44,7 @@ own_repair : (c : Config) (source : Option ℕ) → IsOwnStream c (repair_in c.r
 own_repair c None = refl
 own_repair c (Some known) = tt
 
-own_stream : (c : Config) (r : Option Window) (label : Label) → IsOwnStream c (stream_in c.receiver r label)
+own_stream : (c : Config) (r : Option ReceiverState) (label : Label) → IsOwnStream c (stream_in c.receiver r label)
 own_stream c r (Media place) = tt
 own_stream c r (Repair place) = own_repair c (known_to c.receiver (learnt_by r))
 own_stream c r (Feedback pairs) = tt
@@ -58,30 +58,30 @@ own_none c ssrc is = absurd (none-some ssrc is)
 own_some : (c : Config) (own : ℕ) → own ≡ c.receiver.session.repair_ssrc → IsOwn c (Some own)
 own_some c own at ssrc is = sym (same_Some own ssrc is) ∙ at
 
-same_receiver : (c : Config) (old new : Option Window) → new ≡ old → LearntIs c old → LearntIs c new
-same_receiver c old new is was = subst (λ (r : Option Window). LearntIs c r) (sym is) was
+same_receiver : (c : Config) (old new : Option ReceiverState) → new ≡ old → LearntIs c old → LearntIs c new
+same_receiver c old new is was = subst (λ (r : Option ReceiverState). LearntIs c r) (sym is) was
 
 module _ (c : Config) (now : ℕ) (content : Content) where
-  placed : (place : ℕ) (heard : Result Took ReceiveFault) (old : Window) (new : Option Window) → AnswersPlace c.window old place content now heard new → IsOwn c old.learnt → LearntIs c new
+  placed : (place : ℕ) (heard : Result Took ReceiveFault) (old : ReceiverState) (new : Option ReceiverState) → AnswersPlace c.window old place content now heard new → IsOwn c old.learnt → LearntIs c new
   placed place (Ok taken) old None (same, above, free, over, none) was = absurd none
   placed place (Ok taken) old (Some w) (same, above, free, over, taking) was = own_as c old.learnt w.learnt taking.learnt was
   placed place (Err (refused.Put Late)) old new (under, is) was = same_receiver c (Some old) new is was
   placed place (Err (refused.Put Duplicate)) old new (above, held, is) was = same_receiver c (Some old) new is was
   placed place (Err fault) old new never was = absurd never
 
-  placed_in : (stream : Stream) → IsOwnStream c stream → (place : ℕ) (heard : Result Took ReceiveFault) (old : Window) (new : Option Window) → AnswersIn c.window stream old place content now heard new → IsOwn c old.learnt → LearntIs c new
+  placed_in : (stream : Stream) → IsOwnStream c stream → (place : ℕ) (heard : Result Took ReceiveFault) (old : ReceiverState) (new : Option ReceiverState) → AnswersIn c.window stream old place content now heard new → IsOwn c old.learnt → LearntIs c new
   placed_in streams.Media own place heard old new step was = placed place heard old new step was
   placed_in streams.Repair own place heard old new step was = placed place heard old new step was
   placed_in (streams.Candidate ssrc) own place (Ok taken) old new (asked, step) was = placed place (Ok taken) (record old { learnt = Some ssrc }) new step (own_some c ssrc own)
   placed_in (streams.Candidate ssrc) own place (Err refused.Unasked) old new (unasked, is) was = same_receiver c (Some old) new is was
   placed_in (streams.Candidate ssrc) own place (Err fault) old new never was = absurd never
 
-  started : (place : ℕ) (heard : Result Took ReceiveFault) (new : Option Window) → StartsAt place content heard new → LearntIs c new
+  started : (place : ℕ) (heard : Result Took ReceiveFault) (new : Option ReceiverState) → StartsAt place content heard new → LearntIs c new
   started place (Ok taken) None (at, over, none) = absurd none
   started place (Ok taken) (Some w) (at, over, starting) = own_as c None w.learnt starting.learnt (own_none c)
   started place (Err fault) new never = absurd never
 
-  received : (shift place : ℕ) (stream : Stream) → IsOwnStream c stream → (heard : Result Took ReceiveFault) (old new : Option Window) → ReceivesLabel c shift stream old place content now heard new → LearntIs c old → LearntIs c new
+  received : (shift place : ℕ) (stream : Stream) → IsOwnStream c stream → (heard : Result Took ReceiveFault) (old new : Option ReceiverState) → ReceivesLabel c shift stream old place content now heard new → LearntIs c old → LearntIs c new
   received shift place streams.Media own heard None new step was = started (65536 + number place) heard new step
   received shift place streams.Repair own heard None new (is, same) was = same_receiver c None new same was
   received shift place (streams.Candidate ssrc) own heard None new (is, same) was = same_receiver c None new same was
@@ -98,11 +98,11 @@ delivered c past label now answer old new (Some p) step was =
     received c now step.content _ p (stream_in c.receiver old.receiver label) (own_stream c old.receiver label) step.heard old.receiver new.receiver step.receives was
 delivered c past label now answer old new None step was = fed_back c label answer old new step was
 
-passed : (c : Config) (old : Window) (new : Option Window) → IsSomeAnd new (Passes old) → IsOwn c old.learnt → LearntIs c new
+passed : (c : Config) (old : ReceiverState) (new : Option ReceiverState) → IsSomeAnd new (Passes old) → IsOwn c old.learnt → LearntIs c new
 passed c old None none was = absurd none
 passed c old (Some w) pass was = own_as c old.learnt w.learnt pass.learnt was
 
-played : (c : Config) (now : ℕ) (answer : Play_answer) (old new : Option Window) → PlaysAny c.receiver.patience old now answer new → LearntIs c old → LearntIs c new
+played : (c : Config) (now : ℕ) (answer : Play_answer) (old new : Option ReceiverState) → PlaysAny c.receiver.patience old now answer new → LearntIs c old → LearntIs c new
 played c now Wait None new is was = same_receiver c None new is was
 played c now (Packet place content) None new never was = absurd never
 played c now (Gap place) None new never was = absurd never
@@ -110,11 +110,11 @@ played c now Wait (Some old) new (free, impatient, is) was = same_receiver c (So
 played c now (Packet place content) (Some old) new (at, held, pass) was = passed c old new pass was
 played c now (Gap place) (Some old) new (at, free, cause, pass) was = passed c old new pass was
 
-asked_at : (c : Config) (covered : List ℕ) (now : ℕ) (old : Window) (new : Option Window) → IsSomeAnd new (Asks old covered now) → IsOwn c old.learnt → LearntIs c new
+asked_at : (c : Config) (covered : List ℕ) (now : ℕ) (old : ReceiverState) (new : Option ReceiverState) → IsSomeAnd new (Asks old covered now) → IsOwn c old.learnt → LearntIs c new
 asked_at c covered now old None none was = absurd none
 asked_at c covered now old (Some w) asks was = own_as c old.learnt w.learnt asks.learnt was
 
-asked : (c : Config) (now : ℕ) (pairs : List Pair) (old new : Option Window) → AsksAnyBy c.receiver old now pairs new → LearntIs c old → LearntIs c new
+asked : (c : Config) (now : ℕ) (pairs : List Pair) (old new : Option ReceiverState) → AsksAnyBy c.receiver old now pairs new → LearntIs c old → LearntIs c new
 asked c now pairs None new never was = absurd never
 asked c now pairs (Some old) new step was = asked_at c (take step.asked.count (take 1088 step.due)) now old new step.asked.asks was
 

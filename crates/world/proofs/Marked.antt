@@ -11,20 +11,20 @@ use Rattle.stores.specs.declared.entry.HistoryEntry.{HistoryEntry}
 use Rattle.stores.specs.Past.{marked}
 use Rattle.sender.specs.declared.answer.Marked.{Marked as Marking}
 use Rattle.sender.specs.Config.{Config}
-use Rattle.sender.specs.History.{History, CanBeMarked, Marks}
+use Rattle.sender.specs.History.{SenderState, CanBeMarked, Marks}
 use Rattle.sender.specs.Feedback.{HearsFeedback, MarksOrRefuses}
 
 -- what a sender answers to octets, by its law
 abbrev pub AnyFeedback : Type 0
 AnyFeedback =
-    (c : Config) (old : History) (octets : List ℕ) (answer : Result Marking FeedbackFault) (new : History) → HearsFeedback c old octets answer new → MarksOrRefuses c old answer new
+    (c : Config) (old : SenderState) (octets : List ℕ) (answer : Result Marking FeedbackFault) (new : SenderState) → HearsFeedback c old octets answer new → MarksOrRefuses c old answer new
 
 -- whether a number is named can be told
 abbrev pub Decided : Type 0
 Decided = (nacks : List Nack) (n : ℕ) → NacksName nacks n ⊎ (NacksName nacks n → ⊥)
 
 -- the entry that feedback found
-pub record Found (repeats : ℕ) (old : History) (q : ℕ) (e : HistoryEntry) : Type 0 where
+pub record Found (repeats : ℕ) (old : SenderState) (q : ℕ) (e : HistoryEntry) : Type 0 where
   pub was : HistoryEntry
   pub there : old.entries q ≡ Some was
   pub content : was.content ≡ e.content
@@ -35,7 +35,7 @@ pub can_be_marked : (repeats : ℕ) (o : Option HistoryEntry) → CanBeMarked re
 can_be_marked repeats None = inr (λ never. never)
 can_be_marked repeats (Some e) = ⊎_elim (λ less. inl less) (λ h. inr (λ less. omega (arith, h, less))) (cases_lt e.repeats repeats)
 
-module _ (repeats : ℕ) (old new : History) (q : ℕ) (e : HistoryEntry) where
+module _ (repeats : ℕ) (old new : SenderState) (q : ℕ) (e : HistoryEntry) where
   unchanged : new.entries q ≡ old.entries q → new.entries q ≡ Some e → Found repeats old q e
   unchanged same is = record { was = e; there = sym same ∙ is; content = refl; counted = refl; allowed = λ m. inl m }
 
@@ -54,14 +54,14 @@ module _ (repeats : ℕ) (old new : History) (q : ℕ) (e : HistoryEntry) where
       (can_be_marked repeats (old.entries q))
 
 -- what an entry becomes
-pub record Stays (repeats : ℕ) (named : Type 0) (new : History) (q : ℕ) (e : HistoryEntry) : Type 0 where
+pub record Stays (repeats : ℕ) (named : Type 0) (new : SenderState) (q : ℕ) (e : HistoryEntry) : Type 0 where
   pub after : HistoryEntry
   pub there : new.entries q ≡ Some after
   pub counted : after.repeats ≡ e.repeats
   pub still : e.marked ≡ true → after.marked ≡ true
   pub now : named → e.repeats < repeats → after.marked ≡ true
 
-module _ (repeats count : ℕ) (named : ℕ → Type 0) (old new : History) (marks : Marks repeats named old count new) (q : ℕ) where
+module _ (repeats count : ℕ) (named : ℕ → Type 0) (old new : SenderState) (marks : Marks repeats named old count new) (q : ℕ) where
   -- a mark stood before, or the number was named
   pub named_or_was : (e : HistoryEntry) → named (number q) ⊎ (named (number q) → ⊥) → new.entries q ≡ Some e → (old.entries q ≡ Some e) ⊎ named (number q)
   named_or_was e (inl here) is = inr here
@@ -83,15 +83,15 @@ pub decided_alone : Decided → (nack : Nack) (n : ℕ) → Names nack.pairs n �
 decided_alone decided nack n = ⊎_elim (λ some. ⊎_elim (λ here. inl here) (λ never. absurd never) some) (λ other. inr (λ here. other (inl here))) (decided (nack ∷ []) n)
 
 -- whatever feedback came
-pub was_found : Decided → (c : Config) (old : History) (answer : Result Marking FeedbackFault) (new : History) → MarksOrRefuses c old answer new →
+pub was_found : Decided → (c : Config) (old : SenderState) (answer : Result Marking FeedbackFault) (new : SenderState) → MarksOrRefuses c old answer new →
     (q : ℕ) (e : HistoryEntry) → new.entries q ≡ Some e → Found c.repeats old q e
 was_found decided c old (Ok marking) new (nacks, marks) q e is = found c.repeats old new q e (NacksName nacks) marking.places (decided nacks (number q)) marks is
-was_found decided c old (Err fault) new same q e is = unchanged c.repeats old new q e (ap (λ (h : History). h.entries q) same) is
+was_found decided c old (Err fault) new same q e is = unchanged c.repeats old new q e (ap (λ (h : SenderState). h.entries q) same) is
 
-pub same_next : (c : Config) (old : History) (answer : Result Marking FeedbackFault) (new : History) → MarksOrRefuses c old answer new → new.next ≡ old.next
+pub same_next : (c : Config) (old : SenderState) (answer : Result Marking FeedbackFault) (new : SenderState) → MarksOrRefuses c old answer new → new.next ≡ old.next
 same_next c old (Ok marking) new (nacks, marks) = marks.next
-same_next c old (Err fault) new same = ap (λ (h : History). h.next) same
+same_next c old (Err fault) new same = ap (λ (h : SenderState). h.next) same
 
-pub same_repair : (c : Config) (old : History) (answer : Result Marking FeedbackFault) (new : History) → MarksOrRefuses c old answer new → new.repair ≡ old.repair
+pub same_repair : (c : Config) (old : SenderState) (answer : Result Marking FeedbackFault) (new : SenderState) → MarksOrRefuses c old answer new → new.repair ≡ old.repair
 same_repair c old (Ok marking) new (nacks, marks) = marks.repair
-same_repair c old (Err fault) new same = ap (λ (h : History). h.repair) same
+same_repair c old (Err fault) new same = ap (λ (h : SenderState). h.repair) same

@@ -8,10 +8,10 @@ use Rattle.stores.specs.PastByPlace.{is_marked}
 use Rattle.fbwire.specs.declared.nack.Pair.{Pair}
 use Rattle.fbwire.specs.Nack.{Names}
 use Rattle.sender.specs.declared.answer.Marked.{Marked as Marking}
-use Rattle.sender.specs.History.{History, Marks, Repairs}
+use Rattle.sender.specs.History.{SenderState, Marks, Repairs}
 use Rattle.receiver.specs.declared.answer.Taken.{Taken as Took}
 use Rattle.receiver.specs.declared.fault.ReceiveFault.{ReceiveFault}
-use Rattle.receiver.specs.Window.{Window}
+use Rattle.receiver.specs.Window.{ReceiverState}
 use Rattle.receiver.specs.Heard.{WasAsked}
 use Rattle.receiver.specs.Asks.{is_due, Asks}
 use Rattle.world.specs.declared.event.Event.{Event}
@@ -23,7 +23,7 @@ use Rattle.world.specs.declared.event.Entry.{Entry}
 use Rattle.world.specs.declared.event.Entry.TheVariants.{Repaired, NoRepair, Asked, NoAsk, Delivered}
 use Rattle.world.specs.Config.{Config, IsConfig}
 use Rattle.world.specs.Labels.{place_of}
-use Rattle.world.specs.Answers.{Item, Stand, told, nack_of, DeliversAt, Step, Answers}
+use Rattle.world.specs.Answers.{Item, WorldState, told, nack_of, DeliversAt, Step, Answers}
 use Rattle.world.specs.Reach.{highest_taken, shift_of, greater, first_or}
 use Rattle.world.specs.Close.{IsCloseTo, IsClose, IsHonest}
 use Rattle.world.specs.PlaceRun.{PlaceWorld, stream_in, places_of, ReceivesLabel, AnswersLabel, HearsFeedbackOf, HearsLabel, AsksDueBy, AsksAnyBy, NoneDue, ReceivesSent}
@@ -77,22 +77,22 @@ marks_of c pairs (Refused fault) old new never = absurd never
 marks_of c pairs (FeedbackRefused fault) old new never = absurd never
 
 module _ (laws : Laws) (c : Config) (met : IsConfig c) (now shift p q top : ℕ) where
-  pub record WhileAsking (s : Stand) : Type 0 where
-    pub window : Window
+  pub record WhileAsking (s : WorldState) : Type 0 where
+    pub window : ReceiverState
     pub started : s.receiver ≡ Some window
     pub ready : Ready c shift p q top window s.sender
     pub asked : IsDue c now q window ⊎ WasAsked (window.missing q)
     pub wanted : IsMarked p s.sender ⊎ IsWanted c now p q window s.sender
 
-  pub record WhileRepairing (s : Stand) : Type 0 where
-    pub window : Window
+  pub record WhileRepairing (s : WorldState) : Type 0 where
+    pub window : ReceiverState
     pub started : s.receiver ≡ Some window
     pub ready : Ready c shift p q top window s.sender
     pub mended : (IsMarked p s.sender × WasAsked (window.missing q)) ⊎ IsHere q window
 
   -- an ask that the sender hears
-  asks_heard : (old new : Stand) (pairs : ArrayVec Pair) (count : ℕ) → AsksAnyBy c.receiver old.receiver now pairs.items new.receiver → Marks c.repeats (Names pairs.items) old.sender count new.sender → WhileAsking old → WhileAsking new
-  asks_heard old new pairs count asks marks state = at_window (subst (λ (r : Option Window). AsksAnyBy c.receiver r now pairs.items new.receiver) state.started asks)
+  asks_heard : (old new : WorldState) (pairs : ArrayVec Pair) (count : ℕ) → AsksAnyBy c.receiver old.receiver now pairs.items new.receiver → Marks c.repeats (Names pairs.items) old.sender count new.sender → WhileAsking old → WhileAsking new
+  asks_heard old new pairs count asks marks state = at_window (subst (λ (r : Option ReceiverState). AsksAnyBy c.receiver r now pairs.items new.receiver) state.started asks)
     where
       decided : (n : ℕ) → Names pairs.items n ⊎ (Names pairs.items n → ⊥)
       decided = decided_alone laws.decided (nack_of c.receiver.session pairs.items)
@@ -100,7 +100,7 @@ module _ (laws : Laws) (c : Config) (met : IsConfig c) (now shift p q top : ℕ)
       at_window : AsksDueBy c.receiver state.window now pairs.items new.receiver → WhileAsking new
       at_window step = by new.receiver refl step.asked.asks
         where
-          by : (r' : Option Window) → new.receiver ≡ r' → IsSomeAnd r' (Asks state.window (take step.asked.count (take 1088 step.due)) now) → WhileAsking new
+          by : (r' : Option ReceiverState) → new.receiver ≡ r' → IsSomeAnd r' (Asks state.window (take step.asked.count (take 1088 step.due)) now) → WhileAsking new
           by None is none = absurd none
           by (Some w) is asking =
               record {
@@ -115,9 +115,9 @@ module _ (laws : Laws) (c : Config) (met : IsConfig c) (now shift p q top : ℕ)
               }
 
   -- nothing is due, so the place was asked for, and is marked
-  asked_all : (s : Stand) → NoneDue c.receiver s.receiver now → WhileAsking s → WhileRepairing s
+  asked_all : (s : WorldState) → NoneDue c.receiver s.receiver now → WhileAsking s → WhileRepairing s
   asked_all s none state =
-      let nothing : NoneDue c.receiver (Some state.window) now = subst (λ (r : Option Window). NoneDue c.receiver r now) state.started none in
+      let nothing : NoneDue c.receiver (Some state.window) now = subst (λ (r : Option ReceiverState). NoneDue c.receiver r now) state.started none in
       let not_due : IsDue c now q state.window → ⊥ = λ due. no_both (is_due c.receiver.retry c.receiver.asks now (state.window.missing q)) (nothing q) due in
       record {
         window = state.window;
@@ -133,14 +133,14 @@ module _ (laws : Laws) (c : Config) (met : IsConfig c) (now shift p q top : ℕ)
       no_both b f t = absurd cc
 
   -- a retransmission that the receiver hears
-  repairs_heard : (old new : Stand) (place : ℕ) (entry : HistoryEntry) (content : Content) (heard : Result Took ReceiveFault) → Repairs old.sender place entry new.sender →
+  repairs_heard : (old new : WorldState) (place : ℕ) (entry : HistoryEntry) (content : Content) (heard : Result Took ReceiveFault) → Repairs old.sender place entry new.sender →
       ReceivesLabel c shift (stream_in c.receiver old.receiver (Repair place)) old.receiver place content now heard new.receiver → WhileRepairing old → WhileRepairing new
   repairs_heard old new place entry content heard repair receives state =
       let up = repair_up c met now shift p q top state.window old.sender new.sender place entry repair state.ready in
       let near = repair_near c met now shift p q top state.window old.sender new.sender place entry repair state.ready in
       let ready = repairs_ready c met now shift p q top state.window old.sender new.sender place entry repair state.ready in
       let answers : AnswersLabel c shift (stream_in c.receiver old.receiver (Repair place)) state.window place content now heard new.receiver =
-      subst (λ (r : Option Window). ReceivesLabel c shift (stream_in c.receiver old.receiver (Repair place)) r place content now heard new.receiver) state.started receives in
+      subst (λ (r : Option ReceiverState). ReceivesLabel c shift (stream_in c.receiver old.receiver (Repair place)) r place content now heard new.receiver) state.started receives in
       let done = repair_done c met now shift p q top place content (stream_in c.receiver old.receiver (Repair place)) heard state.window new.sender new.receiver up near answers ready in
       record {
         window = done.window;
@@ -157,20 +157,20 @@ module _ (laws : Laws) (c : Config) (met : IsConfig c) (now shift p q top : ℕ)
       }
 
   -- a log that is close and honest, and leaves this stand
-  record Calm (events : List Event) (log : List Entry) (s : Stand) : Type 0 where
+  record Calm (events : List Event) (log : List Entry) (s : WorldState) : Type 0 where
     pub answers : Answers c events log s
     pub honest : IsHonest log
     pub reads : Reads shift top log
 
   -- what a delivery does after such a log
-  delivers : (events : List Event) (log : List Entry) (old new : Stand) (index : ℕ) (label : Label) (moment : ℕ) (answer : Answer) → Calm events log old →
+  delivers : (events : List Event) (log : List Entry) (old new : WorldState) (index : ℕ) (label : Label) (moment : ℕ) (answer : Answer) → Calm events log old →
       IsCloseTo (highest_taken log) (place_of label) → DeliversAt c old index label moment answer new → HearsLabel c log (places_of old) label moment answer (places_of new)
   delivers events log old new index label moment answer calm near step =
       let run = simulates laws c met events log old calm.answers calm.reads.2 calm.honest in
       heard_as laws c met log old new index label moment answer (goes c log (places_of old) run).0 (learnt_is c log (places_of old) run) near (wired laws.any laws.decided laws.one_nack c met events log old calm.answers) step
 
   -- an ask, and the delivery of its datagram
-  ask_pair : (events : List Event) (event : Event) (log : List Entry) (old mid new : Stand) (at asked index moment : ℕ) (label : Label) (answer : Answer) → Calm events log old → Step c old event (Asked at asked) mid →
+  ask_pair : (events : List Event) (event : Event) (log : List Entry) (old mid new : WorldState) (at asked index moment : ℕ) (label : Label) (answer : Answer) → Calm events log old → Step c old event (Asked at asked) mid →
       DeliversAt c mid index label moment answer new → index ≡ at → moment ≡ now → asked ≡ now → WhileAsking old → WhileAsking new × Reads shift top (Delivered index label moment answer ∷ Asked at asked ∷ log)
   ask_pair events event log old mid new at asked index moment label answer calm step delivery same now_too now_is state =
       let asks = asked_step c old event at asked mid step in
@@ -181,15 +181,15 @@ module _ (laws : Laws) (c : Config) (met : IsConfig c) (now shift p q top : ℕ)
       let marks = marks_of c asks.pairs answer (places_of mid) (places_of new) heard in
       let by = asked_by laws.one_nack c asked at old mid asks old.receiver asks.asks in (
         asks_heard old new asks.pairs marks.0.places
-            (subst (λ (x : ℕ × Option Window). AsksAnyBy c.receiver old.receiver x.0 asks.pairs.items x.1) (λ i. (now_is i, sym marks.3 i)) by)
-            (subst (λ (s : History). Marks c.repeats (Names asks.pairs.items) s marks.0.places new.sender) asks.sender marks.2)
+            (subst (λ (x : ℕ × Option ReceiverState). AsksAnyBy c.receiver old.receiver x.0 asks.pairs.items x.1) (λ i. (now_is i, sym marks.3 i)) by)
+            (subst (λ (s : SenderState). Marks c.repeats (Names asks.pairs.items) s marks.0.places new.sender) asks.sender marks.2)
             state,
         subst (λ (x : Label × Answer). Reads shift top (Delivered index x.0 moment x.1 ∷ Asked at asked ∷ log)) (λ i. (label_is i, sym marks.1 i))
             (reads_feedback shift top (Asked at asked ∷ log) index moment asks.pairs marks.0 calm.reads),
       )
 
   -- a retransmission, and the delivery of its datagram
-  repair_pair : (events : List Event) (event : Event) (log : List Entry) (old mid new : Stand) (place at index moment : ℕ) (label : Label) (answer : Answer) → Calm events log old → Step c old event (Repaired place at) mid →
+  repair_pair : (events : List Event) (event : Event) (log : List Entry) (old mid new : WorldState) (place at index moment : ℕ) (label : Label) (answer : Answer) → Calm events log old → Step c old event (Repaired place at) mid →
       DeliversAt c mid index label moment answer new → index ≡ at → moment ≡ now → WhileRepairing old → WhileRepairing new × Reads shift top (Delivered index label moment answer ∷ Repaired place at ∷ log)
   repair_pair events event log old mid new place at index moment label answer calm step delivery same now_too state =
       let repairs = repaired_step c old event place at mid step in
@@ -204,15 +204,15 @@ module _ (laws : Laws) (c : Config) (met : IsConfig c) (now shift p q top : ℕ)
       let heard : ReceivesSent c (Repaired place at ∷ log) (places_of mid) (Repair place) place moment answer (places_of new) =
       delivers (event ∷ events) (Repaired place at ∷ log) mid new index (Repair place) moment answer mid_calm close (subst (λ (l : Label). DeliversAt c mid index l moment answer new) (sym label_is) delivery) in
       let receives : ReceivesLabel c shift (stream_in c.receiver old.receiver (Repair place)) old.receiver place heard.content now heard.heard new.receiver =
-      subst (λ (x : ℕ × Option Window × ℕ). ReceivesLabel c x.0 (stream_in c.receiver x.1 (Repair place)) x.1 place heard.content x.2 heard.heard new.receiver) (λ i. (calm.reads.1 i, repairs.receiver i, now_too i)) heard.receives in (
-        repairs_heard old new place entry heard.content heard.heard (subst (λ (s : History). Repairs old.sender place entry s) (sym heard.sender) repair) receives state,
+      subst (λ (x : ℕ × Option ReceiverState × ℕ). ReceivesLabel c x.0 (stream_in c.receiver x.1 (Repair place)) x.1 place heard.content x.2 heard.heard new.receiver) (λ i. (calm.reads.1 i, repairs.receiver i, now_too i)) heard.receives in (
+        repairs_heard old new place entry heard.content heard.heard (subst (λ (s : SenderState). Repairs old.sender place entry s) (sym heard.sender) repair) receives state,
         subst (λ (x : Label × Answer). Reads shift top (Delivered index x.0 moment x.1 ∷ Repaired place at ∷ log)) (λ i. (label_is i, sym heard.tells i))
             (reads_repair shift top (Repaired place at ∷ log) index moment place heard.heard up near calm.reads),
       )
 
-  module _ (before : List Event) (past : List Entry) (start : Stand) (answers : Answers c before past start) (honest : IsHonest past) (reads : Reads shift top past) (state : WhileAsking start) where
-    asking : (added : List Entry) (events : List Event) (end : Stand) → IsAsking now added → Adds c start events added end → WhileAsking end × Reads shift top (added ++ past)
-    asking [] events end kind adds = (subst (λ (s : Stand). WhileAsking s) (sym (none_added c start events end adds)) state, reads)
+  module _ (before : List Event) (past : List Entry) (start : WorldState) (answers : Answers c before past start) (honest : IsHonest past) (reads : Reads shift top past) (state : WhileAsking start) where
+    asking : (added : List Entry) (events : List Event) (end : WorldState) → IsAsking now added → Adds c start events added end → WhileAsking end × Reads shift top (added ++ past)
+    asking [] events end kind adds = (subst (λ (s : WorldState). WhileAsking s) (sym (none_added c start events end adds)) state, reads)
     asking (Delivered index label moment answer ∷ Asked at asked ∷ added) events end (same, now_too, now_is, kind) adds =
         let last = newest c start events (Delivered index label moment answer) (Asked at asked ∷ added) end adds in
         let first = newest c start last.events (Asked at asked) added last.old last.adds in
@@ -222,14 +222,14 @@ module _ (laws : Laws) (c : Config) (met : IsConfig c) (now shift p q top : ℕ)
         first.step (delivered_step c last.old last.event index label moment answer end last.step) same now_too now_is earlier.0
     asking (entry ∷ added) events end kind adds = absurd kind
 
-    repairing : (added : List Entry) (events : List Event) (end : Stand) → IsRepairing now added → Adds c start events added end → WhileRepairing end × Reads shift top (added ++ past)
+    repairing : (added : List Entry) (events : List Event) (end : WorldState) → IsRepairing now added → Adds c start events added end → WhileRepairing end × Reads shift top (added ++ past)
     repairing [] events end kind adds = absurd kind
     repairing (NoAsk asked ∷ added) events end (now_is, kind) adds =
         let last = newest c start events (NoAsk asked) added end adds in
         let earlier = asking added last.events last.old kind last.adds in
         let none = no_ask_step c last.old last.event asked end last.step in
         let due = subst (λ n. NoneDue c.receiver last.old.receiver n) now_is (none_due c.receiver asked last.old.receiver end.receiver none.0) in
-        (subst (λ (s : Stand). WhileRepairing s) (sym none.1) (asked_all last.old due earlier.0), earlier.1)
+        (subst (λ (s : WorldState). WhileRepairing s) (sym none.1) (asked_all last.old due earlier.0), earlier.1)
     repairing (Delivered index label moment answer ∷ Repaired place at ∷ added) events end (same, now_too, kind) adds =
         let last = newest c start events (Delivered index label moment answer) (Repaired place at ∷ added) end adds in
         let first = newest c start last.events (Repaired place at) added last.old last.adds in
@@ -239,7 +239,7 @@ module _ (laws : Laws) (c : Config) (met : IsConfig c) (now shift p q top : ℕ)
         first.step (delivered_step c last.old last.event index label moment answer end last.step) same now_too earlier.0
     repairing (entry ∷ added) events end kind adds = absurd kind
 
-    pub round_done : (added : List Entry) (events : List Event) (end : Stand) → IsRound now added → Adds c start events added end → ((v : Window) × (end.receiver ≡ Some v) × IsHere q v) × Reads shift top (added ++ past)
+    pub round_done : (added : List Entry) (events : List Event) (end : WorldState) → IsRound now added → Adds c start events added end → ((v : ReceiverState) × (end.receiver ≡ Some v) × IsHere q v) × Reads shift top (added ++ past)
     round_done (NoRepair ∷ added) events end kind adds =
         let last = newest c start events NoRepair added end adds in
         let earlier = repairing added last.events last.old kind last.adds in
@@ -247,7 +247,7 @@ module _ (laws : Laws) (c : Config) (met : IsConfig c) (now shift p q top : ℕ)
         let done = earlier.0 in (
           (
             done.window,
-            ap (λ (s : Stand). s.receiver) none.1 ∙ done.started,
+            ap (λ (s : WorldState). s.receiver) none.1 ∙ done.started,
             ⊎_elim (λ (x : IsMarked p last.old.sender × WasAsked (done.window.missing q)). absurd (unmarked x.0.entry (none.0 p) x.0.kept x.0.marked)) (λ here. here) done.mended,
           ),
           earlier.1,

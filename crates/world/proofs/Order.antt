@@ -9,7 +9,7 @@ use Rattle.receiver.specs.declared.answer.Played.{Played as Play_answer}
 use Rattle.receiver.specs.declared.answer.Played.TheVariants.{Packet, Gap, Wait}
 use Rattle.receiver.specs.declared.fault.ReceiveFault.{ReceiveFault}
 use Rattle.receiver.specs.Config.{Config as Receiving}
-use Rattle.receiver.specs.Window.{Window, cursor_after, AnswersPlace, StartsAt, PlaysAny}
+use Rattle.receiver.specs.Window.{ReceiverState, cursor_after, AnswersPlace, StartsAt, PlaysAny}
 use Rattle.receiver.specs.declared.stream.Stream.{Stream}
 use Rattle.receiver.specs.declared.stream.Stream.TheVariants.{Media, Repair, Candidate}
 use Rattle.receiver.specs.Heard.{AnswersIn, TakesNumber, Hears, TakesOrRefuses}
@@ -25,28 +25,28 @@ use Rattle.world.specs.declared.event.Entry.{Entry}
 use Rattle.world.specs.declared.event.Entry.TheVariants.{Sent, SendRefused, Repaired, NoRepair, Asked, NoAsk, Nothing, Delivered, Injected, Played}
 use Rattle.world.specs.Config.{Config}
 use Rattle.world.specs.Labels.{end_of}
-use Rattle.world.specs.Answers.{Stand, new_stand, told, told_marks, HearsAt, Answers}
+use Rattle.world.specs.Answers.{WorldState, new_stand, told, told_marks, HearsAt, Answers}
 use Rattle.world.specs.Reading.{cursor_of, IsGone, OverrunIs, IsRising, IsFinal}
 
 -- the receiver's cursor is the log's, and what is gone lies below it
-abbrev pub Orders : List Entry → Option Window → Type 0
+abbrev pub Orders : List Entry → Option ReceiverState → Type 0
 Orders past None = (cursor_of past ≡ None) × ((k : ℕ) → IsGone past k → ⊥)
 Orders past (Some w) = (cursor_of past ≡ Some w.cursor) × ((k : ℕ) → IsGone past k → k < w.cursor)
 
-pub record Ordered (c : Config) (past : List Entry) (r : Option Window) : Type 0 where
+pub record Ordered (c : Config) (past : List Entry) (r : Option ReceiverState) : Type 0 where
   pub orders : Orders past r
   pub rising : IsRising c past
   pub final : IsFinal past
 
 -- an entry that says nothing of the order
-same_orders : (past past' : List Entry) → cursor_of past' ≡ cursor_of past → ((k : ℕ) → IsGone past' k → IsGone past k) → (r : Option Window) → Orders past r → Orders past' r
+same_orders : (past past' : List Entry) → cursor_of past' ≡ cursor_of past → ((k : ℕ) → IsGone past' k → IsGone past k) → (r : Option ReceiverState) → Orders past r → Orders past' r
 same_orders past past' cursor gone None orders = (cursor ∙ orders.0, λ k g. orders.1 k (gone k g))
 same_orders past past' cursor gone (Some w) orders = (cursor ∙ orders.0, λ k g. orders.1 k (gone k g))
 
 -- a refusal, which leaves the receiver as it was
-refusal : (c : Config) (past : List Entry) (end : End) (now : ℕ) (fault : ReceiveFault) (old new : Option Window) → new ≡ old → Ordered c past old → Ordered c (Injected end now (Refused fault) ∷ past) new
+refusal : (c : Config) (past : List Entry) (end : End) (now : ℕ) (fault : ReceiveFault) (old new : Option ReceiverState) → new ≡ old → Ordered c past old → Ordered c (Injected end now (Refused fault) ∷ past) new
 refusal c past end now fault old new same was =
-    subst (λ (x : Option Window). Ordered c (Injected end now (Refused fault) ∷ past) x) (sym same)
+    subst (λ (x : Option ReceiverState). Ordered c (Injected end now (Refused fault) ∷ past) x) (sym same)
     (record { orders = same_orders past (Injected end now (Refused fault) ∷ past) refl (λ k g. g) old was.orders; rising = was.rising; final = was.final })
 
 overrun_is : (c : Config) (past : List Entry) (cursor place overrun : ℕ) → cursor_of past ≡ Some cursor → overrun ≡ cursor_after c.window cursor place - cursor → OverrunIs c (cursor_of past) place overrun
@@ -55,7 +55,7 @@ overrun_is c past cursor place overrun at is =
     subst (λ o. OverrunIs c o place overrun) (sym at) e
 
 module _ (c : Config) (past : List Entry) (end : End) (now : ℕ) where
-  placed : (place : ℕ) (content : Content) (taken : Took) (old : Window) (new : Option Window) →
+  placed : (place : ℕ) (content : Content) (taken : Took) (old : ReceiverState) (new : Option ReceiverState) →
       AnswersPlace c.window old place content now (Ok taken) new → Ordered c past (Some old) → Ordered c (Injected end now (Taken taken) ∷ past) new
   placed place content taken old None (at, above, free, over, none) was = absurd none
   placed place content taken old (Some w) (at, above, free, over, taking) was =
@@ -69,7 +69,7 @@ module _ (c : Config) (past : List Entry) (end : End) (now : ℕ) where
         final = was.final;
       }
 
-  started : (place : ℕ) (content : Content) (taken : Took) (new : Option Window) →
+  started : (place : ℕ) (content : Content) (taken : Took) (new : Option ReceiverState) →
       StartsAt place content (Ok taken) new → Ordered c past None → Ordered c (Injected end now (Taken taken) ∷ past) new
   started place content taken None (at, over, none) was = absurd none
   started place content taken (Some w) (at, over, starting) was =
@@ -84,16 +84,16 @@ module _ (c : Config) (past : List Entry) (end : End) (now : ℕ) where
       }
 
   -- what was learnt says nothing of the order
-  learns : (old : Window) (learnt : Option ℕ) → Ordered c past (Some old) → Ordered c past (Some (record old { learnt = learnt }))
+  learns : (old : ReceiverState) (learnt : Option ℕ) → Ordered c past (Some old) → Ordered c past (Some (record old { learnt = learnt }))
   learns old learnt was = record { orders = was.orders; rising = was.rising; final = was.final }
 
-  placed_in : (stream : Stream) (place : ℕ) (content : Content) (taken : Took) (old : Window) (new : Option Window) →
+  placed_in : (stream : Stream) (place : ℕ) (content : Content) (taken : Took) (old : ReceiverState) (new : Option ReceiverState) →
       AnswersIn c.window stream old place content now (Ok taken) new → Ordered c past (Some old) → Ordered c (Injected end now (Taken taken) ∷ past) new
   placed_in Media place content taken old new step was = placed place content taken old new step was
   placed_in Repair place content taken old new step was = placed place content taken old new step was
   placed_in (Candidate ssrc) place content taken old new (asked, step) was = placed place content taken (record old { learnt = Some ssrc }) new step (learns old (Some ssrc) was)
 
-  numbered : (stream : Stream) (seq : ℕ) (content : Content) (taken : Took) (old new : Option Window) →
+  numbered : (stream : Stream) (seq : ℕ) (content : Content) (taken : Took) (old new : Option ReceiverState) →
       TakesNumber c.window stream old seq content now (Ok taken) new → Ordered c past old → Ordered c (Injected end now (Taken taken) ∷ past) new
   numbered Media seq content taken None new step was = started (65536 + seq) content taken new step was
   numbered Repair seq content taken None new (is, same) was = absurd cc
@@ -103,13 +103,13 @@ module _ (c : Config) (past : List Entry) (end : End) (now : ℕ) where
   numbered stream seq content taken (Some old) new (inr (inr (place, near, fits, step))) was = placed_in stream place content taken old new step was
 
   -- what a receiver heard, whatever it was
-  heard_any : (octets : List ℕ) (heard : Result Took ReceiveFault) (old new : Option Window) →
+  heard_any : (octets : List ℕ) (heard : Result Took ReceiveFault) (old new : Option ReceiverState) →
       TakesOrRefuses c.window c.receiver old octets now heard new → Ordered c past old → Ordered c (Injected end now (told heard) ∷ past) new
   heard_any octets (Ok taken) old new step was = numbered step.stream step.seq step.content taken old new step.takes was
   heard_any octets (Err fault) old new same was = refusal c past end now fault old new same was
 
 -- a delivery counts as an injection of the same answer
-as_delivered : (c : Config) (past : List Entry) (end : End) (index now : ℕ) (label : Label) (answer : Answer) (r : Option Window) →
+as_delivered : (c : Config) (past : List Entry) (end : End) (index now : ℕ) (label : Label) (answer : Answer) (r : Option ReceiverState) →
     Ordered c (Injected end now answer ∷ past) r → Ordered c (Delivered index label now answer ∷ past) r
 as_delivered c past end index now label (Taken taken) r was =
     record { orders = same_orders (Injected end now (Taken taken) ∷ past) (Delivered index label now (Taken taken) ∷ past) refl (λ k g. g) r was.orders; rising = was.rising; final = was.final }
@@ -121,20 +121,20 @@ as_delivered c past end index now label (FeedbackRefused fault) r was =
     record { orders = same_orders (Injected end now (FeedbackRefused fault) ∷ past) (Delivered index label now (FeedbackRefused fault) ∷ past) refl (λ k g. g) r was.orders; rising = was.rising; final = was.final }
 
 -- what the sender answers says nothing of the order
-marked : (c : Config) (past : List Entry) (end : End) (now : ℕ) (heard : Result Marking FeedbackFault) (r : Option Window) → Ordered c past r → Ordered c (Injected end now (told_marks heard) ∷ past) r
+marked : (c : Config) (past : List Entry) (end : End) (now : ℕ) (heard : Result Marking FeedbackFault) (r : Option ReceiverState) → Ordered c past r → Ordered c (Injected end now (told_marks heard) ∷ past) r
 marked c past end now (Ok marking) r was =
     record { orders = same_orders past (Injected end now (Marked marking) ∷ past) refl (λ k g. g) r was.orders; rising = was.rising; final = was.final }
 marked c past end now (Err fault) r was =
     record { orders = same_orders past (Injected end now (FeedbackRefused fault) ∷ past) refl (λ k g. g) r was.orders; rising = was.rising; final = was.final }
 
-played : (c : Config) (past : List Entry) (now : ℕ) (answer : Play_answer) (old new : Option Window) →
+played : (c : Config) (past : List Entry) (now : ℕ) (answer : Play_answer) (old new : Option ReceiverState) →
     PlaysAny c.receiver.patience old now answer new → Ordered c past old → Ordered c (Played now answer ∷ past) new
 played c past now Wait None new is was =
-    subst (λ (x : Option Window). Ordered c (Played now Wait ∷ past) x) (sym is) (record { orders = was.orders; rising = was.rising; final = was.final })
+    subst (λ (x : Option ReceiverState). Ordered c (Played now Wait ∷ past) x) (sym is) (record { orders = was.orders; rising = was.rising; final = was.final })
 played c past now (Packet place content) None new never was = absurd never
 played c past now (Gap place) None new never was = absurd never
 played c past now Wait (Some old) new (free, impatient, is) was =
-    subst (λ (x : Option Window). Ordered c (Played now Wait ∷ past) x) (sym is) (record { orders = was.orders; rising = was.rising; final = was.final })
+    subst (λ (x : Option ReceiverState). Ordered c (Played now Wait ∷ past) x) (sym is) (record { orders = was.orders; rising = was.rising; final = was.final })
 played c past now (Packet place content) (Some old) None (at, held, none) was = absurd none
 played c past now (Packet place content) (Some old) (Some w) (at, held, pass) was =
     let orders = was.orders in
@@ -156,31 +156,31 @@ played c past now (Gap place) (Some old) (Some w) (at, free, cause, pass) was =
     }
 
 -- an ask leaves the cursor
-asked : (c : Config) (past : List Entry) (covered : List ℕ) (now : ℕ) (old : Window) (new : Option Window) → IsSomeAnd new (Asks old covered now) → Ordered c past (Some old) → Ordered c past new
+asked : (c : Config) (past : List Entry) (covered : List ℕ) (now : ℕ) (old : ReceiverState) (new : Option ReceiverState) → IsSomeAnd new (Asks old covered now) → Ordered c past (Some old) → Ordered c past new
 asked c past covered now old None none was = absurd none
 asked c past covered now old (Some w) asks was =
     let orders = was.orders in
     record { orders = (grind (arith, orders.0, asks.cursor), λ k g. let h = orders.1 k g in omega (arith, asks.cursor, h)); rising = was.rising; final = was.final }
 
-asked_any : (c : Config) (past : List Entry) (now : ℕ) (datagram : ArrayVec ℕ) (old new : Option Window) → AsksAny c.receiver old now (Some datagram) new → Ordered c past old → Ordered c past new
+asked_any : (c : Config) (past : List Entry) (now : ℕ) (datagram : ArrayVec ℕ) (old new : Option ReceiverState) → AsksAny c.receiver old now (Some datagram) new → Ordered c past old → Ordered c past new
 asked_any c past now datagram None new (none, is) was = absurd cc
 asked_any c past now datagram (Some old) new asks was =
     asked c past (take asks.answers.1.asked.count (take 1088 asks.due)) now old new asks.answers.1.asked.asks was
 
 -- an entry of the sender's, or none, leaves the receiver as it was
-untouched : (c : Config) (past : List Entry) (old new : Option Window) → new ≡ old → Ordered c past old → Ordered c past new
-untouched c past old new is was = subst (λ (x : Option Window). Ordered c past x) (sym is) was
+untouched : (c : Config) (past : List Entry) (old new : Option ReceiverState) → new ≡ old → Ordered c past old → Ordered c past new
+untouched c past old new is was = subst (λ (x : Option ReceiverState). Ordered c past x) (sym is) was
 
-receiver_of : (v w : Stand) → v ≡ w → v.receiver ≡ w.receiver
-receiver_of v w e = ap (λ (x : Stand). x.receiver) e
+receiver_of : (v w : WorldState) → v ≡ w → v.receiver ≡ w.receiver
+receiver_of v w e = ap (λ (x : WorldState). x.receiver) e
 
 -- what the receiver answers to octets, by its law
 abbrev pub AnyHearing : Type 0
 AnyHearing =
-    (room : ℕ) (c : Receiving) (old : Option Window) (octets : List ℕ) (now : ℕ) (answer : Result Took ReceiveFault) (new : Option Window) → Hears room c old octets now answer new → TakesOrRefuses room c old octets now answer new
+    (room : ℕ) (c : Receiving) (old : Option ReceiverState) (octets : List ℕ) (now : ℕ) (answer : Result Took ReceiveFault) (new : Option ReceiverState) → Hears room c old octets now answer new → TakesOrRefuses room c old octets now answer new
 
 module _ (any : AnyHearing) where
-  heard : (c : Config) (past : List Entry) (end : End) (octets : List ℕ) (now : ℕ) (answer : Answer) (old new : Stand) →
+  heard : (c : Config) (past : List Entry) (end : End) (octets : List ℕ) (now : ℕ) (answer : Answer) (old new : WorldState) →
       HearsAt c end old octets now answer new → Ordered c past old.receiver → Ordered c (Injected end now answer ∷ past) new.receiver
   heard c past Sender octets now answer old new h was =
       subst (λ (a : Answer). Ordered c (Injected Sender now a ∷ past) new.receiver) (sym h.tells)
@@ -189,7 +189,7 @@ module _ (any : AnyHearing) where
       subst (λ (a : Answer). Ordered c (Injected Receiver now a ∷ past) new.receiver) (sym h.tells)
       (heard_any c past Receiver now octets h.heard old.receiver new.receiver (any c.window c.receiver old.receiver octets now h.heard new.receiver h.hears) was)
 
-  pub ordered : (c : Config) (events : List Event) (past : List Entry) (end : Stand) → Answers c events past end → Ordered c past end.receiver
+  pub ordered : (c : Config) (events : List Event) (past : List Entry) (end : WorldState) → Answers c events past end → Ordered c past end.receiver
   ordered c [] [] end is = untouched c [] None end.receiver (receiver_of end (new_stand c) is) (record { orders = (refl, λ k g. g); rising = tt; final = tt })
   ordered c [] (entry ∷ past) end never = absurd never
   ordered c (event ∷ events) [] end never = absurd never

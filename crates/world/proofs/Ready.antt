@@ -10,13 +10,13 @@ use Rattle.stores.specs.declared.slot.PutFault.TheVariants.{Late, Duplicate}
 use Rattle.stores.specs.Past.{repeated}
 use Rattle.fbwire.specs.declared.nack.Pair.{Pair}
 use Rattle.fbwire.specs.Nack.{Names}
-use Rattle.sender.specs.History.{History, Marks, Repairs}
+use Rattle.sender.specs.History.{SenderState, Marks, Repairs}
 use Rattle.receiver.specs.declared.answer.Taken.{Taken as Took}
 use Rattle.receiver.specs.declared.fault.ReceiveFault.{ReceiveFault}
 use Rattle.receiver.specs.declared.fault.ReceiveFault.TheVariants as refused
 use Rattle.receiver.specs.declared.stream.Stream.{Stream}
 use Rattle.receiver.specs.declared.stream.Stream.TheVariants as streams
-use Rattle.receiver.specs.Window.{Missed, Window, Takes, AnswersPlace}
+use Rattle.receiver.specs.Window.{Missed, ReceiverState, Takes, AnswersPlace}
 use Rattle.receiver.specs.Heard.{WasAsked, AnswersIn}
 use Rattle.receiver.specs.Asks.{is_due, is_among, asked_once, Asks, AsksBy}
 use Rattle.world.specs.Config.{Config, IsConfig}
@@ -26,7 +26,7 @@ use Rattle.world.proofs.Marked.{stays, named_or_was, found}
 use Rattle.world.proofs.Spans.{Spans, spans_asks, spans_takes, spans_learns}
 
 -- What stands all through a round. The sender's place p is the receiver's q, and top is the greatest sender's place taken.
-pub record Ready (c : Config) (shift p q top : ℕ) (v : Window) (s : History) : Type 0 where
+pub record Ready (c : Config) (shift p q top : ℕ) (v : ReceiverState) (s : SenderState) : Type 0 where
   pub at : q + shift ≡ p
   pub highest : v.highest + shift ≡ top
   pub spans : Spans c.window v
@@ -39,22 +39,22 @@ pub record Ready (c : Config) (shift p q top : ℕ) (v : Window) (s : History) :
   pub kept : (k : ℕ) (e : HistoryEntry) → s.entries k ≡ Some e → (s.next ≤ k + c.history) × (k < s.next)
   pub marks : (k : ℕ) (e : HistoryEntry) → s.entries k ≡ Some e → e.marked ≡ true → k ≤ top
 
-pub record IsMarked (p : ℕ) (s : History) : Type 0 where
+pub record IsMarked (p : ℕ) (s : SenderState) : Type 0 where
   pub entry : HistoryEntry
   pub kept : s.entries p ≡ Some entry
   pub marked : entry.marked ≡ true
 
-abbrev pub IsDue : Config → (now q : ℕ) → Window → Type 0
+abbrev pub IsDue : Config → (now q : ℕ) → ReceiverState → Type 0
 IsDue c now q v = is_due c.receiver.retry c.receiver.asks now (v.missing q) ≡ true
 
 -- it can be asked for, and then it will be marked
-pub record IsWanted (c : Config) (now p q : ℕ) (v : Window) (s : History) : Type 0 where
+pub record IsWanted (c : Config) (now p q : ℕ) (v : ReceiverState) (s : SenderState) : Type 0 where
   pub due : IsDue c now q v
   pub entry : HistoryEntry
   pub kept : s.entries p ≡ Some entry
   pub allowed : entry.repeats < c.repeats
 
-abbrev pub IsHere : (q : ℕ) → Window → Type 0
+abbrev pub IsHere : (q : ℕ) → ReceiverState → Type 0
 IsHere q v = IsSome (v.held q)
 
 same_number : (q shift p cycles : ℕ) → q + shift ≡ p → shift ≡ cycles * 65536 → number q ≡ number p
@@ -78,7 +78,7 @@ due_missing c now (Some m) due = (m, refl)
 
 module _ (c : Config) (met : IsConfig c) (now shift p q top : ℕ) where
   -- An ask, and its pairs at the sender.
-  module _ (v v' : Window) (s s' : History) (due : List ℕ) (each : (k : ℕ) → is_among due k ≡ is_due c.receiver.retry c.receiver.asks now (v.missing k)) (pairs : List Pair) (r' : Option Window) (by : AsksBy v due now pairs r')
+  module _ (v v' : ReceiverState) (s s' : SenderState) (due : List ℕ) (each : (k : ℕ) → is_among due k ≡ is_due c.receiver.retry c.receiver.asks now (v.missing k)) (pairs : List Pair) (r' : Option ReceiverState) (by : AsksBy v due now pairs r')
       (asking : Asks v (take by.count (take 1088 due)) now v') (count : ℕ) (marking : Marks c.repeats (Names pairs) s count s') (decided : (n : ℕ) → Names pairs n ⊎ (Names pairs n → ⊥)) (r : Ready c shift p q top v s) where
     abbrev covered : List ℕ
     covered = take by.count (take 1088 due)
@@ -145,7 +145,7 @@ module _ (c : Config) (met : IsConfig c) (now shift p q top : ℕ) where
         subst (λ (o : Option Missed). (is_due c.receiver.retry c.receiver.asks now o ≡ true) ⊎ WasAsked o) (sym (asking.missing q)) (after_ask now (is_among covered q) c.receiver.retry c.receiver.asks (v.missing q) state)
 
   -- A retransmission, at the sender.
-  module _ (v : Window) (s s' : History) (place : ℕ) (entry : HistoryEntry) (repair : Repairs s place entry s') (r : Ready c shift p q top v s) where
+  module _ (v : ReceiverState) (s s' : SenderState) (place : ℕ) (entry : HistoryEntry) (repair : Repairs s place entry s') (r : Ready c shift p q top v s) where
     pub repair_up : place ≤ top
     repair_up = r.marks place entry repair.was repair.marked
 
@@ -195,19 +195,19 @@ module _ (c : Config) (met : IsConfig c) (now shift p q top : ℕ) where
         (cases_eq p place)
 
   -- What the delivery of a retransmission leaves at the receiver.
-  pub record IsDone (place : ℕ) (v : Window) (s : History) (r' : Option Window) : Type 0 where
-    pub window : Window
+  pub record IsDone (place : ℕ) (v : ReceiverState) (s : SenderState) (r' : Option ReceiverState) : Type 0 where
+    pub window : ReceiverState
     pub started : r' ≡ Some window
     pub ready : Ready c shift p q top window s
     pub stays : IsHere q v → IsHere q window
     pub asked : WasAsked (v.missing q) → WasAsked (window.missing q) ⊎ IsHere q window
     pub comes : place ≡ p → WasAsked (v.missing q) → IsHere q window
 
-  module _ (place own : ℕ) (content : Content) (s : History) (at : own + shift ≡ place) (up : place ≤ top) where
-    same_window : (v w : Window) → Takes c.window v own content now w → Ready c shift p q top v s → (w.cursor ≡ v.cursor) × (w.highest ≡ v.highest)
+  module _ (place own : ℕ) (content : Content) (s : SenderState) (at : own + shift ≡ place) (up : place ≤ top) where
+    same_window : (v w : ReceiverState) → Takes c.window v own content now w → Ready c shift p q top v s → (w.cursor ≡ v.cursor) × (w.highest ≡ v.highest)
     same_window v w taking r = let short = r.spans.short in let highest = r.highest in (omega (arith, taking.cursor, short, highest, at, up), omega (arith, taking.highest, highest, at, up))
 
-    taken_ready : (v w : Window) → Takes c.window v own content now w → Ready c shift p q top v s → Ready c shift p q top w s
+    taken_ready : (v w : ReceiverState) → Takes c.window v own content now w → Ready c shift p q top v s → Ready c shift p q top w s
     taken_ready v w taking r =
         let same = same_window v w taking r in
         record {
@@ -224,10 +224,10 @@ module _ (c : Config) (met : IsConfig c) (now shift p q top : ℕ) where
           marks = r.marks;
         }
 
-    here_now : (v w : Window) → Takes c.window v own content now w → q ≡ own → IsHere q w
+    here_now : (v w : ReceiverState) → Takes c.window v own content now w → q ≡ own → IsHere q w
     here_now v w taking here = subst (λ (o : Option Content). IsSome o) (sym (ap w.held here ∙ taking.held)) refl
 
-    module _ (v w : Window) (taking : Takes c.window v own content now w) (r : Ready c shift p q top v s) where
+    module _ (v w : ReceiverState) (taking : Takes c.window v own content now w) (r : Ready c shift p q top v s) where
       above_cursor : w.cursor ≤ q
       above_cursor = let h = r.from_cursor in let e = (same_window v w taking r).0 in omega (arith, e, h)
 
@@ -245,7 +245,7 @@ module _ (c : Config) (met : IsConfig c) (now shift p q top : ℕ) where
           (λ other. let under = r.below in inl (subst (λ (o : Option Missed). WasAsked o) (sym (taking.missing_below q above_cursor other (omega (arith, under)))) was))
           (cases_eq q own)
 
-      taken_done : (r' : Option Window) → r' ≡ Some w → IsDone place v s r'
+      taken_done : (r' : Option ReceiverState) → r' ≡ Some w → IsDone place v s r'
       taken_done r' is =
           record {
             window = w;
@@ -257,10 +257,10 @@ module _ (c : Config) (met : IsConfig c) (now shift p q top : ℕ) where
           }
 
     -- nothing changed
-    as_it_was : (v : Window) (r' : Option Window) → r' ≡ Some v → Ready c shift p q top v s → (place ≡ p → WasAsked (v.missing q) → IsHere q v) → IsDone place v s r'
+    as_it_was : (v : ReceiverState) (r' : Option ReceiverState) → r' ≡ Some v → Ready c shift p q top v s → (place ≡ p → WasAsked (v.missing q) → IsHere q v) → IsDone place v s r'
     as_it_was v r' is r comes = record { window = v; started = is; ready = r; stays = λ here. here; asked = λ was. inl was; comes = comes }
 
-    placed : (heard : Result Took ReceiveFault) (v : Window) (r' : Option Window) → AnswersPlace c.window v own content now heard r' → Ready c shift p q top v s → IsDone place v s r'
+    placed : (heard : Result Took ReceiveFault) (v : ReceiverState) (r' : Option ReceiverState) → AnswersPlace c.window v own content now heard r' → Ready c shift p q top v s → IsDone place v s r'
     placed (Ok taken) v None (same, above, free, over, none) r = absurd none
     placed (Ok taken) v (Some w) (same, above, free, over, taking) r = taken_done v w taking r (Some w) refl
     placed (Err (refused.Put Late)) v r' (under, is) r = as_it_was v r' is r (λ is_p asked. let same = r.at in let from = r.from_cursor in absurd (omega (arith, at, same, is_p, from, under)))
@@ -269,14 +269,14 @@ module _ (c : Config) (met : IsConfig c) (now shift p q top : ℕ) where
     placed (Err fault) v r' never r = absurd never
 
     -- what was learnt says nothing of the round
-    ready_learns : (v : Window) (learnt : Option ℕ) → Ready c shift p q top v s → Ready c shift p q top (record v { learnt = learnt }) s
+    ready_learns : (v : ReceiverState) (learnt : Option ℕ) → Ready c shift p q top v s → Ready c shift p q top (record v { learnt = learnt }) s
     ready_learns v learnt r =
         record { at = r.at; highest = r.highest; spans = spans_learns c.window v learnt r.spans; from_cursor = r.from_cursor; below = r.below; cycles = r.cycles; whole = r.whole; sent = r.sent; last = r.last; kept = r.kept; marks = r.marks }
 
-    done_learns : (v : Window) (learnt : Option ℕ) (r' : Option Window) → IsDone place (record v { learnt = learnt }) s r' → IsDone place v s r'
+    done_learns : (v : ReceiverState) (learnt : Option ℕ) (r' : Option ReceiverState) → IsDone place (record v { learnt = learnt }) s r' → IsDone place v s r'
     done_learns v learnt r' done = record { window = done.window; started = done.started; ready = done.ready; stays = done.stays; asked = done.asked; comes = done.comes }
 
-    pub placed_in : (stream : Stream) (heard : Result Took ReceiveFault) (v : Window) (r' : Option Window) → AnswersIn c.window stream v own content now heard r' → Ready c shift p q top v s → IsDone place v s r'
+    pub placed_in : (stream : Stream) (heard : Result Took ReceiveFault) (v : ReceiverState) (r' : Option ReceiverState) → AnswersIn c.window stream v own content now heard r' → Ready c shift p q top v s → IsDone place v s r'
     placed_in streams.Media heard v r' step r = placed heard v r' step r
     placed_in streams.Repair heard v r' step r = placed heard v r' step r
     placed_in (streams.Candidate ssrc) (Ok taken) v r' (asked, step) r = done_learns v (Some ssrc) r' (placed (Ok taken) (record v { learnt = Some ssrc }) r' step (ready_learns v (Some ssrc) r))
@@ -285,7 +285,7 @@ module _ (c : Config) (met : IsConfig c) (now shift p q top : ℕ) where
     placed_in (streams.Candidate ssrc) (Err fault) v r' never r = absurd never
 
   -- the delivery of a retransmission from near
-  pub repair_done : (place : ℕ) (content : Content) (stream : Stream) (heard : Result Took ReceiveFault) (v : Window) (s : History) (r' : Option Window) →
+  pub repair_done : (place : ℕ) (content : Content) (stream : Stream) (heard : Result Took ReceiveFault) (v : ReceiverState) (s : SenderState) (r' : Option ReceiverState) →
       place ≤ top → IsWithin reach place (v.highest + shift) → AnswersLabel c shift stream v place content now heard r' → Ready c shift p q top v s → IsDone place v s r'
   repair_done place content stream heard v s r' up near (inl (apart, is, same)) r = absurd (apart near)
   repair_done place content stream heard v s r' up near (inr (own, at, within, step)) r = placed_in place own content s at up stream heard v r' step r

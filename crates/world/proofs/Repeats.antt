@@ -6,7 +6,7 @@ use Rattle.std.proofs.lemmas.Option.{none-some, same_Some}
 use Rattle.rtpwire.specs.declared.content.Content.{Content}
 use Rattle.stores.specs.declared.entry.HistoryEntry.{HistoryEntry}
 use Rattle.stores.specs.Past.{fresh, repeated}
-use Rattle.sender.specs.History.{History, Sends, Repairs}
+use Rattle.sender.specs.History.{SenderState, Sends, Repairs}
 use Rattle.world.specs.declared.event.Event.{Event}
 use Rattle.world.specs.declared.event.Event.TheVariants.{Send, Repair as Retransmit, Ask, Deliver, Play, Inject}
 use Rattle.world.specs.declared.event.End.{End}
@@ -16,20 +16,20 @@ use Rattle.world.specs.declared.event.Entry.{Entry}
 use Rattle.world.specs.declared.event.Entry.TheVariants.{Sent, SendRefused, Repaired, NoRepair, Asked, NoAsk, Nothing, Delivered, Injected, Played}
 use Rattle.world.specs.Config.{Config, sending}
 use Rattle.world.specs.Labels.{end_of}
-use Rattle.world.specs.Answers.{Stand, new_stand, HearsAt, Answers}
+use Rattle.world.specs.Answers.{WorldState, new_stand, HearsAt, Answers}
 use Rattle.world.specs.Reading.{repairs_of}
 use Rattle.world.proofs.Marked.{AnyFeedback, Decided, was_found, same_next}
 
 -- how often each place was retransmitted, beside the sender
-pub record Counted (limit : ℕ) (count : ℕ → ℕ) (sender : History) : Type 0 where
+pub record Counted (limit : ℕ) (count : ℕ → ℕ) (sender : SenderState) : Type 0 where
   pub each : (q : ℕ) → count q ≤ limit
   pub kept : (q : ℕ) (e : HistoryEntry) → sender.entries q ≡ Some e → (count q ≡ e.repeats) × (e.marked ≡ true → e.repeats < limit) × (q < sender.next)
   pub unsent : (q : ℕ) → sender.next ≤ q → count q ≡ 0
 
-abbrev CountedBy : Config → List Entry → History → Type 0
+abbrev CountedBy : Config → List Entry → SenderState → Type 0
 CountedBy c past sender = Counted c.repeats (λ q. repairs_of q past) sender
 
-counted_sent : (limit room : ℕ) (count : ℕ → ℕ) (old new : History) (content : Content) → Sends room old content new → Counted limit count old → Counted limit count new
+counted_sent : (limit room : ℕ) (count : ℕ → ℕ) (old new : SenderState) (content : Content) → Sends room old content new → Counted limit count old → Counted limit count new
 counted_sent limit room count old new content t was =
     record {
       each = was.each;
@@ -46,7 +46,7 @@ counted_sent limit room count old new content t was =
       unsent = λ q h. was.unsent q (omega (arith, t.next));
     }
 
-counted_repaired : (limit place : ℕ) (count count' : ℕ → ℕ) (old new : History) (entry : HistoryEntry) → count' place ≡ count place + 1 → ((q : ℕ) → q ≢ place → count' q ≡ count q) →
+counted_repaired : (limit place : ℕ) (count count' : ℕ → ℕ) (old new : SenderState) (entry : HistoryEntry) → count' place ≡ count place + 1 → ((q : ℕ) → q ≢ place → count' q ≡ count q) →
     Repairs old place entry new → Counted limit count old → Counted limit count' new
 counted_repaired limit place count count' old new entry at other t was =
     let before = was.kept place entry t.was in
@@ -71,14 +71,14 @@ one_more place past index = grind (arith, nat_tests)
 no_more : (q place : ℕ) (past : List Entry) (index : ℕ) → q ≢ place → repairs_of q (Repaired place index ∷ past) ≡ repairs_of q past
 no_more q place past index apart = grind (arith, nat_tests)
 
-same_sender : (c : Config) (past : List Entry) (old new : History) → new ≡ old → CountedBy c past old → CountedBy c past new
-same_sender c past old new is was = subst (λ (h : History). CountedBy c past h) (sym is) was
+same_sender : (c : Config) (past : List Entry) (old new : SenderState) → new ≡ old → CountedBy c past old → CountedBy c past new
+same_sender c past old new is was = subst (λ (h : SenderState). CountedBy c past h) (sym is) was
 
-sender_of : (old new : Stand) → new ≡ old → new.sender ≡ old.sender
-sender_of old new is = ap (λ (s : Stand). s.sender) is
+sender_of : (old new : WorldState) → new ≡ old → new.sender ≡ old.sender
+sender_of old new is = ap (λ (s : WorldState). s.sender) is
 
 module _ (any : AnyFeedback) (decided : Decided) where
-  heard : (c : Config) (past : List Entry) (end : End) (old new : Stand) (octets : List ℕ) (now : ℕ) (answer : Answer) → HearsAt c end old octets now answer new → CountedBy c past old.sender → CountedBy c past new.sender
+  heard : (c : Config) (past : List Entry) (end : End) (old new : WorldState) (octets : List ℕ) (now : ℕ) (answer : Answer) → HearsAt c end old octets now answer new → CountedBy c past old.sender → CountedBy c past new.sender
   heard c past Receiver old new octets now answer hears was = same_sender c past old.sender new.sender hears.sender was
   heard c past Sender old new octets now answer hears was =
       let marks = any (sending c) old.sender octets hears.heard new.sender hears.hears in
@@ -95,7 +95,7 @@ module _ (any : AnyFeedback) (decided : Decided) where
         unsent = λ q h. was.unsent q (omega (arith, next));
       }
 
-  pub counted : (c : Config) (events : List Event) (past : List Entry) (end : Stand) → Answers c events past end → CountedBy c past end.sender
+  pub counted : (c : Config) (events : List Event) (past : List Entry) (end : WorldState) → Answers c events past end → CountedBy c past end.sender
   counted c [] [] end is = same_sender c [] (new_stand c).sender end.sender (sender_of (new_stand c) end is) (record { each = λ q. omega arith; kept = λ q e none. absurd (none-some e none); unsent = λ q h. refl })
   counted c [] (entry ∷ past) end never = absurd never
   counted c (event ∷ events) [] end never = absurd never

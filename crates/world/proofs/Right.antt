@@ -13,7 +13,7 @@ use Rattle.receiver.specs.declared.answer.Played.{Played as Play_answer}
 use Rattle.receiver.specs.declared.answer.Played.TheVariants.{Packet, Gap, Wait}
 use Rattle.receiver.specs.declared.fault.ReceiveFault.{ReceiveFault}
 use Rattle.receiver.specs.declared.fault.ReceiveFault.TheVariants as refused
-use Rattle.receiver.specs.Window.{Missed, Window, StartsAt, AnswersPlace, HasPassed, PlaysAny}
+use Rattle.receiver.specs.Window.{Missed, ReceiverState, StartsAt, AnswersPlace, HasPassed, PlaysAny}
 use Rattle.receiver.specs.declared.stream.Stream.{Stream}
 use Rattle.receiver.specs.declared.stream.Stream.TheVariants as streams
 use Rattle.receiver.specs.Streams.{learnt_by}
@@ -43,11 +43,11 @@ abbrev pub Plays : Config → List Entry → Type 0
 Plays c past = IsRight c past × IsJustified c past × IsRefusedLawfully c past
 
 -- the window beside the log, and what was played
-abbrev pub Goes : Config → List Entry → Option Window → Type 0
-Goes c past r = Keeps c past r × Plays c past
+abbrev pub KeepsAndPlays : Config → List Entry → Option ReceiverState → Type 0
+KeepsAndPlays c past r = Keeps c past r × Plays c past
 
-keeps_as : (c : Config) (past : List Entry) (old new : Option Window) → new ≡ old → Keeps c past old → Keeps c past new
-keeps_as c past old new is kept = subst (λ (r : Option Window). Keeps c past r) (sym is) kept
+keeps_as : (c : Config) (past : List Entry) (old new : Option ReceiverState) → new ≡ old → Keeps c past old → Keeps c past new
+keeps_as c past old new is kept = subst (λ (r : Option ReceiverState). Keeps c past r) (sym is) kept
 
 is_held : (o : Option Content) → IsSome o → o ≡ None → ⊥
 is_held None held e = absurd cc
@@ -64,7 +64,7 @@ can_learn_in c None true so = so refl
 can_learn_in c (Some known) true so = tt
 can_learn_in c learnt false so = tt
 
-can_learn : (c : Config) (r : Option Window) (label : Label) → CanLearn c (stream_in c.receiver r label)
+can_learn : (c : Config) (r : Option ReceiverState) (label : Label) → CanLearn c (stream_in c.receiver r label)
 can_learn c r (Media place) = tt
 can_learn c r (Repair place) = can_learn_in c (learnt_by r) c.receiver.learns (λ x. x)
 can_learn c r (Feedback pairs) = tt
@@ -72,16 +72,16 @@ can_learn c r (Feedback pairs) = tt
 -- A packet of the sender's place p is delivered.
 module _ (c : Config) (past : List Entry) (i : ℕ) (label : Label) (p now : ℕ) (at_place : place_of label ≡ Some p) where
   -- what is kept after it was taken, the receiver's place being this
-  abbrev KeptAfter : Option ℕ → (place overrun : ℕ) → Window → Type 0
+  abbrev KeptAfter : Option ℕ → (place overrun : ℕ) → ReceiverState → Type 0
   KeptAfter o place overrun w =
       Kept (first_or (highest_taken past) (or_zero o - place) (shift_of past)) (cursor_from (cursor_of past) place overrun) (greater (highest_taken past) o) (WasSent c past)
       (λ k. ((o ≡ Some k) × Unit {0}) ⊎ IsReached past k) (λ k. earlier_or (noticed_of past k) k place now) w
 
-  took : (taken : Took) (place : ℕ) (w : Window) → taken.place ≡ place → KeptAfter (Some p) place taken.overrun w → KeptBy c (Delivered i label now (Taken taken) ∷ past) w
+  took : (taken : Took) (place : ℕ) (w : ReceiverState) → taken.place ≡ place → KeptAfter (Some p) place taken.overrun w → KeptBy c (Delivered i label now (Taken taken) ∷ past) w
   took taken place w same kept = subst (λ (x : Option ℕ × ℕ). KeptAfter x.0 x.1 taken.overrun w) (λ j. (sym at_place j, sym same j)) kept
 
   -- the shift of a log, where it is known
-  shifted : (place overrun : ℕ) (w : Window) (s : ℕ) → first_or (highest_taken past) (p - place) (shift_of past) ≡ s →
+  shifted : (place overrun : ℕ) (w : ReceiverState) (s : ℕ) → first_or (highest_taken past) (p - place) (shift_of past) ≡ s →
       Kept s (cursor_from (cursor_of past) place overrun) (greater (highest_taken past) (Some p)) (WasSent c past) (λ k. ((Some p ≡ Some k) × Unit {0}) ⊎ IsReached past k)
       (λ k. earlier_or (noticed_of past k) k place now) w → KeptAfter (Some p) place overrun w
   shifted place overrun w s is kept =
@@ -90,7 +90,7 @@ module _ (c : Config) (past : List Entry) (i : ℕ) (label : Label) (p now : ℕ
       (sym is) kept
 
   -- it is refused, and no place that can still be played was missed by that
-  refuses : (fault : ReceiveFault) (old : Window) (new : Option Window) → new ≡ Some old → KeptBy c past old →
+  refuses : (fault : ReceiveFault) (old : ReceiverState) (new : Option ReceiverState) → new ≡ Some old → KeptBy c past old →
       ((k : ℕ) → old.cursor ≤ k → p ≡ k + shift_of past → Reaches (highest_taken past) (Refused fault) → old.held k ≡ None → ⊥) → Keeps c (Delivered i label now (Refused fault) ∷ past) new
   refuses fault old new is kept because =
       keeps_as c (Delivered i label now (Refused fault) ∷ past) (Some old) new is
@@ -98,8 +98,8 @@ module _ (c : Config) (past : List Entry) (i : ℕ) (label : Label) (p now : ℕ
       (λ k h x none. because k h (same_Some p (k + shift_of past) (sym at_place ∙ x.0)) x.1 none))
 
   -- at a place of the receiver's own
-  placed : (own : ℕ) (heard : Result Took ReceiveFault) (old : Window) (new : Option Window) (content : Content) →
-      own + shift_of past ≡ p → WasSent c past p content → AnswersPlace c.window old own content now heard new → KeptBy c past old → Plays c past → Goes c (Delivered i label now (told heard) ∷ past) new
+  placed : (own : ℕ) (heard : Result Took ReceiveFault) (old : ReceiverState) (new : Option ReceiverState) (content : Content) →
+      own + shift_of past ≡ p → WasSent c past p content → AnswersPlace c.window old own content now heard new → KeptBy c past old → Plays c past → KeepsAndPlays c (Delivered i label now (told heard) ∷ past) new
   placed own (Ok taken) old None content at was (same, above, free, over, none) kept plays = absurd none
   placed own (Ok taken) old (Some w) content at was (same, above, free, over, taking) kept plays =
       let step = takes (shift_of past) (cursor_of past) (highest_taken past) (WasSent c past) (IsReached past) (noticed_of past) c.window old w p own now taken.overrun content kept at was above free over taking in
@@ -113,8 +113,8 @@ module _ (c : Config) (past : List Entry) (i : ℕ) (label : Label) (p now : ℕ
   placed own (Err fault) old new content at was never kept plays = absurd never
 
   -- in its stream
-  placed_in : (stream : Stream) → CanLearn c stream → (own : ℕ) (heard : Result Took ReceiveFault) (old : Window) (new : Option Window) (content : Content) →
-      own + shift_of past ≡ p → WasSent c past p content → AnswersIn c.window stream old own content now heard new → KeptBy c past old → Plays c past → Goes c (Delivered i label now (told heard) ∷ past) new
+  placed_in : (stream : Stream) → CanLearn c stream → (own : ℕ) (heard : Result Took ReceiveFault) (old : ReceiverState) (new : Option ReceiverState) (content : Content) →
+      own + shift_of past ≡ p → WasSent c past p content → AnswersIn c.window stream old own content now heard new → KeptBy c past old → Plays c past → KeepsAndPlays c (Delivered i label now (told heard) ∷ past) new
   placed_in streams.Media learning own heard old new content at was step kept plays = placed own heard old new content at was step kept plays
   placed_in streams.Repair learning own heard old new content at was step kept plays = placed own heard old new content at was step kept plays
   placed_in (streams.Candidate ssrc) learning own (Ok taken) old new content at was (asked, step) kept plays =
@@ -127,25 +127,25 @@ module _ (c : Config) (past : List Entry) (i : ℕ) (label : Label) (p now : ℕ
   placed_in (streams.Candidate ssrc) learning own (Err fault) old new content at was never kept plays = absurd never
 
   -- a retransmission before the start
-  unstarted : (heard : Result Took ReceiveFault) (new : Option Window) → heard ≡ Err refused.NotStarted → new ≡ None → Keeps c past None → Plays c past → Goes c (Delivered i label now (told heard) ∷ past) new
+  unstarted : (heard : Result Took ReceiveFault) (new : Option ReceiverState) → heard ≡ Err refused.NotStarted → new ≡ None → Keeps c past None → Plays c past → KeepsAndPlays c (Delivered i label now (told heard) ∷ past) new
   unstarted heard new is same fresh plays =
-      subst (λ (x : Result Took ReceiveFault). Goes c (Delivered i label now (told x) ∷ past) new) (sym is) (
+      subst (λ (x : Result Took ReceiveFault). KeepsAndPlays c (Delivered i label now (told x) ∷ past) new) (sym is) (
         keeps_as c (Delivered i label now (Refused refused.NotStarted) ∷ past) None new same
             (record { shift_is = fresh.shift_is; cursor = fresh.cursor; highest = fresh.highest; reached = λ k r. ⊎_elim (λ x. subst (λ o. Reaches o (Refused refused.NotStarted)) fresh.highest x.1) (fresh.reached k) r; noticed = fresh.noticed }),
         (plays.0, plays.1, (inl refl, plays.2)),
       )
 
   -- from too far
-  far : (heard : Result Took ReceiveFault) (old : Window) (new : Option Window) → heard ≡ Err (refused.Place Far) → new ≡ Some old → KeptBy c past old → Plays c past → Goes c (Delivered i label now (told heard) ∷ past) new
+  far : (heard : Result Took ReceiveFault) (old : ReceiverState) (new : Option ReceiverState) → heard ≡ Err (refused.Place Far) → new ≡ Some old → KeptBy c past old → Plays c past → KeepsAndPlays c (Delivered i label now (told heard) ∷ past) new
   far heard old new is same kept plays =
-      subst (λ (x : Result Took ReceiveFault). Goes c (Delivered i label now (told x) ∷ past) new) (sym is) (
+      subst (λ (x : Result Took ReceiveFault). KeepsAndPlays c (Delivered i label now (told x) ∷ past) new) (sym is) (
         refuses (refused.Place Far) old new same kept (λ k h here reaches none. (subst (λ o. Reaches o (Refused (refused.Place Far))) kept.highest reaches).0 refl),
         (plays.0, plays.1, (inr (inl refl), plays.2)),
       )
 
   -- the first one
-  started : (heard : Result Took ReceiveFault) (new : Option Window) (content : Content) →
-      65536 ≤ p → WasSent c past p content → StartsAt (65536 + number p) content heard new → Keeps c past None → Plays c past → Goes c (Delivered i label now (told heard) ∷ past) new
+  started : (heard : Result Took ReceiveFault) (new : Option ReceiverState) (content : Content) →
+      65536 ≤ p → WasSent c past p content → StartsAt (65536 + number p) content heard new → Keeps c past None → Plays c past → KeepsAndPlays c (Delivered i label now (told heard) ∷ past) new
   started (Ok taken) None content big was (at, over, none) fresh plays = absurd none
   started (Ok taken) (Some w) content big was (at, over, starting) fresh plays =
       let step = starts (shift_of past) (cursor_of past) (highest_taken past) (WasSent c past) (IsReached past) (noticed_of past) w p now taken.overrun content fresh big was starting in (
@@ -155,8 +155,8 @@ module _ (c : Config) (past : List Entry) (i : ℕ) (label : Label) (p now : ℕ
       )
   started (Err fault) new content big was never fresh plays = absurd never
 
-received : (c : Config) (past : List Entry) (i : ℕ) (label : Label) (p now : ℕ) (heard : Result Took ReceiveFault) (stream : Stream) (old new : Option Window) (content : Content) → CanLearn c stream → place_of label ≡ Some p →
-    WasSent c past p content → ReceivesLabel c (shift_of past) stream old p content now heard new → Goes c past old → Goes c (Delivered i label now (told heard) ∷ past) new
+received : (c : Config) (past : List Entry) (i : ℕ) (label : Label) (p now : ℕ) (heard : Result Took ReceiveFault) (stream : Stream) (old new : Option ReceiverState) (content : Content) → CanLearn c stream → place_of label ≡ Some p →
+    WasSent c past p content → ReceivesLabel c (shift_of past) stream old p content now heard new → KeepsAndPlays c past old → KeepsAndPlays c (Delivered i label now (told heard) ∷ past) new
 received c past i label p now heard streams.Media None new content learning at was step (fresh, plays) =
     started c past i label p now at heard new content (let place = was.1 in omega (arith, place)) was step fresh plays
 received c past i label p now heard streams.Repair None new content learning at was (is, same) (fresh, plays) = unstarted c past i label p now at heard new is same fresh plays
@@ -166,7 +166,7 @@ received c past i label p now heard stream (Some old) new content learning at wa
     placed_in c past i label p now at stream learning own heard old new content here was step kept plays
 
 -- feedback is delivered, which the receiver knows nothing of
-fed_back : (c : Config) (past : List Entry) (i now : ℕ) (pairs : ArrayVec Pair) (marking : Marking) (r : Option Window) → Goes c past r → Goes c (Delivered i (Feedback pairs) now (Marked marking) ∷ past) r
+fed_back : (c : Config) (past : List Entry) (i now : ℕ) (pairs : ArrayVec Pair) (marking : Marking) (r : Option ReceiverState) → KeepsAndPlays c past r → KeepsAndPlays c (Delivered i (Feedback pairs) now (Marked marking) ∷ past) r
 fed_back c past i now pairs marking None (fresh, plays) = (
   record { shift_is = fresh.shift_is; cursor = fresh.cursor; highest = fresh.highest; reached = λ k r. ⊎_elim (λ x. none-some k x.0) (fresh.reached k) r; noticed = fresh.noticed },
   (plays.0, plays.1, (tt, plays.2)),
@@ -176,18 +176,18 @@ fed_back c past i now pairs marking (Some w) (kept, plays) = (
   (plays.0, plays.1, (tt, plays.2)),
 )
 
-goes_as : (c : Config) (past : List Entry) (old new : Option Window) → new ≡ old → Goes c past old → Goes c past new
-goes_as c past old new is goes = subst (λ (r : Option Window). Goes c past r) (sym is) goes
+goes_as : (c : Config) (past : List Entry) (old new : Option ReceiverState) → new ≡ old → KeepsAndPlays c past old → KeepsAndPlays c past new
+goes_as c past old new is goes = subst (λ (r : Option ReceiverState). KeepsAndPlays c past r) (sym is) goes
 
-fed_back_as : (c : Config) (past : List Entry) (i now : ℕ) (label : Label) (answer : Answer) (old new : PlaceWorld) → HearsFeedbackOf c old label answer new → Goes c past old.receiver → Goes c (Delivered i label now answer ∷ past) new.receiver
+fed_back_as : (c : Config) (past : List Entry) (i now : ℕ) (label : Label) (answer : Answer) (old new : PlaceWorld) → HearsFeedbackOf c old label answer new → KeepsAndPlays c past old.receiver → KeepsAndPlays c (Delivered i label now answer ∷ past) new.receiver
 fed_back_as c past i now (Feedback pairs) (Marked marking) old new (marks, is) goes = fed_back c past i now pairs marking new.receiver (goes_as c past old.receiver new.receiver is goes)
 fed_back_as c past i now (Feedback pairs) answer old new never goes = absurd never
 fed_back_as c past i now label answer old new never goes = absurd never
 
 delivered : (c : Config) (past : List Entry) (i now : ℕ) (label : Label) (answer : Answer) (old new : PlaceWorld) (place : Option ℕ) → place_of label ≡ place →
-    HearsPlace c past old label place now answer new → Goes c past old.receiver → Goes c (Delivered i label now answer ∷ past) new.receiver
+    HearsPlace c past old label place now answer new → KeepsAndPlays c past old.receiver → KeepsAndPlays c (Delivered i label now answer ∷ past) new.receiver
 delivered c past i now label answer old new (Some p) at step goes =
-    subst (λ (a : Answer). Goes c (Delivered i label now a ∷ past) new.receiver) (sym step.tells)
+    subst (λ (a : Answer). KeepsAndPlays c (Delivered i label now a ∷ past) new.receiver) (sym step.tells)
     (received c past i label p now step.heard (stream_in c.receiver old.receiver label) old.receiver new.receiver step.content (can_learn c old.receiver label) at step.was_sent step.receives goes)
 delivered c past i now label answer old new None at step goes = fed_back_as c past i now label answer old new step goes
 
@@ -206,15 +206,15 @@ noticed_at : (c : Config) (now : ℕ) (o : Option Missed) → IsSomeAnd o (λ m.
 noticed_at c now None never = absurd never
 noticed_at c now (Some m) long = (m.noticed, refl, over c.receiver.patience m.noticed now long)
 
-waits : (c : Config) (past : List Entry) (now : ℕ) (w : Window) → KeptBy c past w → w.held w.cursor ≡ None → ((m : Missed) → w.missing w.cursor ≡ Some m → HasPassed c.receiver.patience m.noticed now → ⊥) → IsWaitFor c past (Some w.cursor) now
+waits : (c : Config) (past : List Entry) (now : ℕ) (w : ReceiverState) → KeptBy c past w → w.held w.cursor ≡ None → ((m : Missed) → w.missing w.cursor ≡ Some m → HasPassed c.receiver.patience m.noticed now → ⊥) → IsWaitFor c past (Some w.cursor) now
 waits c past now w kept free impatient = (
   λ r. kept.reached w.cursor (omega arith) r free,
   λ t e long. let m = noticed_some (w.missing w.cursor) t (kept.noticed w.cursor (omega arith) free ∙ e) in
       impatient m.0 m.1 (passed c.receiver.patience m.0.noticed now (subst (λ n. IsOver c.receiver.patience n now) (sym m.2) long)),
 )
 
-played : (c : Config) (past : List Entry) (now : ℕ) (answer : Play_answer) (old new : Option Window) →
-    PlaysAny c.receiver.patience old now answer new → Goes c past old → Goes c (Played now answer ∷ past) new
+played : (c : Config) (past : List Entry) (now : ℕ) (answer : Play_answer) (old new : Option ReceiverState) →
+    PlaysAny c.receiver.patience old now answer new → KeepsAndPlays c past old → KeepsAndPlays c (Played now answer ∷ past) new
 played c past now Wait None new is (fresh, plays) =
     (keeps_as c past None new is fresh, (plays.0, (subst (λ o. IsWaitFor c past o now) (sym fresh.cursor) tt, plays.1), plays.2))
 played c past now (Packet place content) None new never goes = absurd never
@@ -237,23 +237,23 @@ played c past now (Gap place) (Some old) (Some w) (at, free, cause, pass) (kept,
       ),
     )
 
-asked_at : (c : Config) (past : List Entry) (covered : List ℕ) (now : ℕ) (w : Window) (new : Option Window) → IsSomeAnd new (Asks w covered now) → KeptBy c past w → Keeps c past new
+asked_at : (c : Config) (past : List Entry) (covered : List ℕ) (now : ℕ) (w : ReceiverState) (new : Option ReceiverState) → IsSomeAnd new (Asks w covered now) → KeptBy c past w → Keeps c past new
 asked_at c past covered now w None none kept = absurd none
 asked_at c past covered now w (Some v) step kept = asks (shift_of past) (cursor_of past) (highest_taken past) (WasSent c past) (IsReached past) (noticed_of past) w v covered now kept step
 
 -- an ask leaves what is held, and when a place was noticed
-asked : (c : Config) (past : List Entry) (now : ℕ) (pairs : List Pair) (old new : Option Window) → AsksAnyBy c.receiver old now pairs new → Keeps c past old → Keeps c past new
+asked : (c : Config) (past : List Entry) (now : ℕ) (pairs : List Pair) (old new : Option ReceiverState) → AsksAnyBy c.receiver old now pairs new → Keeps c past old → Keeps c past new
 asked c past now pairs None new never kept = absurd never
 asked c past now pairs (Some w) new step kept = asked_at c past (take step.asked.count (take 1088 step.due)) now w new step.asked.asks kept
 
 -- whatever is injected at the sender leaves the receiver
-injected : (c : Config) (past : List Entry) (now : ℕ) (answer : Answer) (old new : PlaceWorld) → MarksAnything c old answer new → Goes c past old.receiver → Goes c (Injected Sender now answer ∷ past) new.receiver
+injected : (c : Config) (past : List Entry) (now : ℕ) (answer : Answer) (old new : PlaceWorld) → MarksAnything c old answer new → KeepsAndPlays c past old.receiver → KeepsAndPlays c (Injected Sender now answer ∷ past) new.receiver
 injected c past now (Marked marking) old new (nacks, (marks, is)) goes = let after = goes_as c past old.receiver new.receiver is goes in (keeps_as c past new.receiver new.receiver refl after.0, after.1)
 injected c past now (FeedbackRefused fault) old new (sender, is) goes = let after = goes_as c past old.receiver new.receiver is goes in (keeps_as c past new.receiver new.receiver refl after.0, after.1)
 injected c past now (Taken taken) old new never goes = absurd never
 injected c past now (Refused fault) old new never goes = absurd never
 
-sent_more : (c : Config) (past : List Entry) (place index : ℕ) (content : Content) (r : Option Window) → Keeps c past r → Keeps c (Sent place index content ∷ past) r
+sent_more : (c : Config) (past : List Entry) (place index : ℕ) (content : Content) (r : Option ReceiverState) → Keeps c past r → Keeps c (Sent place index content ∷ past) r
 sent_more c past place index content None fresh = fresh
 sent_more c past place index content (Some w) kept =
     sends (shift_of past) (cursor_of past) (highest_taken past) (WasSent c past) (IsReached past) (noticed_of past) w (WasSent c (Sent place index content ∷ past))
@@ -263,7 +263,7 @@ receiver_is : (v w : PlaceWorld) → v ≡ w → v.receiver ≡ w.receiver
 receiver_is v w e = ap (λ (x : PlaceWorld). x.receiver) e
 
 -- by induction over the run
-pub goes : (c : Config) (past : List Entry) (end : PlaceWorld) → PlaceRun c past end → Goes c past end.receiver
+pub goes : (c : Config) (past : List Entry) (end : PlaceWorld) → PlaceRun c past end → KeepsAndPlays c past end.receiver
 goes c [] end is =
     (keeps_as c [] None end.receiver (receiver_is end (new_places c) is) (record { shift_is = refl; cursor = refl; highest = refl; reached = λ k h. h; noticed = λ k. refl }), (tt, tt, tt))
 goes c (Sent place index content ∷ past) end (old, run, (at, fits, index_at, sends, labels, is)) =
@@ -286,6 +286,6 @@ goes c (Injected Sender now answer ∷ past) end (old, run, (step, labels)) = in
 goes c (Played now answer ∷ past) end (old, run, (step, sender, labels)) = played c past now answer old.receiver end.receiver step (goes c past old run)
 
 -- The shift is a number of whole cycles.
-pub shift_is_whole : (c : Config) (past : List Entry) (r : Option Window) → Keeps c past r → (cycles : ℕ) × (shift_of past ≡ cycles * 65536)
+pub shift_is_whole : (c : Config) (past : List Entry) (r : Option ReceiverState) → Keeps c past r → (cycles : ℕ) × (shift_of past ≡ cycles * 65536)
 shift_is_whole c past None fresh = (0, fresh.shift_is)
 shift_is_whole c past (Some w) kept = (kept.cycles, kept.whole)

@@ -3,8 +3,8 @@
 use Rattle.std.proofs.Common.{◌≡◌, ℕ, ◌+◌, ◌<◌, List, [], ◌∷◌, ◌++◌, length, reverse, Option, Some, None, Result, Ok, Err, OnErr, refl, sym, ap, subst, ◌∙◌, arith, append_assoc, append-nil, length-append}
 use Rattle.std.specs.Prelude.{MatchOption}
 use Rattle.std.proofs.lemmas.List.{reverse-append, reverse-reverse}
-use Rattle.sender.specs.History.{History}
-use Rattle.receiver.specs.Window.{Window}
+use Rattle.sender.specs.History.{SenderState}
+use Rattle.receiver.specs.Window.{ReceiverState}
 use Rattle.world.specs.declared.event.Event.{Event}
 use Rattle.world.specs.declared.event.Event.TheVariants.{Repair as Retransmit, Ask, Deliver}
 use Rattle.world.specs.declared.event.Label.{Label}
@@ -13,8 +13,8 @@ use Rattle.world.specs.declared.event.Answer.{Answer}
 use Rattle.world.specs.declared.event.Entry.{Entry}
 use Rattle.world.specs.declared.event.Entry.TheVariants.{Repaired, NoRepair, Asked, NoAsk, Nothing, Delivered}
 use Rattle.world.specs.Config.{Config, IsConfig}
-use Rattle.world.specs.Answers.{Item, Stand, AsksTo, DeliversAt, Step, Answers}
-use Rattle.world.specs.Round.{IsAsking, IsRepairing, IsRound, IsBegun, GoesOn}
+use Rattle.world.specs.Answers.{Item, WorldState, AsksTo, DeliversAt, Step, Answers}
+use Rattle.world.specs.Round.{IsAsking, IsRepairing, IsRound, IsRoundBegun, GoesOn}
 use Rattle.world.proofs.Order.{AnyHearing}
 use Rattle.world.proofs.Faithful.{wired}
 use Rattle.world.proofs.Repeats.{counted}
@@ -24,7 +24,7 @@ use Rattle.world.proofs.Steps.{adds_answer, asked_step, delivered_step, delivere
 use Rattle.world.proofs.Totals.{asks_left, asks_fall, marks_left, repairs_fall}
 
 -- nothing was done
-pub goes_nowhere : (c : Config) (now : ℕ) (s : Stand) (log : List Entry) → GoesOn c (IsAsking now) s s log log
+pub goes_nowhere : (c : Config) (now : ℕ) (s : WorldState) (log : List Entry) → GoesOn c (IsAsking now) s s log log
 goes_nowhere c now s log = record { events = []; added = []; kind = tt; adds = refl; log_is = sym (append-nil log) }
 
 one_more : (log grown grown' : List Entry) (added : List Entry) (entry : Entry) → grown ≡ log ++ reverse added → grown' ≡ grown ++ entry ∷ [] → grown' ≡ log ++ reverse (entry ∷ added)
@@ -32,17 +32,17 @@ one_more log grown grown' added entry is more =
     more ∙ ap (λ (xs : List Entry). xs ++ entry ∷ []) is ∙ append_assoc log (reverse added) (entry ∷ []) ∙ ap (λ (xs : List Entry). log ++ xs) (sym (reverse-append (entry ∷ []) added))
 
 -- one step more
-pub goes_on : (c : Config) (IsKind IsNext : List Entry → Type 0) (old mid new : Stand) (log grown grown' : List Entry) (event : Event) (entry : Entry) → GoesOn c IsKind old mid log grown → Step c mid event entry new →
+pub goes_on : (c : Config) (IsKind IsNext : List Entry → Type 0) (old mid new : WorldState) (log grown grown' : List Entry) (event : Event) (entry : Entry) → GoesOn c IsKind old mid log grown → Step c mid event entry new →
     grown' ≡ grown ++ entry ∷ [] → ((added : List Entry) → IsKind added → IsNext (entry ∷ added)) → GoesOn c IsNext old new log grown'
 goes_on c IsKind IsNext old mid new log grown grown' event entry on step more next =
     record { events = event ∷ on.events; added = entry ∷ on.added; kind = next on.added on.kind; adds = (mid, on.adds, step); log_is = one_more log grown grown' on.added entry on.log_is more }
 
 -- what was done stays done where nothing changes
-pub goes_same : (c : Config) (IsKind : List Entry → Type 0) (old mid new : Stand) (log grown same : List Entry) → GoesOn c IsKind old mid log grown → new ≡ mid → same ≡ grown → GoesOn c IsKind old new log same
-goes_same c IsKind old mid new log grown same on stand_is log_is = subst (λ (x : Stand × List Entry). GoesOn c IsKind old x.0 log x.1) (λ i. (sym stand_is i, sym log_is i)) on
+pub goes_same : (c : Config) (IsKind : List Entry → Type 0) (old mid new : WorldState) (log grown same : List Entry) → GoesOn c IsKind old mid log grown → new ≡ mid → same ≡ grown → GoesOn c IsKind old new log same
+goes_same c IsKind old mid new log grown same on stand_is log_is = subst (λ (x : WorldState × List Entry). GoesOn c IsKind old x.0 log x.1) (λ i. (sym stand_is i, sym log_is i)) on
 
 -- of another kind
-pub goes_as : (c : Config) (IsKind IsOther : List Entry → Type 0) (old new : Stand) (log grown : List Entry) → ((added : List Entry) → IsKind added → IsOther added) → GoesOn c IsKind old new log grown → GoesOn c IsOther old new log grown
+pub goes_as : (c : Config) (IsKind IsOther : List Entry → Type 0) (old new : WorldState) (log grown : List Entry) → ((added : List Entry) → IsKind added → IsOther added) → GoesOn c IsKind old new log grown → GoesOn c IsOther old new log grown
 goes_as c IsKind IsOther old new log grown other on = record { events = on.events; added = on.added; kind = other on.added on.kind; adds = on.adds; log_is = on.log_is }
 
 -- the delivery of what was just put on the wire is a delivery
@@ -50,13 +50,13 @@ abbrev IsDeliveryOf : ℕ → ℕ → Entry → Type 0
 IsDeliveryOf at now (Delivered index label moment answer) = (index ≡ at) × (moment ≡ now)
 IsDeliveryOf at now entry = ⊥
 
-is_delivery : (c : Config) (at now : ℕ) (wire : List Item) (item : Item) (mid new : Stand) (entry : Entry) → mid.wire ≡ wire ++ item ∷ [] → at ≡ length wire → Step c mid (Deliver at now) entry new → IsDeliveryOf at now entry
+is_delivery : (c : Config) (at now : ℕ) (wire : List Item) (item : Item) (mid new : WorldState) (entry : Entry) → mid.wire ≡ wire ++ item ∷ [] → at ≡ length wire → Step c mid (Deliver at now) entry new → IsDeliveryOf at now entry
 is_delivery c at now wire item mid new Nothing grown at_end (past, same) = absurd (let h = length-append wire (item ∷ []) in let e = ap (λ (xs : List Item). length xs) grown in omega (arith, h, e, past, at_end))
 is_delivery c at now wire item mid new (Delivered index label moment answer) grown at_end (same, now_too, step) = (same, now_too)
 is_delivery c at now wire item mid new entry grown at_end never = absurd never
 
 -- an ask, and the delivery of its datagram
-pub asks_heard : (c : Config) (now at : ℕ) (entry : Entry) (old mid made new : Stand) (log grown grown' grown'' : List Entry) → GoesOn c (IsAsking now) old mid log grown → Step c mid (Ask now) (Asked at now) made →
+pub asks_heard : (c : Config) (now at : ℕ) (entry : Entry) (old mid made new : WorldState) (log grown grown' grown'' : List Entry) → GoesOn c (IsAsking now) old mid log grown → Step c mid (Ask now) (Asked at now) made →
     grown' ≡ grown ++ Asked at now ∷ [] → Step c made (Deliver at now) entry new → grown'' ≡ grown' ++ entry ∷ [] → GoesOn c (IsAsking now) old new log grown''
 asks_heard c now at entry old mid made new log grown grown' grown'' on step more step' more' =
     goes_on c (λ added. IsAsking now (entry ∷ added)) (IsAsking now) old made new log grown' grown'' (Deliver at now) entry half step' more' (λ added kind. kind)
@@ -73,11 +73,11 @@ asks_heard c now at entry old mid made new log grown grown' grown'' on step more
         (heard entry (is_delivery c at now mid.wire (Feedback asks.pairs, asks.datagram) made new entry asks.wire asks.index_is step'))
 
 -- nothing more is due
-pub asks_end : (c : Config) (now : ℕ) (old mid new : Stand) (log grown grown' : List Entry) → GoesOn c (IsAsking now) old mid log grown → Step c mid (Ask now) (NoAsk now) new → grown' ≡ grown ++ NoAsk now ∷ [] → GoesOn c (IsRepairing now) old new log grown'
+pub asks_end : (c : Config) (now : ℕ) (old mid new : WorldState) (log grown grown' : List Entry) → GoesOn c (IsAsking now) old mid log grown → Step c mid (Ask now) (NoAsk now) new → grown' ≡ grown ++ NoAsk now ∷ [] → GoesOn c (IsRepairing now) old new log grown'
 asks_end c now old mid new log grown grown' on step more = goes_on c (IsAsking now) (IsRepairing now) old mid new log grown grown' (Ask now) (NoAsk now) on step more (λ added kind. (refl, kind))
 
 -- a retransmission, and the delivery of its datagram
-pub repairs_heard : (c : Config) (now place at : ℕ) (entry : Entry) (old mid made new : Stand) (log grown grown' grown'' : List Entry) → GoesOn c (IsRepairing now) old mid log grown → Step c mid Retransmit (Repaired place at) made →
+pub repairs_heard : (c : Config) (now place at : ℕ) (entry : Entry) (old mid made new : WorldState) (log grown grown' grown'' : List Entry) → GoesOn c (IsRepairing now) old mid log grown → Step c mid Retransmit (Repaired place at) made →
     grown' ≡ grown ++ Repaired place at ∷ [] → Step c made (Deliver at now) entry new → grown'' ≡ grown' ++ entry ∷ [] → GoesOn c (IsRepairing now) old new log grown''
 repairs_heard c now place at entry old mid made new log grown grown' grown'' on step more step' more' =
     goes_on c (λ added. IsRepairing now (entry ∷ added)) (IsRepairing now) old made new log grown' grown'' (Deliver at now) entry half step' more' (λ added kind. kind)
@@ -91,24 +91,24 @@ repairs_heard c now place at entry old mid made new log grown grown' grown'' on 
         (heard entry (is_delivery c at now mid.wire (Repair place, step.datagram) made new entry step.wire step.index_is step'))
 
 -- nothing more is marked
-pub repairs_end : (c : Config) (now : ℕ) (old mid new : Stand) (log grown grown' : List Entry) → GoesOn c (IsRepairing now) old mid log grown → Step c mid Retransmit NoRepair new → grown' ≡ grown ++ NoRepair ∷ [] → GoesOn c (IsRound now) old new log grown'
+pub repairs_end : (c : Config) (now : ℕ) (old mid new : WorldState) (log grown grown' : List Entry) → GoesOn c (IsRepairing now) old mid log grown → Step c mid Retransmit NoRepair new → grown' ≡ grown ++ NoRepair ∷ [] → GoesOn c (IsRound now) old new log grown'
 repairs_end c now old mid new log grown grown' on step more = goes_on c (IsRepairing now) (IsRound now) old mid new log grown grown' Retransmit NoRepair on step more (λ added kind. kind)
 
 -- what was done when memory ran out
-pub asking_begun : (now : ℕ) (added : List Entry) → IsAsking now added → IsBegun now added
+pub asking_begun : (now : ℕ) (added : List Entry) → IsAsking now added → IsRoundBegun now added
 asking_begun now [] kind = tt
 asking_begun now (Delivered index label moment answer ∷ Asked at asked ∷ added) kind = kind
 asking_begun now (entry ∷ added) kind = absurd kind
 
-pub repairing_begun : (now : ℕ) (added : List Entry) → IsRepairing now added → IsBegun now added
+pub repairing_begun : (now : ℕ) (added : List Entry) → IsRepairing now added → IsRoundBegun now added
 repairing_begun now [] kind = absurd kind
 repairing_begun now (NoAsk asked ∷ added) kind = kind
 repairing_begun now (Delivered index label moment answer ∷ Repaired place at ∷ added) kind = kind
 repairing_begun now (entry ∷ added) kind = absurd kind
 
-module _ (any : AnyHearing) (laws : Laws) (c : Config) (met : IsConfig c) (events : List Event) (log : List Entry) (start : Stand) (answers : Answers c events (reverse log) start) where
+module _ (any : AnyHearing) (laws : Laws) (c : Config) (met : IsConfig c) (events : List Event) (log : List Entry) (start : WorldState) (answers : Answers c events (reverse log) start) where
   -- an ask and its delivery leave fewer places to be asked for
-  pub ask_falls : (now at : ℕ) (entry : Entry) (grown : List Entry) (mid made new : Stand) → GoesOn c (IsAsking now) start mid log grown → Step c mid (Ask now) (Asked at now) made → Step c made (Deliver at now) entry new →
+  pub ask_falls : (now at : ℕ) (entry : Entry) (grown : List Entry) (mid made new : WorldState) → GoesOn c (IsAsking now) start mid log grown → Step c mid (Ask now) (Asked at now) made → Step c made (Deliver at now) entry new →
       asks_left c now new.receiver < asks_left c now mid.receiver
   ask_falls now at entry grown mid made new on step step' = by entry (is_delivery c at now mid.wire (Feedback asks.pairs, asks.datagram) made new entry asks.wire asks.index_is step') step'
     where
@@ -128,11 +128,11 @@ module _ (any : AnyHearing) (laws : Laws) (c : Config) (met : IsConfig c) (event
       by (Delivered index label moment answer) h step' =
           let delivery = subst (λ n. DeliversAt c made index label n answer new) h.1 (delivered_step c made (Deliver at now) index label moment answer new step') in
           let item = delivered_last mid.wire made.wire (Feedback asks.pairs, asks.datagram) (label, delivery.datagram) at index asks.wire asks.index_is h.0 delivery.there in
-          subst (λ (r : Option Window). asks_left c now r < asks_left c now mid.receiver) (sym (same_receiver label index answer (ap (λ (x : Item). x.0) item) delivery)) fewer
+          subst (λ (r : Option ReceiverState). asks_left c now r < asks_left c now mid.receiver) (sym (same_receiver label index answer (ap (λ (x : Item). x.0) item) delivery)) fewer
       by e h step' = absurd h
 
   -- a retransmission and its delivery leave fewer marks
-  pub repair_falls : (now place at : ℕ) (entry : Entry) (grown : List Entry) (mid made new : Stand) → GoesOn c (IsRepairing now) start mid log grown → Step c mid Retransmit (Repaired place at) made → Step c made (Deliver at now) entry new →
+  pub repair_falls : (now place at : ℕ) (entry : Entry) (grown : List Entry) (mid made new : WorldState) → GoesOn c (IsRepairing now) start mid log grown → Step c mid Retransmit (Repaired place at) made → Step c made (Deliver at now) entry new →
       marks_left c new.sender < marks_left c mid.sender
   repair_falls now place at entry grown mid made new on step step' = by entry (is_delivery c at now mid.wire (Repair place, step.datagram) made new entry step.wire step.index_is step') step'
     where
@@ -153,7 +153,7 @@ module _ (any : AnyHearing) (laws : Laws) (c : Config) (met : IsConfig c) (event
       by (Delivered index label moment answer) h step' =
           let delivery = subst (λ n. DeliversAt c made index label n answer new) h.1 (delivered_step c made (Deliver at now) index label moment answer new step') in
           let item = delivered_last mid.wire made.wire (Repair place, step.datagram) (label, delivery.datagram) at index step.wire step.index_is h.0 delivery.there in
-          subst (λ (s : History). marks_left c s < marks_left c mid.sender) (sym (same_sender label index answer (ap (λ (x : Item). x.0) item) delivery)) fewer
+          subst (λ (s : SenderState). marks_left c s < marks_left c mid.sender) (sym (same_sender label index answer (ap (λ (x : Item). x.0) item) delivery)) fewer
       by e h step' = absurd h
 
 -- a log with one entry more

@@ -1,10 +1,10 @@
 -- The law of a round, put together.
 use Rattle.std.proofs.Common.{ℕ, ◌+◌, List, ◌++◌, Option, Some, ap, refl, subst, ◌∙◌, inl, inr}
-use Rattle.receiver.specs.Window.{Window}
+use Rattle.receiver.specs.Window.{ReceiverState}
 use Rattle.world.specs.declared.event.Event.{Event}
 use Rattle.world.specs.declared.event.Entry.{Entry}
 use Rattle.world.specs.Config.{Config, IsConfig}
-use Rattle.world.specs.Answers.{Stand, Answers}
+use Rattle.world.specs.Answers.{WorldState, Answers}
 use Rattle.world.specs.Reach.{highest_taken, shift_of}
 use Rattle.world.specs.Close.{IsClose, IsHonest}
 use Rattle.world.specs.PlaceRun.{places_of}
@@ -19,13 +19,13 @@ use Rattle.world.proofs.Spans.{Spans, SpansAny, spans_all}
 use Rattle.world.proofs.Ready.{Ready, due_missing}
 use Rattle.world.proofs.Mends.{round_done}
 
-module _ (any : AnyHearing) (laws : Laws) (c : Config) (met : IsConfig c) (before : List Event) (past : List Entry) (old : Stand) (answers : Answers c before past old)
+module _ (any : AnyHearing) (laws : Laws) (c : Config) (met : IsConfig c) (before : List Event) (past : List Entry) (old : WorldState) (answers : Answers c before past old)
     (close : IsClose past) (honest : IsHonest past) (marks : IsMarkedUpTo (highest_taken past) old.sender) (place now : ℕ) (m : IsMendable c (shift_of past) old place now) where
   kept_by : KeptBy c past m.window
-  kept_by = subst (λ (r : Option Window). Keeps c past r) m.started (goes c past (places_of old) (simulates laws c met before past old answers close honest)).0
+  kept_by = subst (λ (r : Option ReceiverState). Keeps c past r) m.started (goes c past (places_of old) (simulates laws c met before past old answers close honest)).0
 
   spans_by : Spans c.window m.window
-  spans_by = subst (λ (r : Option Window). SpansAny c.window r) m.started (spans_all any c met.some_window before past old answers)
+  spans_by = subst (λ (r : Option ReceiverState). SpansAny c.window r) m.started (spans_all any c met.some_window before past old answers)
 
   ready : Ready c (shift_of past) place m.own (m.window.highest + shift_of past) m.window old.sender
   ready =
@@ -47,7 +47,7 @@ module _ (any : AnyHearing) (laws : Laws) (c : Config) (met : IsConfig c) (befor
         marks = λ k e is marked. let h : IsUpTo (Some (m.window.highest + shift_of past)) k = subst (λ (o : Option ℕ). IsUpTo o k) kept_by.highest (marks k e is marked) in h;
       }
 
-  pub mends : (events : List Event) (added : List Entry) (new : Stand) → IsRound now added → Adds c old events added new → IsMended (shift_of (added ++ past)) new place × IsClose (added ++ past)
+  pub mends : (events : List Event) (added : List Entry) (new : WorldState) → IsRound now added → Adds c old events added new → IsMended (shift_of (added ++ past)) new place × IsClose (added ++ past)
   mends events added new round adds =
       let done =
       round_done laws c met now (shift_of past) place m.own (m.window.highest + shift_of past) before past old answers honest (kept_by.highest, refl, close)

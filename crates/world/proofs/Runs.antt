@@ -4,18 +4,18 @@ use Rattle.std.proofs.lemmas.List.{take_more, reverse-append}
 use Rattle.world.specs.declared.event.Event.{Event}
 use Rattle.world.specs.declared.event.Entry.{Entry}
 use Rattle.world.specs.Config.{Config}
-use Rattle.world.specs.Answers.{Stand, Step, Answers}
-use Rattle.world.specs.Close.{Tells}
+use Rattle.world.specs.Answers.{WorldState, Step, Answers}
+use Rattle.world.specs.Close.{TellsCloseness}
 use Rattle.world.specs.World.{IsLogged}
 
 -- one more event, as code appends it
-pub answers_more : (c : Config) (events : List Event) (log : List Entry) (old new : Stand) (event : Event) (entry : Entry) →
+pub answers_more : (c : Config) (events : List Event) (log : List Entry) (old new : WorldState) (event : Event) (entry : Entry) →
     Answers c (reverse events) (reverse log) old → Step c old event entry new → Answers c (reverse (events ++ event ∷ [])) (reverse (log ++ entry ∷ [])) new
 answers_more c events log old new event entry before step =
     subst (λ (x : List Event). Answers c x (reverse (log ++ entry ∷ [])) new) (sym (reverse-append events (event ∷ [])))
     (subst (λ (x : List Entry). Answers c (event ∷ reverse events) x new) (sym (reverse-append log (entry ∷ []))) (old, before, step))
 
-pub run_more : (c : Config) (events : List Event) (i : ℕ) (d : Event) (log log' : List Entry) (entry : Entry) (old new : Stand) → i < length events → log' ≡ log ++ entry ∷ [] →
+pub run_more : (c : Config) (events : List Event) (i : ℕ) (d : Event) (log log' : List Entry) (entry : Entry) (old new : WorldState) → i < length events → log' ≡ log ++ entry ∷ [] →
     Answers c (reverse (take i events)) (reverse log) old → Step c old (get_or events i d) entry new → Answers c (reverse (take (i + 1) events)) (reverse log') new
 run_more c events i d log log' entry old new within is before step =
     subst (λ (x : List Event). Answers c (reverse x) (reverse log') new) (sym (take_more events i d within))
@@ -27,7 +27,7 @@ pub pushed : (log reserved log' : List Entry) (entry copy : Entry) → log' ≡ 
 pushed log reserved log' entry copy push same copied = push ∙ ap (λ (x : List Entry). x ++ copy ∷ []) same ∙ ap (λ (x : Entry). log ++ x ∷ []) copied
 
 -- a log that answers some events goes on to do so
-pub logged_more : (c : Config) (log log' : List Entry) (entry : Entry) (event : Event) (old new : Stand) →
+pub logged_more : (c : Config) (log log' : List Entry) (entry : Entry) (event : Event) (old new : WorldState) →
     IsLogged c log old → log' ≡ log ++ entry ∷ [] → Step c old event entry new → IsLogged c log' new
 logged_more c log log' entry event old new was is step =
     record {
@@ -36,6 +36,6 @@ logged_more c log log' entry event old new was is step =
     }
 
 -- what is kept of a log goes on to tell of it
-pub tells_more : (highest : Option ℕ) (holds : Bool) (log log' : List Entry) (entry : Entry) → log' ≡ log ++ entry ∷ [] → Tells highest holds (entry ∷ reverse log) → Tells highest holds (reverse log')
+pub tells_more : (highest : Option ℕ) (holds : Bool) (log log' : List Entry) (entry : Entry) → log' ≡ log ++ entry ∷ [] → TellsCloseness highest holds (entry ∷ reverse log) → TellsCloseness highest holds (reverse log')
 tells_more highest holds log log' entry is tells =
-    subst (λ (past : List Entry). Tells highest holds past) (sym (ap reverse is ∙ reverse-append log (entry ∷ []))) tells
+    subst (λ (past : List Entry). TellsCloseness highest holds past) (sym (ap reverse is ∙ reverse-append log (entry ∷ []))) tells

@@ -8,12 +8,12 @@ use Rattle.fbwire.specs.declared.nack.Pair.{Pair}
 use Rattle.fbwire.specs.Nack.{Nack, Names}
 use Rattle.stores.specs.declared.entry.HistoryEntry.{HistoryEntry}
 use Rattle.stores.specs.Past.{repeated}
-use Rattle.sender.specs.History.{History, Sends, Marks, Repairs}
+use Rattle.sender.specs.History.{SenderState, Sends, Marks, Repairs}
 use Rattle.receiver.specs.declared.answer.Taken.{Taken as Took}
 use Rattle.receiver.specs.declared.answer.Played.{Played as Play_answer}
 use Rattle.receiver.specs.declared.fault.ReceiveFault.{ReceiveFault}
 use Rattle.receiver.specs.declared.stream.Stream.{Stream}
-use Rattle.receiver.specs.Window.{Window, PlaysAny}
+use Rattle.receiver.specs.Window.{ReceiverState, PlaysAny}
 use Rattle.receiver.specs.Heard.{AnswersIn}
 use Rattle.world.specs.declared.event.Label.{Label}
 use Rattle.world.specs.declared.event.Label.TheVariants.{Media, Repair, Feedback}
@@ -34,17 +34,17 @@ use Rattle.world.proofs.SameWindows.{OnePacking, one_start_in, one_in, one_ask}
 pub record Laws : Type 0 where
   pub decided : Decided
   pub one_packing : OnePacking
-  pub one_play : (patience now : ℕ) (old : Option Window) (r s : Play_answer) (v w : Option Window) → PlaysAny patience old now r v → PlaysAny patience old now s w → (r ≡ s) × (v ≡ w)
+  pub one_play : (patience now : ℕ) (old : Option ReceiverState) (r s : Play_answer) (v w : Option ReceiverState) → PlaysAny patience old now r v → PlaysAny patience old now s w → (r ≡ s) × (v ≡ w)
 
 same_places : (v w : PlaceWorld) → v.sender ≡ w.sender → v.labels ≡ w.labels → v.receiver ≡ w.receiver → v ≡ w
 same_places v w sender labels receiver = λ i. record { sender = sender i; labels = labels i; receiver = receiver i }
 
 -- the sender
 
-same_history : (v w : History) → v.next ≡ w.next → v.repair ≡ w.repair → ((q : ℕ) → v.entries q ≡ w.entries q) → v ≡ w
+same_history : (v w : SenderState) → v.next ≡ w.next → v.repair ≡ w.repair → ((q : ℕ) → v.entries q ≡ w.entries q) → v ≡ w
 same_history v w next repair entries = λ i. record { next = next i; repair = repair i; entries = λ q. entries q i }
 
-one_send : (room : ℕ) (old : History) (content : Content) (v w : History) → Sends room old content v → Sends room old content w → v ≡ w
+one_send : (room : ℕ) (old : SenderState) (content : Content) (v w : SenderState) → Sends room old content v → Sends room old content w → v ≡ w
 one_send room old content v w a b =
     same_history v w (a.next ∙ sym b.next) (a.repair ∙ sym b.repair) (λ q. elim (cases_eq q old.next) [
       | inl e ↦ ap v.entries e ∙ a.sent ∙ sym b.sent ∙ sym (ap w.entries e)
@@ -54,7 +54,7 @@ one_send room old content v w a b =
       ]
     ])
 
-one_repair : (old : History) (place : ℕ) (e f : HistoryEntry) (v w : History) → Repairs old place e v → Repairs old place f w → v ≡ w
+one_repair : (old : SenderState) (place : ℕ) (e f : HistoryEntry) (v w : SenderState) → Repairs old place e v → Repairs old place f w → v ≡ w
 one_repair old place e f v w a b =
     let entry : e ≡ f = same_Some e f (sym a.was ∙ b.was) in
     same_history v w (a.next ∙ sym b.next) (a.repair ∙ sym b.repair) (λ k. elim (cases_eq k place) [
@@ -62,7 +62,7 @@ one_repair old place e f v w a b =
       | inr other ↦ a.others k other ∙ sym (b.others k other)
     ])
 
-one_marking : (repeats : ℕ) (named : ℕ → Type 0) → ((n : ℕ) → named n ⊎ (named n → ⊥)) → (old v w : History) (i j : ℕ) → Marks repeats named old i v → Marks repeats named old j w → v ≡ w
+one_marking : (repeats : ℕ) (named : ℕ → Type 0) → ((n : ℕ) → named n ⊎ (named n → ⊥)) → (old v w : SenderState) (i j : ℕ) → Marks repeats named old i v → Marks repeats named old j w → v ≡ w
 one_marking repeats named decided old v w i j a b =
     same_history v w (a.next ∙ sym b.next) (a.repair ∙ sym b.repair) (λ q. elim (decided (number q)) [
       | inl is ↦ elim (can_be_marked repeats (old.entries q)) [
@@ -88,8 +88,8 @@ heard_told default (Err fault) = refl
 one_heard : (answer : Answer) (r s : Result Took ReceiveFault) → answer ≡ told r → answer ≡ told s → r ≡ s
 one_heard answer r s a b = sym (heard_told r r) ∙ ap (heard_in r) (sym a ∙ b) ∙ heard_told r s
 
-module _ (c : Config) (shift : ℕ) (stream : Stream) (place : ℕ) (content : Content) (now : ℕ) (r : Result Took ReceiveFault) (v w : Option Window) where
-  one_label : (old : Window) → AnswersLabel c shift stream old place content now r v → AnswersLabel c shift stream old place content now r w → v ≡ w
+module _ (c : Config) (shift : ℕ) (stream : Stream) (place : ℕ) (content : Content) (now : ℕ) (r : Result Took ReceiveFault) (v w : Option ReceiverState) where
+  one_label : (old : ReceiverState) → AnswersLabel c shift stream old place content now r v → AnswersLabel c shift stream old place content now r w → v ≡ w
   one_label old (inl (far, is, same)) (inl (far', is', same')) = same ∙ sym same'
   one_label old (inl (far, is, same)) (inr (own, at, near, answers)) = absurd (far near)
   one_label old (inr (own, at, near, answers)) (inl (far, is, same)) = absurd (far near)
@@ -97,7 +97,7 @@ module _ (c : Config) (shift : ℕ) (stream : Stream) (place : ℕ) (content : C
       let same : q ≡ p = omega (arith, at, at') in
       one_in c.window stream old p content now r v w a (subst (λ n. AnswersIn c.window stream old n content now r w) same b)
 
-  one_received : (old : Option Window) → ReceivesLabel c shift stream old place content now r v → ReceivesLabel c shift stream old place content now r w → v ≡ w
+  one_received : (old : Option ReceiverState) → ReceivesLabel c shift stream old place content now r v → ReceivesLabel c shift stream old place content now r w → v ≡ w
   one_received None a b = one_start_in stream (number place) content r v w a b
   one_received (Some old) a b = one_label old a b
 

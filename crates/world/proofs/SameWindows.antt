@@ -12,7 +12,7 @@ use Rattle.receiver.specs.declared.fault.ReceiveFault.{ReceiveFault}
 use Rattle.receiver.specs.declared.fault.ReceiveFault.TheVariants as refused
 use Rattle.receiver.specs.declared.stream.Stream.{Stream}
 use Rattle.receiver.specs.declared.stream.Stream.TheVariants.{Media, Repair, Candidate}
-use Rattle.receiver.specs.Window.{Window, Starts, Takes, AnswersPlace, StartsAt}
+use Rattle.receiver.specs.Window.{ReceiverState, Starts, Takes, AnswersPlace, StartsAt}
 use Rattle.receiver.specs.Heard.{AnswersCandidate, AnswersIn, StartsIn}
 use Rattle.receiver.specs.Asks.{is_due, Asks, AsksBy}
 use Rattle.receiver.specs.Config.{Config}
@@ -20,7 +20,7 @@ use Rattle.world.specs.PlaceRun.{AsksAnyBy}
 use Rattle.world.proofs.OneListing.{rising_take, one_list}
 
 -- windows that agree at every place are one
-same_window : (v w : Window) → v.cursor ≡ w.cursor → v.highest ≡ w.highest → ((k : ℕ) → v.held k ≡ w.held k) → ((k : ℕ) → v.missing k ≡ w.missing k) → v.learnt ≡ w.learnt → v ≡ w
+same_window : (v w : ReceiverState) → v.cursor ≡ w.cursor → v.highest ≡ w.highest → ((k : ℕ) → v.held k ≡ w.held k) → ((k : ℕ) → v.missing k ≡ w.missing k) → v.learnt ≡ w.learnt → v ≡ w
 same_window v w cursor highest held missing learnt =
     λ i. record { cursor = cursor i; highest = highest i; held = λ k. held k i; missing = λ k. missing k i; learnt = learnt i }
 
@@ -29,13 +29,13 @@ at_each : {A : Type 0} (f g : ℕ → A) (p : ℕ) → f p ≡ g p → ((k : ℕ
 at_each f g p here elsewhere k =
     elim (cases_eq k p) [ inl same ↦ subst (λ n. f n ≡ g n) (sym same) here | inr other ↦ elsewhere k other ]
 
-one_start : (place : ℕ) (content : Content) (v w : Window) → Starts place content v → Starts place content w → v ≡ w
+one_start : (place : ℕ) (content : Content) (v w : ReceiverState) → Starts place content v → Starts place content w → v ≡ w
 one_start place content v w a b =
     same_window v w (a.cursor ∙ sym b.cursor) (a.highest ∙ sym b.highest)
     (at_each v.held w.held place (a.held ∙ sym b.held) (λ k other. a.held_else k other ∙ sym (b.held_else k other)))
     (λ k. a.missing k ∙ sym (b.missing k)) (a.learnt ∙ sym b.learnt)
 
-module _ (room : ℕ) (old : Window) (place : ℕ) (content : Content) (now : ℕ) (v w : Window) (a : Takes room old place content now v) (b : Takes room old place content now w) where
+module _ (room : ℕ) (old : ReceiverState) (place : ℕ) (content : Content) (now : ℕ) (v w : ReceiverState) (a : Takes room old place content now v) (b : Takes room old place content now w) where
   cursors : v.cursor ≡ w.cursor
   cursors = a.cursor ∙ sym b.cursor
 
@@ -81,21 +81,21 @@ module _ (room : ℕ) (old : Window) (place : ℕ) (content : Content) (now : �
       (a.learnt ∙ sym b.learnt)
 
 -- a window that is some one
-one_such : (P : Window → Type 0) → ((v w : Window) → P v → P w → v ≡ w) → (v w : Option Window) → IsSomeAnd v P → IsSomeAnd w P → v ≡ w
+one_such : (P : ReceiverState → Type 0) → ((v w : ReceiverState) → P v → P w → v ≡ w) → (v w : Option ReceiverState) → IsSomeAnd v P → IsSomeAnd w P → v ≡ w
 one_such P one None w none b = absurd none
 one_such P one (Some v) None a none = absurd none
-one_such P one (Some v) (Some w) a b = ap (λ (x : Window). Some x) (one v w a b)
+one_such P one (Some v) (Some w) a b = ap (λ (x : ReceiverState). Some x) (one v w a b)
 
-one_start_at : (place : ℕ) (content : Content) (r : Result Taken ReceiveFault) (v w : Option Window) → StartsAt place content r v → StartsAt place content r w → v ≡ w
+one_start_at : (place : ℕ) (content : Content) (r : Result Taken ReceiveFault) (v w : Option ReceiverState) → StartsAt place content r v → StartsAt place content r w → v ≡ w
 one_start_at place content (Err fault) v w never b = absurd never
 one_start_at place content (Ok t) v w (at, over, start) (at', over', start') = one_such (Starts place content) (one_start place content) v w start start'
 
-pub one_start_in : (stream : Stream) (seq : ℕ) (content : Content) (r : Result Taken ReceiveFault) (v w : Option Window) → StartsIn stream seq content r v → StartsIn stream seq content r w → v ≡ w
+pub one_start_in : (stream : Stream) (seq : ℕ) (content : Content) (r : Result Taken ReceiveFault) (v w : Option ReceiverState) → StartsIn stream seq content r v → StartsIn stream seq content r w → v ≡ w
 one_start_in Media seq content r v w a b = one_start_at (65536 + seq) content r v w a b
 one_start_in Repair seq content r v w (not, is) (not', is') = is ∙ sym is'
 one_start_in (Candidate ssrc) seq content r v w (not, is) (not', is') = is ∙ sym is'
 
-one_answer : (room : ℕ) (old : Window) (place : ℕ) (content : Content) (now : ℕ) (r : Result Taken ReceiveFault) (v w : Option Window) →
+one_answer : (room : ℕ) (old : ReceiverState) (place : ℕ) (content : Content) (now : ℕ) (r : Result Taken ReceiveFault) (v w : Option ReceiverState) →
     AnswersPlace room old place content now r v → AnswersPlace room old place content now r w → v ≡ w
 one_answer room old place content now (Ok t) v w (at, above, free, over, takes) (at', above', free', over', takes') =
     one_such (Takes room old place content now) (λ x y. one_take room old place content now x y) v w takes takes'
@@ -103,13 +103,13 @@ one_answer room old place content now (Err (refused.Put Late)) v w (under, is) (
 one_answer room old place content now (Err (refused.Put Duplicate)) v w (above, held, is) (above', held', is') = is ∙ sym is'
 one_answer room old place content now (Err fault) v w never b = absurd never
 
-one_candidate : (ssrc room : ℕ) (old : Window) (place : ℕ) (content : Content) (now : ℕ) (r : Result Taken ReceiveFault) (v w : Option Window) →
+one_candidate : (ssrc room : ℕ) (old : ReceiverState) (place : ℕ) (content : Content) (now : ℕ) (r : Result Taken ReceiveFault) (v w : Option ReceiverState) →
     AnswersCandidate ssrc room old place content now r v → AnswersCandidate ssrc room old place content now r w → v ≡ w
 one_candidate ssrc room old place content now (Ok t) v w (asked, a) (asked', b) = one_answer room (record old { learnt = Some ssrc }) place content now (Ok t) v w a b
 one_candidate ssrc room old place content now (Err refused.Unasked) v w (unasked, is) (unasked', is') = is ∙ sym is'
 one_candidate ssrc room old place content now (Err fault) v w never b = absurd never
 
-pub one_in : (room : ℕ) (stream : Stream) (old : Window) (place : ℕ) (content : Content) (now : ℕ) (r : Result Taken ReceiveFault) (v w : Option Window) →
+pub one_in : (room : ℕ) (stream : Stream) (old : ReceiverState) (place : ℕ) (content : Content) (now : ℕ) (r : Result Taken ReceiveFault) (v w : Option ReceiverState) →
     AnswersIn room stream old place content now r v → AnswersIn room stream old place content now r w → v ≡ w
 one_in room Media old place content now r v w a b = one_answer room old place content now r v w a b
 one_in room Repair old place content now r v w a b = one_answer room old place content now r v w a b
@@ -121,12 +121,12 @@ one_in room (Candidate ssrc) old place content now r v w a b = one_candidate ssr
 abbrev pub OnePacking : Type 0
 OnePacking = (places : List ℕ) (a b : List Pair) (m n : ℕ) → IsStrictlyIncreasing places → IsNarrow places → IsPacking places a m → IsPacking places b n → (a ≡ b) × (m ≡ n)
 
-one_asks : (old : Window) (covered : List ℕ) (now : ℕ) (v w : Window) → Asks old covered now v → Asks old covered now w → v ≡ w
+one_asks : (old : ReceiverState) (covered : List ℕ) (now : ℕ) (v w : ReceiverState) → Asks old covered now v → Asks old covered now w → v ≡ w
 one_asks old covered now v w a b =
     same_window v w (a.cursor ∙ sym b.cursor) (a.highest ∙ sym b.highest) (λ k. a.held k ∙ sym (b.held k)) (λ k. a.missing k ∙ sym (b.missing k)) (a.learnt ∙ sym b.learnt)
 
-module _ (one_packing : OnePacking) (now : ℕ) (m n : List Pair) (v w : Option Window) where
-  one_ask_by : (old : Window) (due : List ℕ) → IsStrictlyIncreasing due → AsksBy old due now m v → AsksBy old due now n w → (m ≡ n) × (v ≡ w)
+module _ (one_packing : OnePacking) (now : ℕ) (m n : List Pair) (v w : Option ReceiverState) where
+  one_ask_by : (old : ReceiverState) (due : List ℕ) → IsStrictlyIncreasing due → AsksBy old due now m v → AsksBy old due now n w → (m ≡ n) × (v ≡ w)
   one_ask_by old due rising a b =
       let packing = one_packing (take 1088 due) m n a.count b.count (rising_take 1088 due rising) a.narrow a.packing b.packing in (
         packing.0,
@@ -134,7 +134,7 @@ module _ (one_packing : OnePacking) (now : ℕ) (m n : List Pair) (v w : Option 
             (subst (λ k. IsSomeAnd w (Asks old (take k (take 1088 due)) now)) (sym packing.1) b.asks),
       )
 
-  pub one_ask : (c : Config) (old : Option Window) → AsksAnyBy c old now m v → AsksAnyBy c old now n w → (m ≡ n) × (v ≡ w)
+  pub one_ask : (c : Config) (old : Option ReceiverState) → AsksAnyBy c old now m v → AsksAnyBy c old now n w → (m ≡ n) × (v ≡ w)
   one_ask c None never b = absurd never
   one_ask c (Some old) a b =
       one_ask_by old a.due a.each.rises a.asked

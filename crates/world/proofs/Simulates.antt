@@ -19,12 +19,12 @@ use Rattle.sender.specs.Config.{Config as SenderConfig}
 use Rattle.sender.specs.Feedback.{HearsFeedback, MarksAlone, MarksOrRefuses}
 use Rattle.sender.specs.declared.fault.SendFault.{SendFault}
 use Rattle.sender.specs.declared.fault.SendFault.TheVariants.{PaddedEmpty, Exhausted}
-use Rattle.sender.specs.History.{History, Sends}
+use Rattle.sender.specs.History.{SenderState, Sends}
 use Rattle.sender.specs.Sending.{SendsAny}
 use Rattle.receiver.specs.declared.answer.Taken.{Taken as Took}
 use Rattle.receiver.specs.declared.fault.ReceiveFault.{ReceiveFault}
 use Rattle.receiver.specs.Config.{Config as Receiving}
-use Rattle.receiver.specs.Window.{Window, PlaysAny}
+use Rattle.receiver.specs.Window.{ReceiverState, PlaysAny}
 use Rattle.receiver.specs.declared.stream.Stream.{Stream}
 use Rattle.receiver.specs.declared.stream.Stream.TheVariants as streams
 use Rattle.receiver.specs.Streams.{learnt_by, source_of, stream_of}
@@ -41,7 +41,7 @@ use Rattle.world.specs.declared.event.Entry.{Entry}
 use Rattle.world.specs.declared.event.Entry.TheVariants.{Sent, SendRefused, Repaired, NoRepair, Asked, NoAsk, Nothing, Delivered, Injected, Played}
 use Rattle.world.specs.Config.{Config, IsConfig, sending}
 use Rattle.world.specs.Labels.{place_of}
-use Rattle.world.specs.Answers.{Item, Stand, told_marks, nack_of, SenderHears, HearsAt, AsksTo, DeliversAt, Answers}
+use Rattle.world.specs.Answers.{Item, WorldState, told_marks, nack_of, SenderHears, HearsAt, AsksTo, DeliversAt, Answers}
 use Rattle.world.specs.Reach.{highest_taken, shift_of}
 use Rattle.world.specs.Close.{close_distance, IsCloseTo, IsClose, IsHonest}
 use Rattle.world.specs.PlaceRun.{PlaceWorld, repair_in, AnswersLabel, ReceivesLabel, HearsFeedbackOf, HearsLabel, RefusesSend, AsksAnyBy, NoneDue, MarksAnything, PlaceRun, label_of, places_of}
@@ -53,7 +53,7 @@ use Rattle.world.proofs.Kept.{KeptBy, Keeps}
 use Rattle.world.proofs.Right.{goes}
 
 -- what a started receiver answers to a sequence number is what it answers to the place
-near_label : (c : Config) (past : List Entry) (stream : Stream) (w : Window) (new : Option Window) (p : ℕ) (content : Content) (now : ℕ) (heard : Result Took ReceiveFault) →
+near_label : (c : Config) (past : List Entry) (stream : Stream) (w : ReceiverState) (new : Option ReceiverState) (p : ℕ) (content : Content) (now : ℕ) (heard : Result Took ReceiveFault) →
     p < 2 ^ 48 → KeptBy c past w → IsCloseTo (highest_taken past) (Some p) → AnswersNumber c.window stream w (number p) content now heard new → AnswersLabel c (shift_of past) stream w p content now heard new
 near_label c past stream w new p content now heard small kept close step = found (subst (λ o. IsCloseTo o (Some p)) kept.highest close) step
   where
@@ -64,7 +64,7 @@ near_label c past stream w new p content now heard small kept close step = found
         inr (q, near_own w.highest (shift_of past) kept.cycles p kept.whole near q is_near, near_within w.highest (shift_of past) kept.cycles p kept.whole near q is_near, answers)
 
 -- the number of a sent packet reaches the receiver
-numbered : (c : Config) (past : List Entry) (stream : Stream) (old new : Option Window) (p : ℕ) (content : Content) (now : ℕ) (heard : Result Took ReceiveFault) →
+numbered : (c : Config) (past : List Entry) (stream : Stream) (old new : Option ReceiverState) (p : ℕ) (content : Content) (now : ℕ) (heard : Result Took ReceiveFault) →
     p < 2 ^ 48 → Keeps c past old → IsCloseTo (highest_taken past) (Some p) → TakesNumber c.window stream old (number p) content now heard new → ReceivesLabel c (shift_of past) stream old p content now heard new
 numbered c past stream None new p content now heard small fresh close step = step
 numbered c past stream (Some w) new p content now heard small kept close step = near_label c past stream w new p content now heard small kept close step
@@ -75,7 +75,7 @@ labels_more wire new x is = ap (map label_of) is ∙ map-append label_of wire (x
 label_at : (wire : List Item) (i : ℕ) (item : Item) → slice_get wire i ≡ Some item → slice_get (map label_of wire) i ≡ Some item.0
 label_at wire i item there = slice_get-map label_of wire i ∙ ap (option_map label_of) there
 
-refuses : (c : Config) (old : History) (content : Content) (padding : ℕ) (fault : SendFault) (new : History) → SendsAny c.receiver.session c.history old content padding (Err fault) new → RefusesSend old.next fault
+refuses : (c : Config) (old : SenderState) (content : Content) (padding : ℕ) (fault : SendFault) (new : SenderState) → SendsAny c.receiver.session c.history old content padding (Err fault) new → RefusesSend old.next fault
 refuses c old content padding PaddedEmpty new why = tt
 refuses c old content padding Exhausted new why = why.1
 
@@ -83,20 +83,20 @@ refuses c old content padding Exhausted new why = why.1
 -- by their laws
 abbrev pub MediaHearing : Type 0
 MediaHearing =
-    (room : ℕ) (c : Receiving) (old : Option Window) (octets : List ℕ) (now : ℕ) (answer : Result Took ReceiveFault) (new : Option Window) (content : Content) (padding seq : ℕ) →
+    (room : ℕ) (c : Receiving) (old : Option ReceiverState) (octets : List ℕ) (now : ℕ) (answer : Result Took ReceiveFault) (new : Option ReceiverState) (content : Content) (padding seq : ℕ) →
     RtpSpells (packet_of content padding seq c.session.media_type c.session.media_ssrc) octets → (IsTooLong (packet_of content padding seq c.session.media_type c.session.media_ssrc) → ⊥) →
     Hears room c old octets now answer new → TakesNumber room streams.Media old seq content now answer new
 
 abbrev pub RepairHearing : Type 0
 RepairHearing =
-    (room : ℕ) (c : Receiving) (old : Option Window) (octets : List ℕ) (now : ℕ) (answer : Result Took ReceiveFault) (new : Option Window) (content : Content) (original sequence payload_type ssrc : ℕ) (stream : Stream) →
+    (room : ℕ) (c : Receiving) (old : Option ReceiverState) (octets : List ℕ) (now : ℕ) (answer : Result Took ReceiveFault) (new : Option ReceiverState) (content : Content) (original sequence payload_type ssrc : ℕ) (stream : Stream) →
     RepairSpells content original sequence payload_type ssrc octets → (IsTooLong (packet_of content 0 sequence payload_type ssrc) → ⊥) →
     stream_of c.session (source_of c old) (repair_packet (repair_of content original sequence payload_type ssrc)) ≡ Ok stream → (stream ≡ streams.Media → ⊥) →
     Hears room c old octets now answer new → TakesNumber room stream old original content now answer new
 
 abbrev pub NackHearing : Type 0
 NackHearing =
-    (c : SenderConfig) (old : History) (octets : List ℕ) (answer : Result Marking FeedbackFault) (new : History) (nack : Nack) →
+    (c : SenderConfig) (old : SenderState) (octets : List ℕ) (answer : Result Marking FeedbackFault) (new : SenderState) (nack : Nack) →
     NackSpells nack octets → nack.media ≡ c.session.media_ssrc → nack.reporter ≡ c.session.receiver_ssrc → HearsFeedback c old octets answer new → MarksAlone c old nack answer new
 
 pub record Laws : Type 0 where
@@ -128,14 +128,14 @@ marked_as c old new pairs (Ok marking) marks is = (marks, is)
 marked_as c old new pairs (Err fault) never is = absurd never
 
 -- an ask by the pairs of its label
-pub asked_by : OneNack → (c : Config) (now index : ℕ) (old new : Stand) (step : AsksTo c old now index new) (r : Option Window) → AsksAny c.receiver r now (Some step.datagram) new.receiver → AsksAnyBy c.receiver r now step.pairs.items new.receiver
+pub asked_by : OneNack → (c : Config) (now index : ℕ) (old new : WorldState) (step : AsksTo c old now index new) (r : Option ReceiverState) → AsksAny c.receiver r now (Some step.datagram) new.receiver → AsksAnyBy c.receiver r now step.pairs.items new.receiver
 asked_by one c now index old new step None (none, is) = absurd cc
 asked_by one c now index old new step (Some w) asks =
     let answer = asks.answers.1 in
     let same : answer.pairs ≡ step.pairs.items = ap (λ (n : Nack). n.pairs) (one step.datagram.items (nack_of c.receiver.session answer.pairs) (nack_of c.receiver.session step.pairs.items) answer.spells step.spells) in
     record { due = asks.due; each = asks.each; some = asks.answers.0; asked = subst (λ (pairs : List Pair). AsksBy w asks.due now pairs new.receiver) same answer.asked }
 
-pub none_due : (c : Receiving) (now : ℕ) (r new : Option Window) → AsksAny c r now None new → NoneDue c r now
+pub none_due : (c : Receiving) (now : ℕ) (r new : Option ReceiverState) → AsksAny c r now None new → NoneDue c r now
 none_due c now None new step = tt
 none_due c now (Some w) new asks = λ k. sym (asks.each.each k) ∙ ap (λ (due : List ℕ). is_among due k) asks.answers.0
 
@@ -146,7 +146,7 @@ injected_as c old new (Err fault) same is = (same, is)
 
 module _ (laws : Laws) where
   -- a datagram reaches its end as its label does
-  pub heard_as : (c : Config) → IsConfig c → (past : List Entry) (old new : Stand) (index : ℕ) (label : Label) (now : ℕ) (answer : Answer) →
+  pub heard_as : (c : Config) → IsConfig c → (past : List Entry) (old new : WorldState) (index : ℕ) (label : Label) (now : ℕ) (answer : Answer) →
       Keeps c past old.receiver → LearntIs c old.receiver → IsCloseTo (highest_taken past) (place_of label) → Wired c past old → DeliversAt c old index label now answer new → HearsLabel c past (places_of old) label now answer (places_of new)
   heard_as c met past old new index (Media p) now answer keeps own close is delivers =
       let spells = spelled c past old.wire index (Media p, delivers.datagram) is.faithful delivers.there in
@@ -185,7 +185,7 @@ module _ (laws : Laws) where
       let marks = laws.nack (sending c) old.sender delivers.datagram.items delivers.hears.heard new.sender (nack_of c.receiver.session pairs.items) spells refl refl delivers.hears.hears in
       subst (λ (a : Answer). HearsFeedbackOf c (places_of old) (Feedback pairs) a (places_of new)) (sym delivers.hears.tells) (marked_as c (places_of old) (places_of new) pairs delivers.hears.heard marks delivers.hears.receiver)
 
-  pub simulates : (c : Config) → IsConfig c → (events : List Event) (past : List Entry) (end : Stand) → Answers c events past end → IsClose past → IsHonest past → PlaceRun c past (places_of end)
+  pub simulates : (c : Config) → IsConfig c → (events : List Event) (past : List Entry) (end : WorldState) → Answers c events past end → IsClose past → IsHonest past → PlaceRun c past (places_of end)
   simulates c met [] [] end is close honest = ap places_of is
   simulates c met [] (entry ∷ past) end never close honest = absurd never
   simulates c met (event ∷ events) [] end never close honest = absurd never

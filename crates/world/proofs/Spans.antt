@@ -12,7 +12,7 @@ use Rattle.receiver.specs.declared.answer.Played.TheVariants.{Packet, Gap, Wait}
 use Rattle.receiver.specs.declared.fault.ReceiveFault.{ReceiveFault}
 use Rattle.receiver.specs.declared.stream.Stream.{Stream}
 use Rattle.receiver.specs.declared.stream.Stream.TheVariants.{Media, Repair, Candidate}
-use Rattle.receiver.specs.Window.{Missed, Window, Starts, Takes, Passes, AnswersPlace, StartsAt, PlaysAny}
+use Rattle.receiver.specs.Window.{Missed, ReceiverState, Starts, Takes, Passes, AnswersPlace, StartsAt, PlaysAny}
 use Rattle.receiver.specs.Heard.{AnswersIn, TakesNumber, TakesOrRefuses}
 use Rattle.receiver.specs.Asks.{is_among, asked_once, Asks, AsksAny}
 use Rattle.world.specs.declared.event.Event.{Event}
@@ -24,19 +24,19 @@ use Rattle.world.specs.declared.event.Entry.{Entry}
 use Rattle.world.specs.declared.event.Entry.TheVariants.{Sent, SendRefused, Repaired, NoRepair, Asked, NoAsk, Nothing, Delivered, Injected, Played}
 use Rattle.world.specs.Config.{Config}
 use Rattle.world.specs.Labels.{end_of}
-use Rattle.world.specs.Answers.{Stand, new_stand, HearsAt, Answers}
+use Rattle.world.specs.Answers.{WorldState, new_stand, HearsAt, Answers}
 use Rattle.world.proofs.Order.{AnyHearing}
 
-pub record Spans (room : ℕ) (w : Window) : Type 0 where
+pub record Spans (room : ℕ) (w : ReceiverState) : Type 0 where
   pub short : w.highest < w.cursor + room
   pub above : (k : ℕ) → w.highest < k → w.held k ≡ None
   pub missing : (k : ℕ) (m : Missed) → w.missing k ≡ Some m → (w.cursor ≤ k) × (k < w.highest) × (w.held k ≡ None)
 
-abbrev pub SpansAny : ℕ → Option Window → Type 0
+abbrev pub SpansAny : ℕ → Option ReceiverState → Type 0
 SpansAny room None = Unit {0}
 SpansAny room (Some w) = Spans room w
 
-spans_starts : (room place : ℕ) (c : Content) (new : Window) → 1 ≤ room → Starts place c new → Spans room new
+spans_starts : (room place : ℕ) (c : Content) (new : ReceiverState) → 1 ≤ room → Starts place c new → Spans room new
 spans_starts room place c new some t =
     record {
       short = omega (arith, t.cursor, t.highest, some);
@@ -44,7 +44,7 @@ spans_starts room place c new some t =
       missing = λ k m is. absurd (none-some m (sym (t.missing k) ∙ is));
     }
 
-pub spans_takes : (room place now : ℕ) (c : Content) (old new : Window) → 1 ≤ room → Takes room old place c now new → Spans room old → Spans room new
+pub spans_takes : (room place now : ℕ) (c : Content) (old new : ReceiverState) → 1 ≤ room → Takes room old place c now new → Spans room old → Spans room new
 spans_takes room place now c old new some t spans =
     record {
       short = let h = spans.short in omega (arith, t.cursor, t.highest, h, some);
@@ -52,7 +52,7 @@ spans_takes room place now c old new some t spans =
       missing = λ k m is. grind (arith, cases_lt k new.cursor, cases_eq k place, cases_lt k place, cases_lt old.highest k, t.highest, t.cursor, t.missing, t.held_else k, t.missing_dropped k, t.missing_between k, t.missing_below k, t.missing_above k, spans.missing k m, spans.above k);
     }
 
-spans_passes : (room : ℕ) (old new : Window) → Passes old new → Spans room old → Spans room new
+spans_passes : (room : ℕ) (old new : ReceiverState) → Passes old new → Spans room old → Spans room new
 spans_passes room old new t spans =
     record {
       short = let h = spans.short in omega (arith, t.cursor, t.highest, h);
@@ -66,7 +66,7 @@ asked_was false now o m is = (m, is)
 asked_was true now None m is = absurd (none-some m is)
 asked_was true now (Some was) m is = (was, refl)
 
-pub spans_asks : (room now : ℕ) (covered : List ℕ) (old new : Window) → Asks old covered now new → Spans room old → Spans room new
+pub spans_asks : (room now : ℕ) (covered : List ℕ) (old new : ReceiverState) → Asks old covered now new → Spans room old → Spans room new
 spans_asks room now covered old new t spans =
     record {
       short = let h = spans.short in omega (arith, t.cursor, t.highest, h);
@@ -77,27 +77,27 @@ spans_asks room now covered old new t spans =
     }
 
 -- what was learnt says nothing of the span
-pub spans_learns : (room : ℕ) (old : Window) (learnt : Option ℕ) → Spans room old → Spans room (record old { learnt = learnt })
+pub spans_learns : (room : ℕ) (old : ReceiverState) (learnt : Option ℕ) → Spans room old → Spans room (record old { learnt = learnt })
 spans_learns room old learnt spans = record { short = spans.short; above = spans.above; missing = spans.missing }
 
-same_spans : (room : ℕ) (old new : Option Window) → new ≡ old → SpansAny room old → SpansAny room new
-same_spans room old new is was = subst (λ (r : Option Window). SpansAny room r) (sym is) was
+same_spans : (room : ℕ) (old new : Option ReceiverState) → new ≡ old → SpansAny room old → SpansAny room new
+same_spans room old new is was = subst (λ (r : Option ReceiverState). SpansAny room r) (sym is) was
 
 module _ (c : Config) (some : 1 ≤ c.window) (now : ℕ) where
-  placed : (place : ℕ) (content : Content) (taken : Took) (old : Window) (new : Option Window) → AnswersPlace c.window old place content now (Ok taken) new → Spans c.window old → SpansAny c.window new
+  placed : (place : ℕ) (content : Content) (taken : Took) (old : ReceiverState) (new : Option ReceiverState) → AnswersPlace c.window old place content now (Ok taken) new → Spans c.window old → SpansAny c.window new
   placed place content taken old None (at, above, free, over, none) was = absurd none
   placed place content taken old (Some w) (at, above, free, over, taking) was = spans_takes c.window place now content old w some taking was
 
-  placed_in : (stream : Stream) (place : ℕ) (content : Content) (taken : Took) (old : Window) (new : Option Window) → AnswersIn c.window stream old place content now (Ok taken) new → Spans c.window old → SpansAny c.window new
+  placed_in : (stream : Stream) (place : ℕ) (content : Content) (taken : Took) (old : ReceiverState) (new : Option ReceiverState) → AnswersIn c.window stream old place content now (Ok taken) new → Spans c.window old → SpansAny c.window new
   placed_in Media place content taken old new step was = placed place content taken old new step was
   placed_in Repair place content taken old new step was = placed place content taken old new step was
   placed_in (Candidate ssrc) place content taken old new (asked, step) was = placed place content taken (record old { learnt = Some ssrc }) new step (spans_learns c.window old (Some ssrc) was)
 
-  started : (place : ℕ) (content : Content) (taken : Took) (new : Option Window) → StartsAt place content (Ok taken) new → SpansAny c.window new
+  started : (place : ℕ) (content : Content) (taken : Took) (new : Option ReceiverState) → StartsAt place content (Ok taken) new → SpansAny c.window new
   started place content taken None (at, over, none) = absurd none
   started place content taken (Some w) (at, over, starting) = spans_starts c.window place content w some starting
 
-  numbered : (stream : Stream) (seq : ℕ) (content : Content) (taken : Took) (old new : Option Window) → TakesNumber c.window stream old seq content now (Ok taken) new → SpansAny c.window old → SpansAny c.window new
+  numbered : (stream : Stream) (seq : ℕ) (content : Content) (taken : Took) (old new : Option ReceiverState) → TakesNumber c.window stream old seq content now (Ok taken) new → SpansAny c.window old → SpansAny c.window new
   numbered Media seq content taken None new step was = started (65536 + seq) content taken new step
   numbered Repair seq content taken None new (is, same) was = absurd cc
   numbered (Candidate ssrc) seq content taken None new (is, same) was = absurd cc
@@ -105,15 +105,15 @@ module _ (c : Config) (some : 1 ≤ c.window) (now : ℕ) where
   numbered stream seq content taken (Some old) new (inr (inl (past_end, is, same))) was = absurd cc
   numbered stream seq content taken (Some old) new (inr (inr (place, near, fits, step))) was = placed_in stream place content taken old new step was
 
-  heard_any : (octets : List ℕ) (heard : Result Took ReceiveFault) (old new : Option Window) → TakesOrRefuses c.window c.receiver old octets now heard new → SpansAny c.window old → SpansAny c.window new
+  heard_any : (octets : List ℕ) (heard : Result Took ReceiveFault) (old new : Option ReceiverState) → TakesOrRefuses c.window c.receiver old octets now heard new → SpansAny c.window old → SpansAny c.window new
   heard_any octets (Ok taken) old new step was = numbered step.stream step.seq step.content taken old new step.takes was
   heard_any octets (Err fault) old new same was = same_spans c.window old new same was
 
-passed : (room : ℕ) (old : Window) (new : Option Window) → IsSomeAnd new (Passes old) → Spans room old → SpansAny room new
+passed : (room : ℕ) (old : ReceiverState) (new : Option ReceiverState) → IsSomeAnd new (Passes old) → Spans room old → SpansAny room new
 passed room old None none was = absurd none
 passed room old (Some w) pass was = spans_passes room old w pass was
 
-played : (c : Config) (now : ℕ) (answer : Play_answer) (old new : Option Window) → PlaysAny c.receiver.patience old now answer new → SpansAny c.window old → SpansAny c.window new
+played : (c : Config) (now : ℕ) (answer : Play_answer) (old new : Option ReceiverState) → PlaysAny c.receiver.patience old now answer new → SpansAny c.window old → SpansAny c.window new
 played c now Wait None new is was = same_spans c.window None new is was
 played c now (Packet place content) None new never was = absurd never
 played c now (Gap place) None new never was = absurd never
@@ -121,24 +121,24 @@ played c now Wait (Some old) new (free, impatient, is) was = same_spans c.window
 played c now (Packet place content) (Some old) new (at, held, pass) was = passed c.window old new pass was
 played c now (Gap place) (Some old) new (at, free, cause, pass) was = passed c.window old new pass was
 
-asked : (room now : ℕ) (covered : List ℕ) (old : Window) (new : Option Window) → IsSomeAnd new (Asks old covered now) → Spans room old → SpansAny room new
+asked : (room now : ℕ) (covered : List ℕ) (old : ReceiverState) (new : Option ReceiverState) → IsSomeAnd new (Asks old covered now) → Spans room old → SpansAny room new
 asked room now covered old None none was = absurd none
 asked room now covered old (Some w) asks was = spans_asks room now covered old w asks was
 
-asked_any : (c : Config) (now : ℕ) (datagram : ArrayVec ℕ) (old new : Option Window) → AsksAny c.receiver old now (Some datagram) new → SpansAny c.window old → SpansAny c.window new
+asked_any : (c : Config) (now : ℕ) (datagram : ArrayVec ℕ) (old new : Option ReceiverState) → AsksAny c.receiver old now (Some datagram) new → SpansAny c.window old → SpansAny c.window new
 asked_any c now datagram None new (none, is) was = absurd cc
 asked_any c now datagram (Some old) new asks was = asked c.window now (take asks.answers.1.asked.count (take 1088 asks.due)) old new asks.answers.1.asked.asks was
 
-receiver_of : (v w : Stand) → v ≡ w → v.receiver ≡ w.receiver
-receiver_of v w e = ap (λ (x : Stand). x.receiver) e
+receiver_of : (v w : WorldState) → v ≡ w → v.receiver ≡ w.receiver
+receiver_of v w e = ap (λ (x : WorldState). x.receiver) e
 
 module _ (any : AnyHearing) (c : Config) (some : 1 ≤ c.window) where
-  heard : (end : End) (octets : List ℕ) (now : ℕ) (answer : Answer) (old new : Stand) → HearsAt c end old octets now answer new → SpansAny c.window old.receiver → SpansAny c.window new.receiver
+  heard : (end : End) (octets : List ℕ) (now : ℕ) (answer : Answer) (old new : WorldState) → HearsAt c end old octets now answer new → SpansAny c.window old.receiver → SpansAny c.window new.receiver
   heard Sender octets now answer old new h was = same_spans c.window old.receiver new.receiver h.receiver was
   heard Receiver octets now answer old new h was =
       heard_any c some now octets h.heard old.receiver new.receiver (any c.window c.receiver old.receiver octets now h.heard new.receiver h.hears) was
 
-  pub spans_all : (events : List Event) (past : List Entry) (end : Stand) → Answers c events past end → SpansAny c.window end.receiver
+  pub spans_all : (events : List Event) (past : List Entry) (end : WorldState) → Answers c events past end → SpansAny c.window end.receiver
   spans_all [] [] end is = same_spans c.window None end.receiver (receiver_of end (new_stand c) is) tt
   spans_all [] (entry ∷ past) end never = absurd never
   spans_all (event ∷ events) [] end never = absurd never

@@ -4,11 +4,11 @@ use Rattle.arrayvec.specs.ArrayVec.{ArrayVec}
 use Rattle.fbwire.specs.declared.nack.Pair.{Pair}
 use Rattle.fbwire.specs.Nack.{Nack, NackSpells}
 use Rattle.receiver.specs.Config.{Config}
-use Rattle.receiver.specs.Window.{Window}
+use Rattle.receiver.specs.Window.{ReceiverState}
 use Rattle.receiver.specs.Asks.{AsksAny}
 use Rattle.world.specs.Answers.{nack_of}
 
-pub spelled_by : (c : Config) (now : ℕ) (old new : Option Window) (datagram : ArrayVec ℕ) (pairs : ArrayVec Pair) → AsksAny c old now (Some datagram) new →
+pub spelled_by : (c : Config) (now : ℕ) (old new : Option ReceiverState) (datagram : ArrayVec ℕ) (pairs : ArrayVec Pair) → AsksAny c old now (Some datagram) new →
     ((nack : Nack) → NackSpells nack datagram.items → length nack.pairs ≤ 64 → pairs.items ≡ nack.pairs) → NackSpells (nack_of c.session pairs.items) datagram.items
 spelled_by c now None new datagram pairs (none, is) reads = absurd cc
 spelled_by c now (Some w) new datagram pairs asks reads =

@@ -6,9 +6,9 @@ use Rattle.std.proofs.lemmas.Bool.{cases_eq}
 use Rattle.std.proofs.lemmas.Bool.Decides.{nat_tests}
 use Rattle.std.proofs.lemmas.List.{length-take}
 use Rattle.stores.specs.declared.entry.HistoryEntry.{HistoryEntry}
-use Rattle.sender.specs.History.{History, Repairs}
+use Rattle.sender.specs.History.{SenderState, Repairs}
 use Rattle.receiver.specs.Config.{Config as Receiving}
-use Rattle.receiver.specs.Window.{Missed, Window}
+use Rattle.receiver.specs.Window.{Missed, ReceiverState}
 use Rattle.receiver.specs.Asks.{is_due, is_among, asked_once, Asks}
 use Rattle.fbwire.specs.declared.nack.Pair.{Pair}
 use Rattle.world.specs.Config.{Config}
@@ -75,11 +75,11 @@ unasked_falls c now (Some m) some due =
     omega (arith, e, f)
 
 -- how many places can still be asked for at this moment
-abbrev pub asks_left : Config → (now : ℕ) → Option Window → ℕ
+abbrev pub asks_left : Config → (now : ℕ) → Option ReceiverState → ℕ
 asks_left c now None = 0
 asks_left c now (Some w) = total (λ k. unasked now (w.missing k)) w.cursor c.window
 
-pub asks_left_most : (c : Config) (now : ℕ) (r : Option Window) → asks_left c now r ≤ c.window
+pub asks_left_most : (c : Config) (now : ℕ) (r : Option ReceiverState) → asks_left c now r ≤ c.window
 asks_left_most c now None = omega arith
 asks_left_most c now (Some w) = total_most (λ k. unasked now (w.missing k)) w.cursor c.window (λ k. unasked_most now (w.missing k))
 
@@ -95,7 +95,7 @@ due_is_missing : (c : Receiving) (now : ℕ) (o : Option Missed) → is_due c.re
 due_is_missing c now None due = absurd cc
 due_is_missing c now (Some m) due = (m, refl)
 
-asks_fall_at : (c : Config) (now : ℕ) (old w : Window) (covered : List ℕ) (k : ℕ) → old.cursor ≤ k → k < old.cursor + c.window → is_among covered k ≡ true →
+asks_fall_at : (c : Config) (now : ℕ) (old w : ReceiverState) (covered : List ℕ) (k : ℕ) → old.cursor ≤ k → k < old.cursor + c.window → is_among covered k ≡ true →
     0 < c.receiver.retry → is_due c.receiver.retry c.receiver.asks now (old.missing k) ≡ true → Asks old covered now w → asks_left c now (Some w) < asks_left c now (Some old)
 asks_fall_at c now old w covered k low high among some due asking =
     subst (λ n. total (λ j. unasked now (w.missing j)) n c.window < total (λ j. unasked now (old.missing j)) old.cursor c.window) (sym asking.cursor)
@@ -105,11 +105,11 @@ asks_fall_at c now old w covered k low high among some due asking =
     (subst (λ o. unasked now o < unasked now (old.missing k)) (sym (asking.missing k ∙ ap (λ b. after_ask b now (old.missing k)) among)) (unasked_falls c.receiver now (old.missing k) some due)))
 
 -- an ask leaves fewer places to be asked for at its moment
-pub asks_fall : (c : Config) (now : ℕ) (pairs : List Pair) (r r' : Option Window) → 0 < c.receiver.retry → SpansAny c.window r → AsksAnyBy c.receiver r now pairs r' → asks_left c now r' < asks_left c now r
+pub asks_fall : (c : Config) (now : ℕ) (pairs : List Pair) (r r' : Option ReceiverState) → 0 < c.receiver.retry → SpansAny c.window r → AsksAnyBy c.receiver r now pairs r' → asks_left c now r' < asks_left c now r
 asks_fall c now pairs None r' some spans never = absurd never
 asks_fall c now pairs (Some old) r' some spans step = by r' step.asked.asks
   where
-    by : (new : Option Window) → IsSomeAnd new (Asks old (take step.asked.count (take 1088 step.due)) now) → asks_left c now new < asks_left c now (Some old)
+    by : (new : Option ReceiverState) → IsSomeAnd new (Asks old (take step.asked.count (take 1088 step.due)) now) → asks_left c now new < asks_left c now (Some old)
     by None none = absurd none
     by (Some w) asking =
         let within = step.asked.packing.within in
@@ -135,14 +135,14 @@ one_marked_most (Some e) = most e.marked
     most false = omega arith
 
 -- how many places are marked
-abbrev pub marks_left : Config → History → ℕ
+abbrev pub marks_left : Config → SenderState → ℕ
 marks_left c s = total (λ k. one_marked (s.entries k)) (s.next - c.history) c.history
 
-pub marks_left_most : (c : Config) (s : History) → marks_left c s ≤ c.history
+pub marks_left_most : (c : Config) (s : SenderState) → marks_left c s ≤ c.history
 marks_left_most c s = total_most (λ k. one_marked (s.entries k)) (s.next - c.history) c.history (λ k. one_marked_most (s.entries k))
 
 -- a retransmission leaves fewer marks
-pub repairs_fall : (c : Config) (place : ℕ) (entry : HistoryEntry) (old new : History) → place < old.next → old.next ≤ place + c.history → Repairs old place entry new → marks_left c new < marks_left c old
+pub repairs_fall : (c : Config) (place : ℕ) (entry : HistoryEntry) (old new : SenderState) → place < old.next → old.next ≤ place + c.history → Repairs old place entry new → marks_left c new < marks_left c old
 repairs_fall c place entry old new sent last t =
     subst (λ n. total (λ k. one_marked (new.entries k)) (n - c.history) c.history < marks_left c old) (sym t.next)
     (total_lt (λ k. one_marked (old.entries k)) (λ k. one_marked (new.entries k)) (old.next - c.history) c.history place

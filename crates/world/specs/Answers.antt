@@ -8,13 +8,13 @@ use Rattle.fbwire.specs.declared.fault.FeedbackFault.{FeedbackFault}
 use Rattle.fbwire.specs.declared.nack.Pair.{Pair}
 use Rattle.fbwire.specs.Nack.{Nack, NackSpells}
 use Rattle.sender.specs.declared.answer.Marked.{Marked as Marking}
-use Rattle.sender.specs.History.{History, new_history}
+use Rattle.sender.specs.History.{SenderState, new_history}
 use Rattle.sender.specs.Sending.{SendsAt, SendsAny}
 use Rattle.sender.specs.Feedback.{HearsFeedback}
 use Rattle.sender.specs.Repairing.{RepairsAt, RepairsAny}
 use Rattle.receiver.specs.declared.answer.Taken.{Taken as Took}
 use Rattle.receiver.specs.declared.fault.ReceiveFault.{ReceiveFault}
-use Rattle.receiver.specs.Window.{Window, PlaysAny}
+use Rattle.receiver.specs.Window.{ReceiverState, PlaysAny}
 use Rattle.receiver.specs.Heard.{Hears}
 use Rattle.receiver.specs.Asks.{AsksAny}
 use Rattle.world.specs.declared.event.Event.{Event}
@@ -35,12 +35,12 @@ abbrev pub Item : Type 0
 Item = Label × ArrayVec ℕ
 
 -- Both ends, and the wire between them, which only grows.
-pub record Stand : Type 0 where
-  pub sender : History
+pub record WorldState : Type 0 where
+  pub sender : SenderState
   pub wire : List Item
-  pub receiver : Option Window
+  pub receiver : Option ReceiverState
 
-abbrev pub new_stand : Config → Stand
+abbrev pub new_stand : Config → WorldState
 new_stand c = record { sender = new_history c.first c.repair_first; wire = []; receiver = None }
 
 -- what the receiver answers, as the log tells it
@@ -49,7 +49,7 @@ told (Ok taken) = Taken taken
 told (Err fault) = Refused fault
 
 -- a datagram reaches the receiver, and leaves the sender as it was
-pub record ReceiverHears (c : Config) (old : Stand) (octets : List ℕ) (now : ℕ) (answer : Answer) (new : Stand) : Type 0 where
+pub record ReceiverHears (c : Config) (old : WorldState) (octets : List ℕ) (now : ℕ) (answer : Answer) (new : WorldState) : Type 0 where
   pub heard : Result Took ReceiveFault
   pub hears : Hears c.window c.receiver old.receiver octets now heard new.receiver
   pub tells : answer ≡ told heard
@@ -61,19 +61,19 @@ told_marks (Ok marked) = Marked marked
 told_marks (Err fault) = FeedbackRefused fault
 
 -- a datagram reaches the sender, and leaves the receiver as it was
-pub record SenderHears (c : Config) (old : Stand) (octets : List ℕ) (answer : Answer) (new : Stand) : Type 0 where
+pub record SenderHears (c : Config) (old : WorldState) (octets : List ℕ) (answer : Answer) (new : WorldState) : Type 0 where
   pub heard : Result Marking FeedbackFault
   pub hears : HearsFeedback (sending c) old.sender octets heard new.sender
   pub tells : answer ≡ told_marks heard
   pub receiver : new.receiver ≡ old.receiver
 
 -- a datagram reaches an end (its moment says nothing to the sender)
-abbrev pub HearsAt : Config → End → Stand → (octets : List ℕ) → (now : ℕ) → Answer → Stand → Type 0
+abbrev pub HearsAt : Config → End → WorldState → (octets : List ℕ) → (now : ℕ) → Answer → WorldState → Type 0
 HearsAt c Sender old octets now answer new = SenderHears c old octets answer new
 HearsAt c Receiver old octets now answer new = ReceiverHears c old octets now answer new
 
 -- a content is sent, and lies on the wire
-pub record SendsTo (c : Config) (old : Stand) (content : Content) (padding place index : ℕ) (new : Stand) : Type 0 where
+pub record SendsTo (c : Config) (old : WorldState) (content : Content) (padding place index : ℕ) (new : WorldState) : Type 0 where
   pub datagram : ArrayVec ℕ
   pub sends : SendsAt c.receiver.session c.history old.sender content padding place datagram.items new.sender
   pub index_is : index ≡ length old.wire
@@ -81,7 +81,7 @@ pub record SendsTo (c : Config) (old : Stand) (content : Content) (padding place
   pub receiver : new.receiver ≡ old.receiver
 
 -- a place is retransmitted, and its datagram lies on the wire
-pub record RepairsTo (c : Config) (old : Stand) (place index : ℕ) (new : Stand) : Type 0 where
+pub record RepairsTo (c : Config) (old : WorldState) (place index : ℕ) (new : WorldState) : Type 0 where
   pub datagram : ArrayVec ℕ
   pub repairs : RepairsAt c.receiver.session old.sender place datagram.items new.sender
   pub index_is : index ≡ length old.wire
@@ -93,7 +93,7 @@ abbrev pub nack_of : Streams → List Pair → Nack
 nack_of s pairs = record { reporter = s.receiver_ssrc; media = s.media_ssrc; pairs = pairs }
 
 -- missing places are asked for, and the ask lies on the wire, under the pairs that it spells
-pub record AsksTo (c : Config) (old : Stand) (now index : ℕ) (new : Stand) : Type 0 where
+pub record AsksTo (c : Config) (old : WorldState) (now index : ℕ) (new : WorldState) : Type 0 where
   pub datagram : ArrayVec ℕ
   pub pairs : ArrayVec Pair
   pub asks : AsksAny c.receiver old.receiver now (Some datagram) new.receiver
@@ -103,14 +103,14 @@ pub record AsksTo (c : Config) (old : Stand) (now index : ℕ) (new : Stand) : T
   pub sender : new.sender ≡ old.sender
 
 -- the datagram at an index reaches the end that its label names
-pub record DeliversAt (c : Config) (old : Stand) (index : ℕ) (label : Label) (now : ℕ) (answer : Answer) (new : Stand) : Type 0 where
+pub record DeliversAt (c : Config) (old : WorldState) (index : ℕ) (label : Label) (now : ℕ) (answer : Answer) (new : WorldState) : Type 0 where
   pub datagram : ArrayVec ℕ
   pub there : slice_get old.wire index ≡ Some (label, datagram)
   pub hears : HearsAt c (end_of label) old datagram.items now answer new
   pub wire : new.wire ≡ old.wire
 
 -- One event, its entry, and the world before and after it.
-abbrev pub Step : Config → Stand → Event → Entry → Stand → Type 0
+abbrev pub Step : Config → WorldState → Event → Entry → WorldState → Type 0
 Step c old (Send content padding) (Sent place index sent) new = (sent ≡ content) × SendsTo c old content padding place index new
 Step c old (Send content padding) (SendRefused fault) new = SendsAny c.receiver.session c.history old.sender content padding (Err fault) new.sender × (new ≡ old)
 Step c old Retransmit (Repaired place index) new = RepairsTo c old place index new
@@ -127,8 +127,8 @@ Step c old (Inject end datagram now) (Injected at moment answer) new =
 Step c old event entry new = ⊥
 
 -- The log answers these events, and this is what it leaves.
-abbrev pub Answers : Config → List Event → List Entry → Stand → Type 0
+abbrev pub Answers : Config → List Event → List Entry → WorldState → Type 0
 Answers c [] [] end = end ≡ new_stand c
-Answers c (event ∷ events) (entry ∷ before) end = (mid : Stand) × Answers c events before mid × Step c mid event entry end
+Answers c (event ∷ events) (entry ∷ before) end = (mid : WorldState) × Answers c events before mid × Step c mid event entry end
 Answers c [] (entry ∷ before) end = ⊥
 Answers c (event ∷ events) [] end = ⊥

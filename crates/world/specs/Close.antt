@@ -37,6 +37,6 @@ IsUninjected (Injected end now answer ∷ before) = ⊥
 IsUninjected (entry ∷ before) = IsUninjected before
 
 -- what a world keeps of its log: the greatest place taken, and whether the log is close and nothing was injected
-pub record Tells (highest : Option ℕ) (holds : Bool) (past : List Entry) : Type 0 where
+pub record TellsCloseness (highest : Option ℕ) (holds : Bool) (past : List Entry) : Type 0 where
   pub highest_is : highest ≡ highest_taken past
   pub holds_if : IsTrue holds ↔ (IsClose past × IsUninjected past)

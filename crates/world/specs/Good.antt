@@ -5,7 +5,7 @@ use Rattle.world.specs.declared.event.Event.{Event}
 use Rattle.world.specs.declared.event.Entry.{Entry}
 use Rattle.world.specs.declared.event.Entry.TheVariants.{Played}
 use Rattle.world.specs.Config.{Config}
-use Rattle.world.specs.Answers.{Stand, Answers}
+use Rattle.world.specs.Answers.{WorldState, Answers}
 use Rattle.world.specs.Reading.{IsRising, IsFinal}
 use Rattle.world.specs.Reach.{shift_of}
 use Rattle.world.specs.Close.{IsClose, IsHonest}
@@ -16,7 +16,7 @@ use Rattle.world.specs.PlaceRun.{PlaceRun, places_of}
 use Rattle.world.specs.World.{IsLogged}
 
 -- The log, which left both ends and the wire so, is good: it is a run over places, which leaves both ends so.
-pub record IsGood (c : Config) (past : List Entry) (end : Stand) : Type 0 where
+pub record IsGood (c : Config) (past : List Entry) (end : WorldState) : Type 0 where
   pub run : PlaceRun c past (places_of end)
   pub shift : (cycles : ℕ) × (shift_of past ≡ cycles * 65536)  -- both ends' places differ by whole cycles
   pub rising : IsRising c past
@@ -28,13 +28,13 @@ pub record IsGood (c : Config) (past : List Entry) (end : Stand) : Type 0 where
 -- Each beginning of the log, the oldest entry first, is good if it is close and honest: so no entry makes an
 -- earlier one wrong. Whatever events the log answers (there are some), its first n entries answer the first n of
 -- them, and what such a beginning left is what these answers leave.
-pub record PlaysRightly (c : Config) (log : List Entry) (end : Stand) : Type 0 where
+pub record PlaysRightly (c : Config) (log : List Entry) (end : WorldState) : Type 0 where
   pub logged : IsLogged c log end
   pub whole : IsClose (reverse log) → IsHonest (reverse log) → IsGood c (reverse log) end
   pub beginnings :
       (events : List Event) → Answers c (reverse events) (reverse log) end → (n : ℕ)
       → IsClose (reverse (take n log)) → IsHonest (reverse (take n log))
-      → (mid : Stand) × Answers c (reverse (take n events)) (reverse (take n log)) mid × IsGood c (reverse (take n log)) mid
+      → (mid : WorldState) × Answers c (reverse (take n events)) (reverse (take n log)) mid × IsGood c (reverse (take n log)) mid
 
 -- what a play may answer after this log: its entry is in order, right and justified
 abbrev pub MayPlay : Config → List Entry → (now : ℕ) → Play_answer → Type 0

@@ -13,14 +13,14 @@ use Rattle.stores.specs.declared.entry.HistoryEntry.{HistoryEntry}
 use Rattle.stores.specs.PlaceLists.{Lists}
 use Rattle.sender.specs.declared.fault.SendFault.{SendFault}
 use Rattle.sender.specs.declared.fault.SendFault.TheVariants.{PaddedEmpty, Exhausted}
-use Rattle.sender.specs.History.{History, new_history, Sends, Marks, Repairs, NoneMarked}
+use Rattle.sender.specs.History.{SenderState, new_history, Sends, Marks, Repairs, NoneMarked}
 use Rattle.receiver.specs.declared.answer.Taken.{Taken as Took}
 use Rattle.receiver.specs.declared.fault.ReceiveFault.{ReceiveFault}
 use Rattle.receiver.specs.declared.fault.ReceiveFault.TheVariants as refused
 use Rattle.receiver.specs.declared.stream.Stream.{Stream}
 use Rattle.receiver.specs.declared.stream.Stream.TheVariants as streams
 use Rattle.receiver.specs.Config.{Config as Receiving}
-use Rattle.receiver.specs.Window.{Window, PlaysAny}
+use Rattle.receiver.specs.Window.{ReceiverState, PlaysAny}
 use Rattle.receiver.specs.Streams.{known_to, learnt_by}
 use Rattle.receiver.specs.Heard.{StartsIn, AnswersIn}
 use Rattle.receiver.specs.Asks.{is_due, AsksBy}
@@ -33,14 +33,14 @@ use Rattle.world.specs.declared.event.Entry.{Entry}
 use Rattle.world.specs.declared.event.Entry.TheVariants.{Sent, SendRefused, Repaired, NoRepair, Asked, NoAsk, Nothing, Delivered, Injected, Played}
 use Rattle.world.specs.Config.{Config}
 use Rattle.world.specs.Labels.{place_of}
-use Rattle.world.specs.Answers.{Item, Stand, told}
+use Rattle.world.specs.Answers.{Item, WorldState, told}
 use Rattle.world.specs.Reading.{WasSent}
 use Rattle.world.specs.Reach.{shift_of}
 
 pub record PlaceWorld : Type 0 where
-  pub sender : History
+  pub sender : SenderState
   pub labels : List Label  -- of all that was put on the wire, the first one first
-  pub receiver : Option Window
+  pub receiver : Option ReceiverState
 
 abbrev pub new_places : Config → PlaceWorld
 new_places c = record { sender = new_history c.first c.repair_first; labels = []; receiver = None }
@@ -49,7 +49,7 @@ new_places c = record { sender = new_history c.first c.repair_first; labels = []
 abbrev pub label_of : Item → Label
 label_of item = item.0
 
-abbrev pub places_of : Stand → PlaceWorld
+abbrev pub places_of : WorldState → PlaceWorld
 places_of s = record { sender = s.sender; labels = map label_of s.wire; receiver = s.receiver }
 
 -- The stream that a packet comes in by its label: a retransmission's SSRC is known, or is to be learnt.
@@ -57,21 +57,21 @@ abbrev pub repair_in : Receiving → (source : Option ℕ) → Stream
 repair_in c (Some known) = streams.Repair
 repair_in c None = streams.Candidate c.session.repair_ssrc
 
-abbrev pub stream_in : Receiving → Option Window → Label → Stream
+abbrev pub stream_in : Receiving → Option ReceiverState → Label → Stream
 stream_in c old (Media place) = streams.Media
 stream_in c old (Repair place) = repair_in c (known_to c (learnt_by old))
 stream_in c old (Feedback pairs) = streams.Media
 
 -- What a started receiver answers to a packet of the sender's `place`. Its own place lies the shift below.
 -- A packet that lies 16384 or further from the highest place is refused with 34, and changes nothing.
-abbrev pub AnswersLabel : Config → (shift : ℕ) → Stream → Window → (place : ℕ) → Content → (now : ℕ) → Result Took ReceiveFault → Option Window → Type 0
+abbrev pub AnswersLabel : Config → (shift : ℕ) → Stream → ReceiverState → (place : ℕ) → Content → (now : ℕ) → Result Took ReceiveFault → Option ReceiverState → Type 0
 AnswersLabel c shift stream old place content now heard new =
     ((IsWithin reach place (old.highest + shift) → ⊥) × (heard ≡ Err (refused.Place Far)) × (new ≡ Some old))
     ⊎ ((own : ℕ) × (own + shift ≡ place) × IsWithin reach place (old.highest + shift) × AnswersIn c.window stream old own content now heard new)
 
 -- What a receiver answers to the packet of a place in its stream. One that took nothing is started by a media
 -- packet, one cycle above its sequence number, and by no retransmission.
-abbrev pub ReceivesLabel : Config → (shift : ℕ) → Stream → Option Window → (place : ℕ) → Content → (now : ℕ) → Result Took ReceiveFault → Option Window → Type 0
+abbrev pub ReceivesLabel : Config → (shift : ℕ) → Stream → Option ReceiverState → (place : ℕ) → Content → (now : ℕ) → Result Took ReceiveFault → Option ReceiverState → Type 0
 ReceivesLabel c shift stream None place content now heard new = StartsIn stream (number place) content heard new
 ReceivesLabel c shift stream (Some old) place content now heard new = AnswersLabel c shift stream old place content now heard new
 
@@ -107,18 +107,18 @@ RefusesSend next PaddedEmpty = Unit {0}
 RefusesSend next Exhausted = 2 ^ 48 ≤ next
 
 -- an ask at a started receiver, by these pairs
-pub record AsksDueBy (c : Receiving) (old : Window) (now : ℕ) (pairs : List Pair) (new : Option Window) : Type 0 where
+pub record AsksDueBy (c : Receiving) (old : ReceiverState) (now : ℕ) (pairs : List Pair) (new : Option ReceiverState) : Type 0 where
   pub due : List ℕ
   pub each : Lists due (λ k. is_due c.retry c.asks now (old.missing k))
   pub some : due ≢ []
   pub asked : AsksBy old due now pairs new
 
-abbrev pub AsksAnyBy : Receiving → Option Window → (now : ℕ) → (pairs : List Pair) → Option Window → Type 0
+abbrev pub AsksAnyBy : Receiving → Option ReceiverState → (now : ℕ) → (pairs : List Pair) → Option ReceiverState → Type 0
 AsksAnyBy c None now pairs new = ⊥
 AsksAnyBy c (Some old) now pairs new = AsksDueBy c old now pairs new
 
 -- no place is due
-abbrev pub NoneDue : Receiving → Option Window → (now : ℕ) → Type 0
+abbrev pub NoneDue : Receiving → Option ReceiverState → (now : ℕ) → Type 0
 NoneDue c None now = Unit {0}
 NoneDue c (Some old) now = (k : ℕ) → is_due c.retry c.asks now (old.missing k) ≡ false
 

@@ -3,19 +3,19 @@
 -- first here.
 use Rattle.std.specs.Prelude.{◌≡◌, ℕ, ◌+◌, ◌<◌, ◌≤◌, true, IsSome, List, [], ◌∷◌, ◌++◌, reverse, Option, Some, None}
 use Rattle.stores.specs.declared.entry.HistoryEntry.{HistoryEntry}
-use Rattle.sender.specs.History.{History}
-use Rattle.receiver.specs.Window.{Window}
+use Rattle.sender.specs.History.{SenderState}
+use Rattle.receiver.specs.Window.{ReceiverState}
 use Rattle.receiver.specs.Asks.{is_due}
 use Rattle.world.specs.declared.event.Event.{Event}
 use Rattle.world.specs.declared.event.Entry.{Entry}
 use Rattle.world.specs.declared.event.Entry.TheVariants.{Repaired, NoRepair, Asked, NoAsk, Delivered}
 use Rattle.world.specs.Config.{Config}
-use Rattle.world.specs.Answers.{Stand, Step}
+use Rattle.world.specs.Answers.{WorldState, Step}
 
 -- The entries answer these events, and lead from one stand to another.
-abbrev pub Adds : Config → Stand → List Event → List Entry → Stand → Type 0
+abbrev pub Adds : Config → WorldState → List Event → List Entry → WorldState → Type 0
 Adds c start [] [] end = end ≡ start
-Adds c start (event ∷ events) (entry ∷ added) end = (mid : Stand) × Adds c start events added mid × Step c mid event entry end
+Adds c start (event ∷ events) (entry ∷ added) end = (mid : WorldState) × Adds c start events added mid × Step c mid event entry end
 Adds c start [] (entry ∷ added) end = ⊥
 Adds c start (event ∷ events) [] end = ⊥
 
@@ -37,18 +37,18 @@ IsRound now (NoRepair ∷ added) = IsRepairing now added
 IsRound now added = ⊥
 
 -- a beginning of a round
-abbrev pub IsBegun : (now : ℕ) → List Entry → Type 0
-IsBegun now [] = Unit {0}
-IsBegun now (Asked at asked ∷ added) = (asked ≡ now) × IsAsking now added
-IsBegun now (NoAsk asked ∷ added) = IsRepairing now (NoAsk asked ∷ added)
-IsBegun now (Repaired place at ∷ added) = IsRepairing now added
-IsBegun now (NoRepair ∷ added) = IsRepairing now added
-IsBegun now (Delivered index label moment answer ∷ Asked at asked ∷ added) = IsAsking now (Delivered index label moment answer ∷ Asked at asked ∷ added)
-IsBegun now (Delivered index label moment answer ∷ Repaired place at ∷ added) = IsRepairing now (Delivered index label moment answer ∷ Repaired place at ∷ added)
-IsBegun now added = ⊥
+abbrev pub IsRoundBegun : (now : ℕ) → List Entry → Type 0
+IsRoundBegun now [] = Unit {0}
+IsRoundBegun now (Asked at asked ∷ added) = (asked ≡ now) × IsAsking now added
+IsRoundBegun now (NoAsk asked ∷ added) = IsRepairing now (NoAsk asked ∷ added)
+IsRoundBegun now (Repaired place at ∷ added) = IsRepairing now added
+IsRoundBegun now (NoRepair ∷ added) = IsRepairing now added
+IsRoundBegun now (Delivered index label moment answer ∷ Asked at asked ∷ added) = IsAsking now (Delivered index label moment answer ∷ Asked at asked ∷ added)
+IsRoundBegun now (Delivered index label moment answer ∷ Repaired place at ∷ added) = IsRepairing now (Delivered index label moment answer ∷ Repaired place at ∷ added)
+IsRoundBegun now added = ⊥
 
 -- A world went on, and what was added to its log is of a kind. Logs are oldest first here, as a world keeps them.
-pub record GoesOn (c : Config) (IsKind : List Entry → Type 0) (old new : Stand) (log grown : List Entry) : Type 0 where
+pub record GoesOn (c : Config) (IsKind : List Entry → Type 0) (old new : WorldState) (log grown : List Entry) : Type 0 where
   pub events : List Event
   pub added : List Entry
   pub kind : IsKind added
@@ -62,13 +62,13 @@ IsUpTo (Some highest) place = place ≤ highest
 
 -- No place that is marked lies above the greatest one taken. (Feedback for a packet that the history lost meanwhile may mark
 -- such a place: its number is that of a later packet. Its retransmission could overrun what a round mended.)
-abbrev pub IsMarkedUpTo : (highest : Option ℕ) → History → Type 0
+abbrev pub IsMarkedUpTo : (highest : Option ℕ) → SenderState → Type 0
 IsMarkedUpTo highest sender = (place : ℕ) (entry : HistoryEntry) → sender.entries place ≡ Some entry → entry.marked ≡ true → IsUpTo highest place
 
 -- The sender's place is missing at the receiver, where it is the shift below, and due; the history has it, and it may be
 -- retransmitted once more.
-pub record IsMendable (c : Config) (shift : ℕ) (s : Stand) (place now : ℕ) : Type 0 where
-  pub window : Window
+pub record IsMendable (c : Config) (shift : ℕ) (s : WorldState) (place now : ℕ) : Type 0 where
+  pub window : ReceiverState
   pub started : s.receiver ≡ Some window
   pub own : ℕ
   pub at : own + shift ≡ place
@@ -78,8 +78,8 @@ pub record IsMendable (c : Config) (shift : ℕ) (s : Stand) (place now : ℕ) :
   pub allowed : entry.repeats < c.repeats
 
 -- the receiver holds the sender's place
-pub record IsMended (shift : ℕ) (s : Stand) (place : ℕ) : Type 0 where
-  pub window : Window
+pub record IsMended (shift : ℕ) (s : WorldState) (place : ℕ) : Type 0 where
+  pub window : ReceiverState
   pub started : s.receiver ≡ Some window
   pub own : ℕ
   pub at : own + shift ≡ place

@@ -7,7 +7,7 @@ use Rattle.receiver.specs.Receiver.{Receiving, state_of}
 use Rattle.world.specs.declared.event.Event.{Event}
 use Rattle.world.specs.declared.event.Entry.{Entry}
 use Rattle.world.specs.Config.{Config, sending}
-use Rattle.world.specs.Answers.{Item, Stand, Answers}
+use Rattle.world.specs.Answers.{Item, WorldState, Answers}
 
 pub record Recorded : Type 0 where
   pub config : Config
@@ -28,13 +28,13 @@ empty c =
     }
 
 -- both ends and the wire
-abbrev pub stand_at : Sending → List Item → Receiving → Stand
+abbrev pub stand_at : Sending → List Item → Receiving → WorldState
 stand_at sender wire receiver = record { sender = sender_of sender; wire = wire; receiver = state_of receiver }
 
-abbrev pub stand_of : Recorded → Stand
+abbrev pub stand_of : Recorded → WorldState
 stand_of w = stand_at w.sender w.wire w.receiver
 
 -- the log answers some events, and this is what it leaves
-pub record IsLogged (c : Config) (log : List Entry) (end : Stand) : Type 0 where
+pub record IsLogged (c : Config) (log : List Entry) (end : WorldState) : Type 0 where
   pub events : List Event
   pub answers : Answers c (reverse events) (reverse log) end

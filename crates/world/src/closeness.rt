@@ -3,7 +3,7 @@ ghost use Rattle.std.specs.Prelude.{◌≡◌, ◌↔◌, [], ◌∷◌, List, I
 ghost use Rattle.world.specs.declared.event.Entry.{Entry as Logged};
 ghost use Rattle.world.specs.Labels.{place_of};
 ghost use Rattle.world.specs.Reach.{greater};
-ghost use Rattle.world.specs.Close.{IsCloseTo, Tells};
+ghost use Rattle.world.specs.Close.{IsCloseTo, TellsCloseness};
 
 use crate::event::{Answer, Entry, Label};
 use places::Place;
@@ -24,7 +24,7 @@ pub(crate) struct Closeness {
 impl Closeness {
     /// That of a log with no entry.
     pub(crate) fn new() -> Closeness
-        ensures { Tells result.highest result.holds [] }
+        ensures { TellsCloseness result.highest result.holds [] }
     {
         Closeness {
             highest: None,
@@ -34,7 +34,7 @@ impl Closeness {
 
     /// That of the log with one more entry.
     pub(crate) fn after(self, entry: &Entry) -> Closeness
-        ensures { (past : List Logged) → Tells self.highest self.holds past → Tells result.highest result.holds (entry.now ∷ past) }
+        ensures { (past : List Logged) → TellsCloseness self.highest self.holds past → TellsCloseness result.highest result.holds (entry.now ∷ past) }
     {
         match entry {
             Entry::Delivered { label, answer, .. } => match answer {

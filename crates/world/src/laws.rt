@@ -3,7 +3,7 @@ ghost use Rattle.std.specs.Prelude.{◌≡◌, ◌≤◌, ◌++◌, ℕ, List, S
 ghost use Rattle.world.specs.declared.event.Event.{Event};
 ghost use Rattle.world.specs.declared.event.Entry.{Entry};
 ghost use Rattle.world.specs.Config.{Config, IsConfig};
-ghost use Rattle.world.specs.Answers.{Item, Stand, Answers};
+ghost use Rattle.world.specs.Answers.{Item, WorldState, Answers};
 ghost use Rattle.world.specs.Reading.{repairs_of, IsRising, IsFinal, IsStrictlyRising};
 ghost use Rattle.world.specs.Wire.{IsFaithful, SpellsLabel};
 ghost use Rattle.world.specs.Close.{IsClose, IsHonest, IsUninjected};
@@ -23,9 +23,9 @@ use stores::{History, Window};
 /// Whatever events a log answers, and whatever octets a peer injected: what is played or given up rises place
 /// by place, no place is played twice, and a place that was given up or overrun is never played later.
 pub fn logs_are_in_order()
-    ensures rising { (c : Config) (events : List Event) (past : List Entry) (end : Stand) → Answers c events past end → IsRising c past }
-    ensures finals { (c : Config) (events : List Event) (past : List Entry) (end : Stand) → Answers c events past end → IsFinal past }
-    ensures strictly { (c : Config) (events : List Event) (past : List Entry) (end : Stand) → Answers c events past end → IsStrictlyRising past }
+    ensures rising { (c : Config) (events : List Event) (past : List Entry) (end : WorldState) → Answers c events past end → IsRising c past }
+    ensures finals { (c : Config) (events : List Event) (past : List Entry) (end : WorldState) → Answers c events past end → IsFinal past }
+    ensures strictly { (c : Config) (events : List Event) (past : List Entry) (end : WorldState) → Answers c events past end → IsStrictlyRising past }
 {
     hearing_is_determined();
 }
@@ -34,7 +34,7 @@ pub fn logs_are_in_order()
 /// index that the log tells, and spells what its label says. A media packet is what was sent at its place, and so is
 /// each retransmission, of one of the last places; feedback asks for places that were due.
 pub fn wires_are_faithful()
-    ensures faithful { (c : Config) → IsConfig c → (events : List Event) (past : List Entry) (end : Stand) → Answers c events past end → IsFaithful c past end.wire }
+    ensures faithful { (c : Config) → IsConfig c → (events : List Event) (past : List Entry) (end : WorldState) → Answers c events past end → IsFaithful c past end.wire }
     // The same for one datagram: its octets spell what its label says.
     ensures spelled { (c : Config) (past : List Entry) (wire : List Item) (i : ℕ) (item : Item)
         → IsFaithful c past wire → slice_get wire i ≡ Some item → SpellsLabel c past item.0 item.1.items }
@@ -47,7 +47,7 @@ pub fn wires_are_faithful()
 /// Whatever events a log answers, and whatever octets a peer injected: no place is retransmitted more often than the
 /// configuration allows.
 pub fn repeats_are_limited()
-    ensures { (c : Config) (events : List Event) (past : List Entry) (end : Stand) → Answers c events past end → (place : ℕ) → repairs_of place past ≤ c.repeats }
+    ensures { (c : Config) (events : List Event) (past : List Entry) (end : WorldState) → Answers c events past end → (place : ℕ) → repairs_of place past ≤ c.repeats }
 {
     compound_is_determined();
     feedback_is_determined();
@@ -59,8 +59,8 @@ pub fn repeats_are_limited()
 /// coming before the start, from too far, too late, twice, or where its SSRC is to be learnt unasked, and no feedback
 /// is refused. What is injected at the sender makes no difference.
 pub fn logs_are_good()
-    ensures good { (c : Config) → IsConfig c → (events : List Event) (past : List Entry) (end : Stand) → Answers c events past end → IsClose past → IsHonest past → IsGood c past end }
-    ensures beginnings { (c : Config) → IsConfig c → (events : List Event) (log : List Entry) (end : Stand) → Answers c events (reverse log) end → PlaysRightly c log end }
+    ensures good { (c : Config) → IsConfig c → (events : List Event) (past : List Entry) (end : WorldState) → Answers c events past end → IsClose past → IsHonest past → IsGood c past end }
+    ensures beginnings { (c : Config) → IsConfig c → (events : List Event) (log : List Entry) (end : WorldState) → Answers c events (reverse log) end → PlaysRightly c log end }
 {
     compound_is_determined();
     nack_is_determined();
@@ -72,8 +72,8 @@ pub fn logs_are_good()
 /// each place of the sender's is held afterwards that was missing and due, that the history has, and that may be
 /// retransmitted once more. The log stays close. A receiver that learns its SSRC is no exception.
 pub fn rounds_mend()
-    ensures { (c : Config) → IsConfig c → (before : List Event) (past : List Entry) (old : Stand) → Answers c before past old → IsClose past → IsHonest past
-        → IsMarkedUpTo (highest_taken past) old.sender → (now : ℕ) (events : List Event) (added : List Entry) (new : Stand) → IsRound now added → Adds c old events added new
+    ensures { (c : Config) → IsConfig c → (before : List Event) (past : List Entry) (old : WorldState) → Answers c before past old → IsClose past → IsHonest past
+        → IsMarkedUpTo (highest_taken past) old.sender → (now : ℕ) (events : List Event) (added : List Entry) (new : WorldState) → IsRound now added → Adds c old events added new
         → (place : ℕ) → IsMendable c (shift_of past) old place now → IsMended (shift_of (added ++ past)) new place × IsClose (added ++ past) }
 {
     compound_is_determined();
@@ -85,9 +85,9 @@ pub fn rounds_mend()
 /// A configuration and a list of events determine the rest: at most one log answers them, with one wire and one
 /// state of both ends.
 pub fn answers_are_determined()
-    ensures log { (c : Config) (events : List Event) (one other : List Entry) (end stop : Stand) → Answers c events one end → Answers c events other stop → one ≡ other }
-    ensures wire { (c : Config) (events : List Event) (one other : List Entry) (end stop : Stand) → Answers c events one end → Answers c events other stop → end.wire ≡ stop.wire }
-    ensures end { (c : Config) (events : List Event) (one other : List Entry) (end stop : Stand) → Answers c events one end → Answers c events other stop → end ≡ stop }
+    ensures log { (c : Config) (events : List Event) (one other : List Entry) (end stop : WorldState) → Answers c events one end → Answers c events other stop → one ≡ other }
+    ensures wire { (c : Config) (events : List Event) (one other : List Entry) (end stop : WorldState) → Answers c events one end → Answers c events other stop → end.wire ≡ stop.wire }
+    ensures end { (c : Config) (events : List Event) (one other : List Entry) (end stop : WorldState) → Answers c events one end → Answers c events other stop → end ≡ stop }
 {
     nack_is_determined();
     sending_is_determined();

@@ -6,7 +6,7 @@ ghost use Rattle.world.specs.Wire.{IsFaithful};
 ghost use Rattle.world.specs.Good.{PlaysRightly};
 ghost use Rattle.world.specs.Reach.{highest_taken, shift_of};
 ghost use Rattle.world.specs.Close.{IsClose, IsHonest};
-ghost use Rattle.world.specs.Round.{GoesOn, IsRound, IsBegun, IsMarkedUpTo, IsMendable, IsMended};
+ghost use Rattle.world.specs.Round.{GoesOn, IsRound, IsRoundBegun, IsMarkedUpTo, IsMendable, IsMended};
 ghost use Rattle.world.specs.World.{IsLogged, stand_of};
 
 use crate::event::{Entry, Event};
@@ -34,7 +34,7 @@ impl<H: History, W: Window> World<H, W> {
         ensures kept { self.new.sender.past.capacity ≡ self.new.config.history }
         // What was done is a round, or a beginning of one.
         ensures round { OnOk result (GoesOn self.old.config (IsRound now) (stand_of self.old) (stand_of self.new) self.old.log self.new.log) }
-        ensures err { OnErr result (GoesOn self.old.config (IsBegun now) (stand_of self.old) (stand_of self.new) self.old.log self.new.log) }
+        ensures err { OnErr result (GoesOn self.old.config (IsRoundBegun now) (stand_of self.old) (stand_of self.new) self.old.log self.new.log) }
         // The answer counts its events, and they are few.
         ensures count { IfOk result (λ count. length self.new.log ≡ length self.old.log + count) }
         ensures few { IfOk result (λ count. count ≤ 2 * self.old.config.window + 2 * self.old.config.history + 2) }
@@ -65,7 +65,7 @@ impl<H: History, W: Window> World<H, W> {
     fn ask_and_repair(&mut self, now: u64) -> Result<u64, OutOfMemory>
         ensures config { self.new.config ≡ self.old.config }
         ensures round { OnOk result (GoesOn self.old.config (IsRound now) (stand_of self.old) (stand_of self.new) self.old.log self.new.log) }
-        ensures err { OnErr result (GoesOn self.old.config (IsBegun now) (stand_of self.old) (stand_of self.new) self.old.log self.new.log) }
+        ensures err { OnErr result (GoesOn self.old.config (IsRoundBegun now) (stand_of self.old) (stand_of self.new) self.old.log self.new.log) }
         ensures count { IfOk result (λ count. length self.new.log ≡ length self.old.log + count) }
         ensures few { IfOk result (λ count. count ≤ 2 * self.old.config.window + 2 * self.old.config.history + 2) }
         ensures mended { OnOk result ((place : ℕ) → IsClose (reverse self.old.log) → IsHonest (reverse self.old.log)

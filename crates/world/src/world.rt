@@ -1,7 +1,7 @@
 //! The world: two ends, the wire and the log.
 ghost use Rattle.std.specs.Prelude.{◌≡◌, ◌↔◌, ◌≤◌, ℕ, ◌++◌, [], ◌∷◌, reverse, IsTrue, IfOk, OnOk, OnErr};
-ghost use Rattle.sender.specs.Sender.{KeepsLimit as KeepsRepeats};
-ghost use Rattle.receiver.specs.Asks.{KeepsLimit as KeepsAsks};
+ghost use Rattle.sender.specs.Sender.{RepeatsWithin};
+ghost use Rattle.receiver.specs.Asks.{AsksWithin};
 ghost use Rattle.receiver.specs.Receiver.{state_of};
 ghost use Rattle.world.specs.Config.{IsConfig};
 ghost use Rattle.world.specs.Answers.{Step, Answers};
@@ -37,7 +37,7 @@ pub struct World<H: History, W: Window> {
 impl<H: History, W: Window> Model for World<H, W> {
     ghost use Rattle.std.specs.Prelude.{◌≡◌, reverse};
     ghost use Rattle.world.specs.Config.{sending};
-    ghost use Rattle.world.specs.Close.{Tells};
+    ghost use Rattle.world.specs.Close.{TellsCloseness};
     ghost use Rattle.world.specs.World.{Recorded, IsLogged, stand_at};
 
     ghost Value = { Recorded };
@@ -47,7 +47,7 @@ impl<H: History, W: Window> Model for World<H, W> {
     ghost invariant = { λ w. (w.sender.config ≡ sending w.config) × (w.sender.past.capacity ≡ w.config.history)
         × (w.receiver.config ≡ w.config.receiver) × (w.receiver.span.capacity ≡ w.config.window)
         × IsLogged w.config w.log.items (stand_at w.sender w.wire.items w.receiver)
-        × Tells w.closeness.highest w.closeness.holds (reverse w.log.items) };
+        × TellsCloseness w.closeness.highest w.closeness.holds (reverse w.log.items) };
 }
 
 impl<H: History, W: Window> World<H, W> {
@@ -151,7 +151,7 @@ impl<H: History, W: Window> World<H, W> {
     pub fn history(&self) -> &H
         ensures past { H.meaning result.now ≡ self.now.sender.past }
         ensures capacity { self.now.sender.past.capacity ≡ self.now.config.history }
-        ensures limit { KeepsRepeats self.now.config.repeats self.now.sender.past }
+        ensures limit { RepeatsWithin self.now.config.repeats self.now.sender.past }
     {
         self.sender.history()
     }
@@ -160,7 +160,7 @@ impl<H: History, W: Window> World<H, W> {
     pub fn window(&self) -> &W
         ensures span { W.meaning result.now ≡ self.now.receiver.span }
         ensures capacity { self.now.receiver.span.capacity ≡ self.now.config.window }
-        ensures limit { KeepsAsks self.now.config.receiver.asks (state_of self.now.receiver) }
+        ensures limit { AsksWithin self.now.config.receiver.asks (state_of self.now.receiver) }
     {
         self.receiver.window()
     }

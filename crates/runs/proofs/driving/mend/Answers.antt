@@ -1,7 +1,7 @@
 use Rattle.std.proofs.Common.{◌≡◌, ◌+◌, ◌∙◌, subst, arith}
 use Rattle.world.specs.Config.{Config}
 use Rattle.runs.specs.Scene.{scene_of}
-use Rattle.runs.specs.Drive.{Phase, asking, round_from, moment_of, Reaches, Stops}
+use Rattle.runs.specs.Drive.{Phase, asking, round_from, moment_of, Reaches, StopsRun}
 use Rattle.runs.proofs.TrafficSteps.{on_err}
 use Rattle.runs.proofs.DriveSteps.{reach_then, reach_stops, round_from_below}
 use Rattle.runs.proofs.driving.mend.Goals as goal
@@ -22,7 +22,7 @@ returns-in_err-mend_once-clause-err g c =
     let begun = subst (λ (q : Phase). Reaches config plan (round_from 0) start told q mid a) (round_from_below round (omega (arith, c.loop-round-test.true))) (was.reaches plan is) in
     let at : moment_of plan round ≡ c.from.result + round = omega (arith, is, c.from.ensures) in
     reach_stops config plan (round_from 0) (asking round) start mid new told a b begun
-    (subst (λ (x : Config). Stops x plan (asking round) mid a new b) was.config (c.in_err-mend_once.ensures.err plan round at)))
+    (subst (λ (x : Config). StopsRun x plan (asking round) mid a new b) was.config (c.in_err-mend_once.ensures.err plan round at)))
 
 pub loop-round-preserved : goal.loop-round-preserved
 loop-round-preserved g c =

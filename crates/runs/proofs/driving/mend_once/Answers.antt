@@ -1,7 +1,7 @@
 use Rattle.std.proofs.Common.{◌+◌, subst}
 use Rattle.world.specs.Config.{Config}
 use Rattle.runs.specs.Scene.{scene_of}
-use Rattle.runs.specs.Drive.{asking, repairing, round_from, Reaches, Stops}
+use Rattle.runs.specs.Drive.{asking, repairing, round_from, Reaches, StopsRun}
 use Rattle.runs.proofs.TrafficSteps.{on_err, if_ok, if_err}
 use Rattle.runs.proofs.DriveSteps.{reach_then, reach_stops, ask_reaches, ask_stops}
 use Rattle.runs.proofs.driving.mend_once.Goals as goal
@@ -42,5 +42,5 @@ returns-clause-err g c =
     (λ stops plan round at.
     reach_stops config plan (asking round) (repairing round) start mid new told a b
     (ask_reaches config plan round c.args.now c.in_ok-exchange.field-0 start mid told a at c.in_ok-exchange.ensures.done)
-    (subst (λ (x : Config). Stops x plan (repairing round) mid a new b) c.in_ok-exchange.ensures.config (stops plan round at)))
+    (subst (λ (x : Config). StopsRun x plan (repairing round) mid a new b) c.in_ok-exchange.ensures.config (stops plan round at)))
     c.repair_all.ensures.err

@@ -3,7 +3,7 @@ use Rattle.world.specs.declared.event.End.TheVariants.{Receiver}
 use Rattle.world.specs.declared.event.Event.TheVariants.{Repair}
 use Rattle.world.specs.Config.{Config}
 use Rattle.runs.specs.Scene.{scene_of}
-use Rattle.runs.specs.Exchange.{Exchanges, Breaks}
+use Rattle.runs.specs.Exchange.{Exchanges, IsInterrupted}
 use Rattle.runs.specs.Marks.{first_kept}
 use Rattle.runs.specs.Drive.{repairing, round_from}
 use Rattle.runs.proofs.TrafficSteps.{on_err}
@@ -21,7 +21,7 @@ returns-in_err-exchange-clause-err g c =
     let told = g.L.Link.traffic c.args.link.now in
     let a = g.L.Link.traffic c.loop.link in
     let b = g.L.Link.traffic c.exchange.new.link in
-    let breaks = subst (λ (x : Config). Breaks x Repair Receiver old a new b) was.config c.in_err-exchange.ensures.err in
+    let breaks = subst (λ (x : Config). IsInterrupted x Repair Receiver old a new b) was.config c.in_err-exchange.ensures.err in
     on_err c.from_residual.result _
     (λ plan round at. reach_stops config plan (repairing round) (repairing round) start old new told a b (was.reaches plan round at) (repair_stops config plan round c.args.now old new a b at breaks))
 

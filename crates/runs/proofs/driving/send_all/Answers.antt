@@ -1,7 +1,7 @@
 use Rattle.std.proofs.Common.{◌+◌, ◌∙◌, subst, arith}
 use Rattle.world.specs.Config.{Config}
 use Rattle.runs.specs.Scene.{scene_of}
-use Rattle.runs.specs.Drive.{Phase, plan_of, sending, send_from, Reaches, Stops}
+use Rattle.runs.specs.Drive.{Phase, plan_of, sending, send_from, Reaches, StopsRun}
 use Rattle.runs.proofs.TrafficSteps.{on_err}
 use Rattle.runs.proofs.DriveSteps.{reach_then, reach_stops, send_from_below}
 use Rattle.runs.proofs.driving.send_all.Goals as goal
@@ -21,7 +21,7 @@ returns-in_err-send_one-clause-err g c =
     let begun = subst (λ (q : Phase). Reaches config plan (send_from plan 0) start told q mid a) (send_from_below plan number (omega (arith, c.loop-number-test.true))) was.reaches in
     on_err c.from_residual.result _
     (reach_stops config plan (send_from plan 0) (sending number) start mid new told a b begun
-    (subst (λ (x : Config). Stops x plan (sending number) mid a new b) was.config (c.in_err-send_one.ensures.err c.args.packets)))
+    (subst (λ (x : Config). StopsRun x plan (sending number) mid a new b) was.config (c.in_err-send_one.ensures.err c.args.packets)))
 
 pub loop-number-preserved : goal.loop-number-preserved
 loop-number-preserved g c =

@@ -1,7 +1,7 @@
 use Rattle.std.proofs.Common.{refl, subst}
 use Rattle.world.specs.Config.{Config}
 use Rattle.runs.specs.Scene.{scene_of}
-use Rattle.runs.specs.Drive.{plan_of, round_from, send_from, playing, Reaches, Stops}
+use Rattle.runs.specs.Drive.{plan_of, round_from, send_from, playing, Reaches, StopsRun}
 use Rattle.runs.proofs.TrafficSteps.{if_ok, if_err}
 use Rattle.runs.proofs.DriveSteps.{reach_then, reach_stops}
 use Rattle.runs.proofs.driving.send_and_mend.Goals as goal
@@ -29,5 +29,5 @@ returns-clause-err g c =
     if_err c.mend.result _ _
     (λ stops.
     reach_stops c.args.world.now.config plan (send_from plan 0) (round_from 0) (scene_of c.args.world.now) sent new (g.L.Link.traffic c.args.link.now) a b c.in_ok-send_all.ensures.done
-    (subst (λ (x : Config). Stops x plan (round_from 0) sent a new b) c.in_ok-send_all.ensures.config (stops plan refl)))
+    (subst (λ (x : Config). StopsRun x plan (round_from 0) sent a new b) c.in_ok-send_all.ensures.config (stops plan refl)))
     c.mend.ensures.err

@@ -4,7 +4,7 @@ use Rattle.world.specs.declared.event.Event.TheVariants.{Send}
 use Rattle.world.specs.Schedule.{numbered_content}
 use Rattle.rtpwire.specs.declared.content.Content.{Content}
 use Rattle.runs.specs.Scene.{Happens, scene_of}
-use Rattle.runs.specs.Exchange.{Exchanges, Breaks}
+use Rattle.runs.specs.Exchange.{Exchanges, IsInterrupted}
 use Rattle.runs.specs.Drive.{plan_of, sending}
 use Rattle.runs.proofs.TrafficSteps.{on_err}
 use Rattle.runs.proofs.DriveSteps.{stops_here, send_reaches, send_stops, drop_reaches}
@@ -24,7 +24,7 @@ returns-in_err-exchange-clause-err g c =
     let a = g.L.Link.traffic c.args.link.now in
     let b = g.L.Link.traffic c.exchange.new.link in
     let content : c.numbered_content.result ≡ numbered_content c.args.number = c.numbered_content.ensures ∙ ap numbered_content c.from-moment.ensures in
-    let breaks = subst (λ (x : Content). Breaks c.args.world.now.config (Send x 0) Receiver old a new b) content c.in_err-exchange.ensures.err in
+    let breaks = subst (λ (x : Content). IsInterrupted c.args.world.now.config (Send x 0) Receiver old a new b) content c.in_err-exchange.ensures.err in
     on_err c.from_residual-in_err-exchange.result _
     (λ packets. send_stops c.args.world.now.config (plan_of packets c.args.drop.now) c.args.number old new a b (sym c.contains.ensures.value ∙ c.if-contains.false) breaks)
 

@@ -1,7 +1,7 @@
 use Rattle.std.proofs.Common.{true, false, [], ◌∷◌, Some, None, refl, sym, subst}
 use Rattle.world.specs.World.{Recorded}
 use Rattle.runs.specs.declared.link.Transfer.TheVariants.{Put, Receipt, Nothing}
-use Rattle.runs.specs.Exchange.{IsBegun}
+use Rattle.runs.specs.Exchange.{IsHandOverBegun}
 use Rattle.runs.proofs.TrafficSteps.{on_err, grows_then, grows_receipt}
 use Rattle.runs.proofs.exchange.hand.Goals as goal
 
@@ -19,7 +19,7 @@ returns-in_err-happen-clause-err g c =
     let begun = Put c.args.to put.0 ∷ Receipt c.args.to c.recv.new.into ∷ [] in
     on_err c.from_residual-in_err-happen.result _ (
       begun,
-      subst (λ (w : Recorded). IsBegun c.args.to c.args.index w.wire begun) (sym c.in_err-happen.ensures.err) (refl, put.1, refl),
+      subst (λ (w : Recorded). IsHandOverBegun c.args.to c.args.index w.wire begun) (sym c.in_err-happen.ensures.err) (refl, put.1, refl),
       grows_receipt c.in_ok-recv.field-0 true c.args.to put.0 c.recv.new.into (g.L.Link.traffic c.args.link.now) (g.L.Link.traffic c.put.new.link) (g.L.Link.traffic c.recv.new.self) c.if-branch.true put.2 c.in_ok-recv.ensures.came,
     )
 

@@ -6,7 +6,7 @@ use Rattle.world.specs.Answers.{Step}
 use Rattle.world.specs.Config.{Config}
 use Rattle.world.specs.Reach.{shift_of}
 use Rattle.world.specs.Close.{IsClose}
-use Rattle.world.specs.Round.{IsAsking, IsRepairing, IsBegun, IsMended}
+use Rattle.world.specs.Round.{IsAsking, IsRepairing, IsRoundBegun, IsMended}
 use Rattle.world.specs.World.{Recorded, stand_of}
 use Rattle.world.proofs.Simulates.{Laws}
 use Rattle.world.proofs.Totals.{asks_left_most, marks_left_most}
@@ -28,8 +28,8 @@ returns-in_err-advance-clause-err g c =
     let told = rw c.in-Some.is at c.in_ok-ask.ensures.asked in
     let step = subst (λ (x : Config). Step x (stand_of c.loop-ask.self) (Ask c.args.now) (Asked c.in-Some.ask c.args.now) (stand_of c.ask_once.new.self)) config told.0 in
     on_err c.from_residual-in_err-advance.result _
-    (goes_same c.args.self.now.config (IsBegun c.args.now) (stand_of c.args.self.now) (stand_of c.ask_once.new.self) (stand_of c.advance.new.self) c.args.self.now.log c.ask_once.new.self.log c.advance.new.self.log
-    (goes_on c.args.self.now.config (IsAsking c.args.now) (IsBegun c.args.now) (stand_of c.args.self.now) (stand_of c.loop-ask.self) (stand_of c.ask_once.new.self) c.args.self.now.log c.loop-ask.self.log c.ask_once.new.self.log (Ask c.args.now) (Asked c.in-Some.ask c.args.now) c.loop-ask.invariant.goes_on step told.1 (λ added kind. (refl, kind)))
+    (goes_same c.args.self.now.config (IsRoundBegun c.args.now) (stand_of c.args.self.now) (stand_of c.ask_once.new.self) (stand_of c.advance.new.self) c.args.self.now.log c.ask_once.new.self.log c.advance.new.self.log
+    (goes_on c.args.self.now.config (IsAsking c.args.now) (IsRoundBegun c.args.now) (stand_of c.args.self.now) (stand_of c.loop-ask.self) (stand_of c.ask_once.new.self) c.args.self.now.log c.loop-ask.self.log c.ask_once.new.self.log (Ask c.args.now) (Asked c.in-Some.ask c.args.now) c.loop-ask.invariant.goes_on step told.1 (λ added kind. (refl, kind)))
     (ap stand_of c.in_err-advance.ensures.err) (ap (λ (w : Recorded). w.log) c.in_err-advance.ensures.err))
 
 pub loop-ask-smaller : goal.loop-ask-smaller
@@ -91,8 +91,8 @@ loop-repair-init g c =
 pub returns-in_err-repair-clause-err : goal.returns-in_err-repair-clause-err
 returns-in_err-repair-clause-err g c =
     on_err c.from_residual-in_err-repair.result _
-    (goes_same c.args.self.now.config (IsBegun c.args.now) (stand_of c.args.self.now) (stand_of c.loop-repair.self) (stand_of c.repair_once.new.self) c.args.self.now.log c.loop-repair.self.log c.repair_once.new.self.log
-    (goes_as c.args.self.now.config (IsRepairing c.args.now) (IsBegun c.args.now) (stand_of c.args.self.now) (stand_of c.loop-repair.self) c.args.self.now.log c.loop-repair.self.log (repairing_begun c.args.now) c.loop-repair.invariant.goes_on)
+    (goes_same c.args.self.now.config (IsRoundBegun c.args.now) (stand_of c.args.self.now) (stand_of c.loop-repair.self) (stand_of c.repair_once.new.self) c.args.self.now.log c.loop-repair.self.log c.repair_once.new.self.log
+    (goes_as c.args.self.now.config (IsRepairing c.args.now) (IsRoundBegun c.args.now) (stand_of c.args.self.now) (stand_of c.loop-repair.self) c.args.self.now.log c.loop-repair.self.log (repairing_begun c.args.now) c.loop-repair.invariant.goes_on)
     (ap stand_of c.in_err-repair.ensures.err) (ap (λ (w : Recorded). w.log) c.in_err-repair.ensures.err))
 
 pub returns-in_err-advance-2-clause-err : goal.returns-in_err-advance-2-clause-err
@@ -101,8 +101,8 @@ returns-in_err-advance-2-clause-err g c =
     let told = rw c.in-Some-2.is at c.in_ok-repair.ensures.repaired in
     let step = subst (λ (x : Config). Step x (stand_of c.loop-repair.self) Retransmit (Repaired told.0 c.in-Some-2.repair) (stand_of c.repair_once.new.self)) config told.1 in
     on_err c.from_residual-in_err-advance-2.result _
-    (goes_same c.args.self.now.config (IsBegun c.args.now) (stand_of c.args.self.now) (stand_of c.repair_once.new.self) (stand_of c.advance-in-Some-2.new.self) c.args.self.now.log c.repair_once.new.self.log c.advance-in-Some-2.new.self.log
-    (goes_on c.args.self.now.config (IsRepairing c.args.now) (IsBegun c.args.now) (stand_of c.args.self.now) (stand_of c.loop-repair.self) (stand_of c.repair_once.new.self) c.args.self.now.log c.loop-repair.self.log c.repair_once.new.self.log Retransmit (Repaired told.0 c.in-Some-2.repair) c.loop-repair.invariant.goes_on step told.2 (λ added kind. kind))
+    (goes_same c.args.self.now.config (IsRoundBegun c.args.now) (stand_of c.args.self.now) (stand_of c.repair_once.new.self) (stand_of c.advance-in-Some-2.new.self) c.args.self.now.log c.repair_once.new.self.log c.advance-in-Some-2.new.self.log
+    (goes_on c.args.self.now.config (IsRepairing c.args.now) (IsRoundBegun c.args.now) (stand_of c.args.self.now) (stand_of c.loop-repair.self) (stand_of c.repair_once.new.self) c.args.self.now.log c.loop-repair.self.log c.repair_once.new.self.log Retransmit (Repaired told.0 c.in-Some-2.repair) c.loop-repair.invariant.goes_on step told.2 (λ added kind. kind))
     (ap stand_of c.in_err-advance-2.ensures.err) (ap (λ (w : Recorded). w.log) c.in_err-advance-2.ensures.err))
 
 pub loop-repair-smaller : goal.loop-repair-smaller
