@@ -1,4 +1,4 @@
-pub mod ReceiverState
+pub mod Window
 pub mod Asks
 pub mod Counted
 pub mod Streams

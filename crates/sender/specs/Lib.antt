@@ -1,6 +1,6 @@
 pub mod Config
 pub mod Fault
-pub mod SenderState
+pub mod History
 pub mod Sender
 pub mod Sending
 pub mod Feedback
