@@ -27,7 +27,7 @@ use denote.Triple.Clauses.{Ended, Clauses, closing, Lasts, at_exit, lasts}
 use denote.Triple.End.{Kepts, Fins}
 use denote.Triple.Entry.{Res, alive}
 use denote.Triple.Spec.{triple_of}
-use denote.Triple.Walked.{Stays, stay_dropped, fits_of, has_of, walk_of, ends_at, GoesThrough, GoesThrough-dropped}
+use denote.Triple.Walked.{Stays, stay_dropped, fits_of, has_of, walk_of, ends_at, Goes, Goes-dropped}
 use Rattle.std.specs.contracts.alloc.Global as heap
 use Rattle.std.proofs.Handle.{heap_val}
 use Rattle.gozdrit.specs.Lying.{value_lies_at, slice_lies_at}
@@ -80,14 +80,14 @@ module _ {M : Type 1} {𝓤 : Ura M} (𝓛 : Logic 𝓤) (T : Ended) (c : Clause
       use0 𝓛 (raw (alive 𝓛 T.signature y.0.0 y.0.1)) none $ join ! $ done !
 
 module _ {M : Type 1} {𝓤 : Ura M} (𝓛 : Logic 𝓤) where
-  pub gone_ptr : GoesThrough 𝓛 0 (plain (λ _. RawPtr)) yes (stay_dropped (plain (λ _. RawPtr)) yes)
-  gone_ptr = GoesThrough-dropped 𝓛 0 (plain (λ _. RawPtr)) yes (λ κs x w. refl)
+  pub gone_ptr : Goes 𝓛 0 (plain (λ _. RawPtr)) yes (stay_dropped (plain (λ _. RawPtr)) yes)
+  gone_ptr = Goes-dropped 𝓛 0 (plain (λ _. RawPtr)) yes (λ κs x w. refl)
 
-  pub gone_int : (w : Width) → GoesThrough 𝓛 0 (plain (λ _. UInt w)) yes (stay_dropped (plain (λ _. UInt w)) yes)
-  gone_int w = GoesThrough-dropped 𝓛 0 (plain (λ _. UInt w)) yes (λ κs x w'. refl)
+  pub gone_int : (w : Width) → Goes 𝓛 0 (plain (λ _. UInt w)) yes (stay_dropped (plain (λ _. UInt w)) yes)
+  gone_int w = Goes-dropped 𝓛 0 (plain (λ _. UInt w)) yes (λ κs x w'. refl)
 
-  pub gone_sint : (w : Width) → GoesThrough 𝓛 0 (plain (λ _. SInt w)) yes (stay_dropped (plain (λ _. SInt w)) yes)
-  gone_sint w = GoesThrough-dropped 𝓛 0 (plain (λ _. SInt w)) yes (λ κs x w'. refl)
+  pub gone_sint : (w : Width) → Goes 𝓛 0 (plain (λ _. SInt w)) yes (stay_dropped (plain (λ _. SInt w)) yes)
+  gone_sint w = Goes-dropped 𝓛 0 (plain (λ _. SInt w)) yes (λ κs x w'. refl)
 
-  pub gone_heap : GoesThrough 𝓛 0 (plain (λ _. heap.the_row)) yes (stay_dropped (plain (λ _. heap.the_row)) yes)
-  gone_heap = GoesThrough-dropped 𝓛 0 (plain (λ _. heap.the_row)) yes (λ κs x w. refl)
+  pub gone_heap : Goes 𝓛 0 (plain (λ _. heap.the_row)) yes (stay_dropped (plain (λ _. heap.the_row)) yes)
+  gone_heap = Goes-dropped 𝓛 0 (plain (λ _. heap.the_row)) yes (λ κs x w. refl)

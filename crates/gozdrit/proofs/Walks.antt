@@ -18,7 +18,7 @@ pub use denote.Plain.{bool_Makes}
 pub use denote.RawPtr.{tests_null}
 pub use denote.Signature.{plain, mut_ref_to, mut_slice_of}
 pub use denote.Steps.{nothing, heard}
-pub use denote.Triple.Walked.{says, GoesThrough-ref, GoesThrough-spent_ref}
+pub use denote.Triple.Walked.{says, Goes-ref, Goes-spent_ref}
 pub use mir.MapTy.{inst_fn}
 pub use mir.Syntax.{Args, a_type}
 pub use types.Kit.{‵, raw, at_ret, ◌⊛◌, ◌$◌, ◌∵◌, !, qed, by, move, drop, done, rewrite}

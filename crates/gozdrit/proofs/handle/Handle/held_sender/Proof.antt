@@ -11,7 +11,7 @@ use types.ByLocal.{alloc_all, pass_all, free_all, look_at, get, get_in, sets}
 use types.Kit.{‵, raw, ◌⊛◌, ◌$◌, ◌∵◌, !, qed, by, move, keep, drop, use0, split, fsplit, fjoin, rewrite}
 use types.Part.{agg, sub, whole}
 use types.Run.{enter, of_opd, stop, fld, no_more, and_then, returns}
-use Rattle.std.proofs.alloc.Calls.{GoesThrough-blank}
+use Rattle.std.proofs.alloc.Calls.{Goes-blank}
 use Rattle.std.proofs.raw_atomic.Walks.{proved}
 use Rattle.gozdrit.proofs.Exports.{drops, leave}
 use Rattle.gozdrit.proofs.LentMemory.{ptr_good}
@@ -25,7 +25,7 @@ use Rattle.gozdrit.proofs.handle.Handle.held_sender.Code as code
 pub held_sender_spec : {M : Type 1} → statement M
 held_sender_spec 𝓤 𝓛 𝓜 𝓡 wired =
     let E = f.ended in let c = f.clauses 𝓛 𝓜.mem 𝓡.returns in let 𝓣 = tables 𝓤 𝓛.H 𝓜 𝓡 𝓡.env in
-    proved 𝓛 E (drops E.signature.params E.kept) c 𝓜 𝓡 (GoesThrough-blank 𝓛 0 (plain (λ _. handle.the_row)) E.kept.0 (λ κs x w. tt), tt) f.Key.name code.function (code.unfolded 𝓤 𝓛.H 𝓜 𝓡 wired)
+    proved 𝓛 E (drops E.signature.params E.kept) c 𝓜 𝓡 (Goes-blank 𝓛 0 (plain (λ _. handle.the_row)) E.kept.0 (λ κs x w. tt), tt) f.Key.name code.function (code.unfolded 𝓤 𝓛.H 𝓜 𝓡 wired)
     (λ κs. ((λ d. held_val d.at ∷ []), tt)) (λ κs. ((λ d vs is. held_told d.at d.alloc vs is.0), tt)) (λ κs qs bounds a x are.
     let d = a.0 in let vals = held_val d.at ∷ [] in
     qed 𝓛 ((‵ ftrue ⊛ ‵ (owns (types_at E.signature.params κs) a (vals, tt))) ∷ raw (fact 𝓤 (IsSender d.inside)) ∷ []) ∵ move ! (1 ∷ []) $ heard ! (IsSender d.inside) (λ is. split ! $ drop ! $ fsplit ! $ fsplit ! $ drop ! $

@@ -1,5 +1,5 @@
 -- `get` lends the value, and `self` follows it.
-use Rattle.gozdrit.proofs.Walks.{ℕ, [], ◌∷◌, refl, sym, word, tables, no, param, layouts, Ptr, vptr, after, plain, mut_ref_to, says, asked, GoesThrough-spent_ref, inst_fn, a_type, raw, at_ret, ‵, ◌$◌, ◌∵◌, !, qed, by, move, done, rewrite, whole, sub, look_in, enter, of_opd, addr, stop, fld, hop, first, blocks, exec, returns, alloc_all, pass_all, free_all, look_at, get, through, sets, sets_last, env, leaves_it, Walk, bound, Self, Cell, walks, lent_out, follows, with_value, Lent, value_opens, value_there, value_lends}
+use Rattle.gozdrit.proofs.Walks.{ℕ, [], ◌∷◌, refl, sym, word, tables, no, param, layouts, Ptr, vptr, after, plain, mut_ref_to, says, asked, Goes-spent_ref, inst_fn, a_type, raw, at_ret, ‵, ◌$◌, ◌∵◌, !, qed, by, move, done, rewrite, whole, sub, look_in, enter, of_opd, addr, stop, fld, hop, first, blocks, exec, returns, alloc_all, pass_all, free_all, look_at, get, through, sets, sets_last, env, leaves_it, Walk, bound, Self, Cell, walks, lent_out, follows, with_value, Lent, value_opens, value_there, value_lends}
 use Rattle.gozdrit.specs.contracts.lent.Lent.get as f
 use Rattle.gozdrit.proofs.lent.Lent.get.Statement.{statement}
 use Rattle.gozdrit.proofs.lent.Lent.get.Code as code
@@ -8,7 +8,7 @@ pub get_spec : {M : Type 1} → statement M
 get_spec 𝓤 𝓛 𝓜 𝓡 wired X LX =
     let args = layouts (a_type ∷ []) (X, tt) in let R = param 0 X in let P = Lent R in let Q = mut_ref_to (0 ∷ []) tt (plain (λ _. R)) in let c = f.clauses X 𝓛 𝓜.mem 𝓡.returns in
     let F = inst_fn args code.function in let 𝓣 = tables 𝓤 𝓛.H 𝓜 𝓡 𝓡.env in let E = env F.locals in
-    walks 𝓛 P Q no (leaves_it P Q) c (GoesThrough-spent_ref 𝓛 2 (0 ∷ []) tt (plain (λ _. P)), tt) 𝓜 𝓡 (f.Key.name args) F (code.unfolded 𝓤 𝓛.H 𝓜 𝓡 wired (X, tt)) (λ κs qs bounds a g.
+    walks 𝓛 P Q no (leaves_it P Q) c (Goes-spent_ref 𝓛 2 (0 ∷ []) tt (plain (λ _. P)), tt) 𝓜 𝓡 (f.Key.name args) F (code.unfolded 𝓤 𝓛.H 𝓜 𝓡 wired (X, tt)) (λ κs qs bounds a g.
     let d = a.0.now in let Post = Walk 𝓛 P Q no (leaves_it P Q) c (bound 𝓛 P Q no (leaves_it P Q) c κs qs bounds a g) in let Ends = λ (δ : ℕ). follows P R a.0.ghost_name δ (with_value d) in
     qed 𝓛 (Self 𝓛 P κs qs a.0 ∷ raw ((c κs a).requires g) ∷ []) ∵ move ! (1 ∷ []) $ asked ! (λ some.
     enter ! _ _ _ _ _ $ alloc_all ! (λ l. pass_all ! refl ((tt, tt), tt) $ value_opens R ! tt κs qs a.0 (λ may. move ! (1 ∷ []) $ value_there R ! d.at d.value some (λ b o x at is low.

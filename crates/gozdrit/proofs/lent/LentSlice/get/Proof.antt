@@ -1,5 +1,5 @@
 -- `get` lends the values, and the slice follows them.
-use Rattle.gozdrit.proofs.Walks.{[], ◌∷◌, refl, sym, subst, arith, ℕ, ◌<◌, ◌*◌, ◌^◌, lit<, tables, no, param, layouts, Ptr, block_ptr, null_ptr, slice_val, tests_null, after, plain, mut_slice_of, says, asked, GoesThrough-spent_ref, inst_fn, a_type, raw, at_ret, ‵, ◌$◌, ◌∵◌, !, qed, by, move, done, nothing, rewrite, whole, sub, look_in, agg, enter, of_opd, lit, bin, load, addr, stop, fld, first, blocks, branches, exec, no_more, and_then, returns, alloc_all, pass_all, free_all, look_at, get, through, sets, sets_last, env, leaves_it, Walk, bound, Self, Cell, walks, lent_out, Array, follows, with_items, LentSlice, lent_slice_val, slice_opens, slice_begins, slice_lends}
+use Rattle.gozdrit.proofs.Walks.{[], ◌∷◌, refl, sym, subst, arith, ℕ, ◌<◌, ◌*◌, ◌^◌, lit<, tables, no, param, layouts, Ptr, block_ptr, null_ptr, slice_val, tests_null, after, plain, mut_slice_of, says, asked, Goes-spent_ref, inst_fn, a_type, raw, at_ret, ‵, ◌$◌, ◌∵◌, !, qed, by, move, done, nothing, rewrite, whole, sub, look_in, agg, enter, of_opd, lit, bin, load, addr, stop, fld, first, blocks, branches, exec, no_more, and_then, returns, alloc_all, pass_all, free_all, look_at, get, through, sets, sets_last, env, leaves_it, Walk, bound, Self, Cell, walks, lent_out, Array, follows, with_items, LentSlice, lent_slice_val, slice_opens, slice_begins, slice_lends}
 use native.Mathlib.Nat.{zero-mul}
 use Rattle.std.specs.Mem.{type_size}
 use Rattle.gozdrit.specs.contracts.lent.LentSlice.get as f
@@ -10,7 +10,7 @@ pub get_spec : {M : Type 1} → statement M
 get_spec 𝓤 𝓛 𝓜 𝓡 wired X LX =
     let args = layouts (a_type ∷ []) (X, tt) in let R = param 0 X in let P = LentSlice R in let Q = mut_slice_of (0 ∷ []) tt (plain (λ _. R)) in let c = f.clauses X 𝓛 𝓜.mem 𝓡.returns in
     let F = inst_fn args code.function in let 𝓣 = tables 𝓤 𝓛.H 𝓜 𝓡 𝓡.env in let E = env F.locals in
-    walks 𝓛 P Q no (leaves_it P Q) c (GoesThrough-spent_ref 𝓛 2 (0 ∷ []) tt (plain (λ _. P)), tt) 𝓜 𝓡 (f.Key.name args) F (code.unfolded 𝓤 𝓛.H 𝓜 𝓡 wired (X, tt)) (λ κs qs bounds a g.
+    walks 𝓛 P Q no (leaves_it P Q) c (Goes-spent_ref 𝓛 2 (0 ∷ []) tt (plain (λ _. P)), tt) 𝓜 𝓡 (f.Key.name args) F (code.unfolded 𝓤 𝓛.H 𝓜 𝓡 wired (X, tt)) (λ κs qs bounds a g.
     let m = a.0 in let d = m.now in let Post = Walk 𝓛 P Q no (leaves_it P Q) c (bound 𝓛 P Q no (leaves_it P Q) c κs qs bounds a g) in let Ends = λ (δ : ℕ). follows P (Array R 0) m.ghost_name δ (with_items d) in
     qed 𝓛 (Self 𝓛 P κs qs m ∷ raw ((c κs a).requires g) ∷ []) ∵ move ! (1 ∷ []) $ asked ! (λ some.
     enter ! _ _ _ _ _ $ alloc_all ! (λ l. pass_all ! refl ((tt, tt), tt) $ slice_opens R ! tt κs qs m (λ fits. move ! (1 ∷ []) $ slice_begins R ! d.at d.len d.items some

@@ -23,7 +23,7 @@ use types.ByLocal.{alloc_all, pass_all, free_all, look_at, get, get_in, sets, la
 use types.Kit.{‵, raw, ◌⊛◌, at_ret, ◌$◌, ◌∵◌, !, qed, move, drop, use1, split, split3, join, group, fsplit, fjoin, feq_i, suffices, done}
 use types.Part.{sub, whole}
 use types.Run.{enter, of_opd, stop, fld, no_more, and_then, first, blocks, exec, returns}
-use Rattle.std.proofs.alloc.Calls.{GoesThrough-blank}
+use Rattle.std.proofs.alloc.Calls.{Goes-blank}
 use Rattle.std.proofs.alloc.Shapes.{after}
 use Rattle.std.proofs.Handle.{heap_val}
 use Rattle.std.proofs.RcSteps.{Good}
@@ -49,7 +49,7 @@ put_together_spec 𝓤 𝓛 𝓜 𝓡 wired T L =
     let known = met 𝓤 𝓛 𝓜 𝓡 (code.calls-std_alloc::boxed::Box::from_raw 𝓡.env wired) T Passed L passed_laws ghosts dict let_go
     (passed 𝓡.env (code.calls-std_heap::GlobalAllocator::allocate 𝓡.env wired) (code.calls-std_heap::GlobalAllocator::deallocate 𝓡.env wired) (code.calls-std_heap::GlobalAllocator::grow 𝓡.env wired) (code.calls-std_heap::GlobalAllocator::shrink 𝓡.env wired) _ 𝓤 𝓛 𝓜 𝓡)
     (none.glues 𝓡.env (code.calls-gozdrit::Destruct++none::drop 𝓡.env wired) Passed passed_laws _ 𝓤 𝓛 𝓜 𝓡) in
-    proved 𝓛 E hs c 𝓜 𝓡 (GoesThrough-blank 𝓛 1 (plain (λ _. unboxed.the_row (param 0 T))) E.kept.0 (λ κs x w. tt), tt) (f.Key.name args) fn (code.unfolded 𝓤 𝓛.H 𝓜 𝓡 wired (T, tt))
+    proved 𝓛 E hs c 𝓜 𝓡 (Goes-blank 𝓛 1 (plain (λ _. unboxed.the_row (param 0 T))) E.kept.0 (λ κs x w. tt), tt) (f.Key.name args) fn (code.unfolded 𝓤 𝓛.H 𝓜 𝓡 wired (T, tt))
     (λ κs. ((λ d. held_val d.at ∷ []), tt)) (λ κs. ((λ d vs is. held_told d.at d.heap vs is.0), tt)) (λ κs qs bounds a x are.
     let d = a.0 in let κ = κs.0 in let q = qs.0 in let vals : List Val = held_val d.at ∷ [] in
     let G = triple_of 𝓛 (g.signature T Passed ghosts dict let_go) (g.spec T Passed ghosts dict let_go 𝓛 𝓜.mem 𝓡.returns) in

@@ -20,7 +20,7 @@ use types.Kit.{‵, raw, ◌⊛◌, ◌$◌, ◌∵◌, !, qed, move, drop, use0
 use types.Part.{agg, sub, whole}
 use types.Run.{enter, of_opd, stop, fld, no_more, and_then, returns}
 use types.ByLocal.{alloc_all, pass_all, free_all, look_at, get, get_in, sets, lands_as}
-use Rattle.std.proofs.alloc.Calls.{GoesThrough-blank}
+use Rattle.std.proofs.alloc.Calls.{Goes-blank}
 use Rattle.std.proofs.raw_atomic.Walks.{proved, leaves}
 use Rattle.std.specs.contracts.alloc.Global.{the_row as Heap}
 use Rattle.std.specs.contracts.impls.GlobalAllocator.TheImpl.{ghosts, dict}
@@ -45,7 +45,7 @@ take_apart_spec 𝓤 𝓛 𝓜 𝓡 wired T L dx glue =
     let known = met 𝓤 𝓛 𝓜 𝓡 (code.calls-std_alloc::boxed::Box::into_raw_with_allocator 𝓡.env wired) T Passed L passed_laws ghosts dict let_go dx
     (passed 𝓡.env (code.calls-std_heap::GlobalAllocator::allocate 𝓡.env wired) (code.calls-std_heap::GlobalAllocator::deallocate 𝓡.env wired) (code.calls-std_heap::GlobalAllocator::grow 𝓡.env wired) (code.calls-std_heap::GlobalAllocator::shrink 𝓡.env wired) _ 𝓤 𝓛 𝓜 𝓡)
     (none.glues 𝓡.env (code.calls-gozdrit::Destruct++none::drop 𝓡.env wired) Passed passed_laws _ 𝓤 𝓛 𝓜 𝓡) glue in
-    proved 𝓛 E hs c 𝓜 𝓡 (GoesThrough-blank 𝓛 1 (plain (λ _. box.the_row (param 0 T) Heap ghosts)) E.kept.0 (λ κs x w. tt), tt) (f.Key.name args) fn (code.unfolded 𝓤 𝓛.H 𝓜 𝓡 wired (T, tt) dx)
+    proved 𝓛 E hs c 𝓜 𝓡 (Goes-blank 𝓛 1 (plain (λ _. box.the_row (param 0 T) Heap ghosts)) E.kept.0 (λ κs x w. tt), tt) (f.Key.name args) fn (code.unfolded 𝓤 𝓛.H 𝓜 𝓡 wired (T, tt) dx)
     (λ κs. ((λ d. held_val d.ptr ∷ []), tt)) (λ κs. ((λ d vs is. held_told d.ptr d.alloc vs is.0), tt)) (λ κs qs bounds a x are.
     let v = a.0 in let κ = κs.0 in let q = qs.0 in let G = triple_of 𝓛 (g.signature T Passed ghosts dict let_go dx) (g.spec T Passed ghosts dict let_go dx 𝓛 𝓜.mem 𝓡.returns) in
     let z : G.Ghost = (((κ, ([], tt)), (q, (full_share, tt)), tt, a, (held_val v.ptr ∷ [], tt)), tt) in
