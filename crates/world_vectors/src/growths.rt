@@ -85,11 +85,7 @@ fn told<H: History, W: Window>(
 }
 
 /// The world after some events, if there was memory for it.
-fn ran(
-    alloc: Global,
-    config: &Config,
-    events: &[Event],
-) -> Option<World<ListHistory, ListWindow>> {
+fn ran(alloc: Global, config: &Config, events: &[Event]) -> Option<World<ListHistory, ListWindow>> {
     run(alloc, config, events).ok()
 }
 

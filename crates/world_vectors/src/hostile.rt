@@ -177,7 +177,10 @@ fn each_beginning(rt: HostRuntime) -> Result<(), Fail> {
     let session = started(rt.alloc())?;
     for line in DATAGRAMS.lines() {
         let datagram = datagram_of(line)?;
-        assert!(rt; refuse_beginnings(rt.alloc(), &session, datagram.as_slice()), "{line}");
+        assert!(rt;
+            refuse_beginnings(rt.alloc(), &session, datagram.as_slice()),
+            "{line}"
+        );
     }
     Ok(())
 }
@@ -209,7 +212,10 @@ fn each_bit(rt: HostRuntime) -> Result<(), Fail> {
     for line in DATAGRAMS.lines() {
         let mut datagram = datagram_of(line)?;
         for at in 0..datagram.len() {
-            assert!(rt; refuse_bits(rt.alloc(), &session, &mut datagram, at), "{line}");
+            assert!(rt;
+                refuse_bits(rt.alloc(), &session, &mut datagram, at),
+                "{line}"
+            );
         }
     }
     Ok(())

@@ -92,11 +92,7 @@ fn misses<H: History, W: Window>(world: &World<H, W>, count: &str) -> bool {
 }
 
 /// Does what stands before `=> `, and tells whether it is so.
-fn obeys<H: History, W: Window>(
-    world: &mut World<H, W>,
-    told: &mut usize,
-    command: &str,
-) -> bool {
+fn obeys<H: History, W: Window>(world: &mut World<H, W>, told: &mut usize, command: &str) -> bool {
     if let Some(words) = command.strip_prefix("times ") {
         let done = repeats_words(world, words);
         *told = world.log().len();
