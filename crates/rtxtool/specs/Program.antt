@@ -1,5 +1,5 @@
 -- What a run of the program did, and what it means that it did not.
-use Rattle.std.specs.Prelude.{◌≡◌, ℕ, ◌⊎◌, false, List, [], Option, Some, None, codes}
+use Rattle.std.specs.Prelude.{◌≡◌, ℕ, ◌⊎◌, Bool, true, false, List, [], Option, Some, None, codes}
 use Rattle.std.specs.Option.{IfSome}
 use Rattle.std.specs.Io.KnownBytes.{Appends}
 use Rattle.clap.specs.Words.{IsAmong, Text, fault_of, takes}
@@ -50,17 +50,28 @@ PrintedLoop packets drops old new =
     (list : List ℕ) × (told : Option (List Transfer)) × (telling : Option (List Transfer)) × (tally : Tally)
     × (drops_of drops packets ≡ Some list) × RunsOverLink packets list told telling tally × Appends old new (tally_line (codes "dropped") tally)
 
--- What stands in each file, where that is known.
-abbrev pub Files : Type 0
-Files = Text → Option (List ℕ)
+-- What is known of where the program runs: what stands in each file that can be opened, whether there is an output, and
+-- whether a link can be had.
+pub record Known : Type 0 where
+  pub files : Text → Option (List ℕ)
+  pub output : Option Bool
+  pub link : Option Bool
+
+-- where nothing is known
+abbrev pub unknown : Known
+unknown = record { files = λ file. None; output = None; link = None }
+
+-- nothing tells that it is not there
+abbrev pub MayBe : Option Bool → Type 0
+MayBe there = IfSome there (λ is. is ≡ true)
 
 -- All that was asked for was done.
-abbrev pub Does : Asked → Files → (old new : Option (List ℕ)) → Type 0
-Does (Sims file) files old new = IfSome (files file) (λ text. PrintedAll text old new)
-Does (Shows file) files old new = IfSome (files file) (λ trace. ShowedAll trace old new)
-Does (Packs places) files old new = WrotePacking places old new
-Does (Soaks seed packets loss) files old new = PrintedTally seed packets loss old new
-Does (asks.Loops packets drops) files old new = PrintedLoop packets drops old new
+abbrev pub Does : Asked → Known → (old new : Option (List ℕ)) → Type 0
+Does (Sims file) known old new = IfSome (known.files file) (λ text. PrintedAll text old new)
+Does (Shows file) known old new = IfSome (known.files file) (λ trace. ShowedAll trace old new)
+Does (Packs places) known old new = WrotePacking places old new
+Does (Soaks seed packets loss) known old new = PrintedTally seed packets loss old new
+Does (asks.Loops packets drops) known old new = MayBe known.output × MayBe known.link × PrintedLoop packets drops old new
 
 -- ---- what each prints of an input that is refused
 
@@ -78,12 +89,12 @@ RefusesPacking NotRising places old new = WroteNone places old new
 RefusesPacking _ places old new = Unit {0}
 
 -- The input was refused: the line or the frame is told, and what stands before it was printed. A drawn run has no input.
-abbrev pub Refuses : Asked → Files → (old new : Option (List ℕ)) → Type 0
-Refuses (Sims file) files old new = IfSome (files file) (λ text. (line : ℕ) × PrintedBefore (BadLine line) text old new)
-Refuses (Shows file) files old new = IfSome (files file) (λ trace. (number : ℕ) × (IsCut number trace old new ⊎ IsTooLong number trace old new))
-Refuses (Packs places) files old new = WroteNone places old new
-Refuses (Soaks seed packets loss) files old new = ⊥
-Refuses (asks.Loops packets drops) files old new = (drops_of drops packets ≡ None) × Appends old new []
+abbrev pub Refuses : Asked → Known → (old new : Option (List ℕ)) → Type 0
+Refuses (Sims file) known old new = IfSome (known.files file) (λ text. (line : ℕ) × PrintedBefore (BadLine line) text old new)
+Refuses (Shows file) known old new = IfSome (known.files file) (λ trace. (number : ℕ) × (IsCut number trace old new ⊎ IsTooLong number trace old new))
+Refuses (Packs places) known old new = WroteNone places old new
+Refuses (Soaks seed packets loss) known old new = ⊥
+Refuses (asks.Loops packets drops) known old new = (drops_of drops packets ≡ None) × Appends old new []
 
 -- ---- what a run says of its words
 
@@ -95,13 +106,13 @@ AsksForHelp words = IsAmong DisplayHelp (fault_of tool words) ⊎ IsAmong Displa
 abbrev pub AskFor : List Text → (Asked → Type 0) → Type 0
 AskFor words P = (said : Asked) × (asked words ≡ Some said) × P said
 
-abbrev pub Succeeds : Files → List Text → (old new : Option (List ℕ)) → Type 0
-Succeeds files words old new = AsksForHelp words ⊎ AskFor words (λ said. Does said files old new)
+abbrev pub Succeeds : Known → List Text → (old new : Option (List ℕ)) → Type 0
+Succeeds known words old new = AsksForHelp words ⊎ AskFor words (λ said. Does said known old new)
 
 -- What an exit status says of a command line and of what was written.
-pub record Ends (status : ℕ) (files : Files) (words : List Text) (old new : Option (List ℕ)) : Type 0 where
-  pub done : status ≡ 0 → Succeeds files words old new
-  pub refused : status ≡ 1 → AskFor words (λ said. Refuses said files old new)
+pub record Ends (status : ℕ) (known : Known) (words : List Text) (old new : Option (List ℕ)) : Type 0 where
+  pub done : status ≡ 0 → Succeeds known words old new
+  pub refused : status ≡ 1 → AskFor words (λ said. Refuses said known old new)
   pub command_line : status ≡ 2 → (takes tool words ≡ false) ⊎ LacksValue words
   pub others : (status ≡ 0) ⊎ (status ≡ 1) ⊎ (status ≡ 2) ⊎ (status ≡ 3) ⊎ (status ≡ 4)
 
@@ -117,19 +128,19 @@ FailsToLoop (tool_fault.Drive fault) packets drops old new = Unit {0}
 FailsToLoop _ packets drops old new = ⊥
 
 -- the fault of what was asked for
-abbrev pub FailsIn : ToolFault → Asked → Files → (old new : Option (List ℕ)) → Type 0
-FailsIn (Sim (BadLine line)) said files old new = Refuses said files old new
-FailsIn (Show (Frame fault number)) said files old new = Refuses said files old new
-FailsIn (Pack NotRising) said files old new = Refuses said files old new
-FailsIn (tool_fault.List BadList) said files old new = Refuses said files old new
-FailsIn (Choose fault) said files old new = ⊥
-FailsIn _ said files old new = Unit {0}
+abbrev pub FailsIn : ToolFault → Asked → Known → (old new : Option (List ℕ)) → Type 0
+FailsIn (Sim (BadLine line)) said known old new = Refuses said known old new
+FailsIn (Show (Frame fault number)) said known old new = Refuses said known old new
+FailsIn (Pack NotRising) said known old new = Refuses said known old new
+FailsIn (tool_fault.List BadList) said known old new = Refuses said known old new
+FailsIn (Choose fault) said known old new = ⊥
+FailsIn _ said known old new = Unit {0}
 
-abbrev pub Fails : ToolFault → Files → List Text → (old new : Option (List ℕ)) → Type 0
-Fails (Sim (BadLine line)) files words old new = AskFor words (λ said. Refuses said files old new)
-Fails (Show (Frame fault number)) files words old new = AskFor words (λ said. Refuses said files old new)
-Fails (Pack NotRising) files words old new = AskFor words (λ said. Refuses said files old new)
-Fails (tool_fault.List BadList) files words old new = AskFor words (λ said. Refuses said files old new)
-Fails (Choose (Line error)) files words old new = takes tool words ≡ false
-Fails (Choose Value) files words old new = LacksValue words
-Fails _ files words old new = Unit {0}
+abbrev pub Fails : ToolFault → Known → List Text → (old new : Option (List ℕ)) → Type 0
+Fails (Sim (BadLine line)) known words old new = AskFor words (λ said. Refuses said known old new)
+Fails (Show (Frame fault number)) known words old new = AskFor words (λ said. Refuses said known old new)
+Fails (Pack NotRising) known words old new = AskFor words (λ said. Refuses said known old new)
+Fails (tool_fault.List BadList) known words old new = AskFor words (λ said. Refuses said known old new)
+Fails (Choose (Line error)) known words old new = takes tool words ≡ false
+Fails (Choose Value) known words old new = LacksValue words
+Fails _ known words old new = Unit {0}

@@ -1,12 +1,12 @@
 //! What the program does with a command line, over whatever it reads and writes.
-ghost use Rattle.std.specs.Prelude.{◌≡◌, ◌⊎◌, ◌≤◌, ℕ, List, Option, IfErr, IfSome, None, OnOk, map};
+ghost use Rattle.std.specs.Prelude.{◌≡◌, ◌⊎◌, ◌≤◌, ℕ, List, Option, IfErr, IfSome, None, OnOk, is_some, map, true};
 ghost use Rattle.std.specs.Io.Buffered.{writer_contents, writer_inner};
 ghost use Rattle.std.specs.Io.KnownBytes.{Keeps};
 ghost use Rattle.clap.specs.Words.{kind_of};
 ghost use Rattle.clap.specs.declared.error.ErrorKind.TheVariants.{DisplayHelp, DisplayVersion};
 ghost use Rattle.rtxtool.specs.CommandLine.{IsWithin, said_by};
 ghost use Rattle.commands.specs.Pack.{WrotePacking};
-ghost use Rattle.rtxtool.specs.Program.{Does, Ends, Fails, FailsIn, FailsToLoop, PrintedAll, PrintedBefore, PrintedLoop, PrintedTally, RefusesPacking, RefusesTrace, ShowedAll, Succeeds};
+ghost use Rattle.rtxtool.specs.Program.{Does, Ends, Fails, FailsIn, FailsToLoop, Known, MayBe, PrintedAll, PrintedBefore, PrintedLoop, PrintedTally, RefusesPacking, RefusesTrace, ShowedAll, Succeeds, unknown};
 
 use crate::command_line::{Choice, ChooseFault, choose};
 use crate::tell::{ToolFault, tell};
@@ -27,20 +27,23 @@ pub trait Outside {
 
     type Link: Link + Drop;
 
-    // What stands in a file, where that is known.
-    ghost octets: { Self → List ℕ → Option (List ℕ) } = { λ _ _. None };
+    // What is known of it. One that tells nothing is held to nothing there.
+    ghost known: { Self → Known } = { λ _. unknown };
 
-    /// Opens a file. None: it can't be opened.
+    /// Opens a file. None: it can't be opened, so nobody knows what stands in it.
     fn open(&self, path: &str) -> Option<Self::Input>
-        ensures { IfSome result (λ input. Self.Input.remaining input ≡ octets self.now path.now) };
+        ensures octets { IfSome result (λ input. Self.Input.remaining input ≡ (known self.now).files path.now) }
+        ensures there { IfSome ((known self.now).files path.now) (λ _. is_some result ≡ true) };
 
     /// Whether there is an output. Where the program was started with none, the next file or socket that it opens would
     /// be taken for it.
-    fn has_output(&self) -> bool;
+    fn has_output(&self) -> bool
+        ensures { IfSome (known self.now).output (λ there. result ≡ there) };
 
     /// Opens a link, which has not failed yet. None: there is none to be had.
     fn link(&self) -> Option<Self::Link>
-        ensures { IfSome result (λ link. Self.Link.failed link ≡ 0) };
+        ensures unfailed { IfSome result (λ link. Self.Link.failed link ≡ 0) }
+        ensures there { IfSome (known self.now).link (λ there. is_some result ≡ there) };
 }
 
 /// Does what a command line asks for, and answers the exit status. The first word is the program's name. With the
@@ -52,7 +55,7 @@ pub fn program<S: AsStr, O: Outside, W: Write + Drop, E: Write>(
     output: &mut Stream<BufWriter<W>>,
     error: &mut E,
 ) -> u8
-    ensures { Ends result (O.octets outside.now) (map S.text words.now) (writer_contents W.contents output.old.writer) (W.contents (writer_inner output.new.writer)) }
+    ensures { Ends result (O.known outside.now) (map S.text words.now) (writer_contents W.contents output.old.writer) (W.contents (writer_inner output.new.writer)) }
 {
     match run(alloc, words, outside, output) {
         Ok(()) => 0,
@@ -66,8 +69,8 @@ fn run<S: AsStr, O: Outside, W: Write + Drop>(
     outside: &O,
     output: &mut Stream<BufWriter<W>>,
 ) -> Result<(), ToolFault>
-    ensures ok { OnOk result (Succeeds (O.octets outside.now) (map S.text words.now) (writer_contents W.contents output.old.writer) (W.contents (writer_inner output.new.writer))) }
-    ensures err { IfErr result (λ fault. Fails fault (O.octets outside.now) (map S.text words.now) (writer_contents W.contents output.old.writer) (W.contents (writer_inner output.new.writer))) }
+    ensures ok { OnOk result (Succeeds (O.known outside.now) (map S.text words.now) (writer_contents W.contents output.old.writer) (W.contents (writer_inner output.new.writer))) }
+    ensures err { IfErr result (λ fault. Fails fault (O.known outside.now) (map S.text words.now) (writer_contents W.contents output.old.writer) (W.contents (writer_inner output.new.writer))) }
 {
     match choose(alloc, words) {
         Ok(choice) => does(alloc, &choice, outside, output),
@@ -84,8 +87,8 @@ fn does<O: Outside, W: Write + Drop>(
     output: &mut Stream<BufWriter<W>>,
 ) -> Result<(), ToolFault>
     requires { IsWithin choice.now }
-    ensures ok { OnOk result (Does (said_by choice.now) (O.octets outside.now) (writer_contents W.contents output.old.writer) (W.contents (writer_inner output.new.writer))) }
-    ensures err { IfErr result (λ fault. FailsIn fault (said_by choice.now) (O.octets outside.now) (writer_contents W.contents output.old.writer) (W.contents (writer_inner output.new.writer))) }
+    ensures ok { OnOk result (Does (said_by choice.now) (O.known outside.now) (writer_contents W.contents output.old.writer) (W.contents (writer_inner output.new.writer))) }
+    ensures err { IfErr result (λ fault. FailsIn fault (said_by choice.now) (O.known outside.now) (writer_contents W.contents output.old.writer) (W.contents (writer_inner output.new.writer))) }
 {
     match choice {
         Choice::Sim(path) => match outside.open(path) {
@@ -194,7 +197,7 @@ fn over_link<O: Outside, W: Write + Drop>(
     outside: &O,
     output: &mut Stream<BufWriter<W>>,
 ) -> Result<(), ToolFault>
-    ensures ok { OnOk result (PrintedLoop packets drops.now (writer_contents W.contents output.old.writer) (W.contents (writer_inner output.new.writer))) }
+    ensures ok { OnOk result (MayBe (O.known outside.now).output × MayBe (O.known outside.now).link × PrintedLoop packets drops.now (writer_contents W.contents output.old.writer) (W.contents (writer_inner output.new.writer))) }
     ensures err { IfErr result (λ fault. FailsToLoop fault packets drops.now (writer_contents W.contents output.old.writer) (W.contents (writer_inner output.new.writer))) }
 {
     let list = match drop_list(alloc, drops, packets) {
