@@ -64,7 +64,7 @@ pub data Asked : Type 0 where
   Shows : (file : Text) → Asked
   Packs : (places : List ℕ) → Asked
   Soaks : (seed packets loss : ℕ) → Asked
-  RunsOverLink : (packets : ℕ) (drops : Text) → Asked
+  Loops : (packets : ℕ) (drops : Text) → Asked
 
 -- the value of an option, a decimal between these bounds
 abbrev pub number_in : Text → (least most : ℕ) → List Row → Option ℕ
@@ -101,7 +101,7 @@ abbrev pub loopback_in : List Row → Option Asked
 loopback_in rows = do
   packets ← number_in (codes "packets") 1 1000 rows
   drops ← first_of (codes "drop") rows
-  Some (RunsOverLink packets drops)
+  Some (Loops packets drops)
 
 -- what a subcommand with these values asks for
 abbrev pub asked_of : Text → List Row → Option Asked
@@ -125,7 +125,7 @@ said_by (choice.Sim file) = Sims file.now
 said_by (choice.Show file) = Shows file.now
 said_by (choice.Pack places) = Packs places.items
 said_by (choice.Soak seed packets loss) = Soaks seed packets loss
-said_by (choice.Loopback packets drop) = RunsOverLink packets drop.now
+said_by (choice.Loopback packets drop) = Loops packets drop.now
 
 -- a drawn run loses at most 1000 of 1000 packets
 abbrev pub IsWithin : Choice → Type 0
