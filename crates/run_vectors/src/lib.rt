@@ -12,4 +12,6 @@ mod logs;
 #[cfg(test)]
 mod memory;
 #[cfg(test)]
+mod soak_log;
+#[cfg(test)]
 mod soaks;

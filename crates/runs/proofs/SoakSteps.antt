@@ -1,5 +1,5 @@
 -- What the loop of a drawn run cites: the words of its stream, block by block, and a block more.
-use Rattle.std.proofs.Common.{◌≡◌, ℕ, zero, suc, ◌+◌, ◌-◌, ◌*◌, ◌%◌, ◌<◌, ◌≤◌, Bool, true, false, cond, List, [], ◌∷◌, ◌++◌, length, if◌then◌else◌, not, length-append, refl, subst, arith}
+use Rattle.std.proofs.Common.{◌≡◌, ℕ, zero, suc, ◌+◌, ◌-◌, ◌*◌, ◌%◌, ◌<◌, ◌≤◌, Bool, true, false, cond, List, [], ◌∷◌, ◌++◌, length, if◌then◌else◌, not, length-append, refl, subst, arith, Result, Ok, Err, IfOk, OnOk}
 use Rattle.std.specs.Prelude.{nat_lt, nat_le, min}
 use Rattle.std.proofs.lemmas.Bool.Decides.{nat_tests}
 use Rattle.std.proofs.lemmas.Grind.{common_steps}
@@ -11,9 +11,14 @@ use Rattle.world.specs.declared.event.Event.TheVariants.{Deliver}
 use Rattle.world.specs.Config.{Config}
 use Rattle.world.specs.Schedule.{schedule, delivery, after_words}
 use Rattle.world.specs.Answers.{Item}
-use Rattle.runs.specs.Scene.{Scene, Does}
+use Rattle.world.specs.World.{Recorded, empty}
+use Rattle.runs.specs.Scene.{Scene, Does, scene_of}
 use Rattle.runs.specs.Playing.{PlaysOut}
-use Rattle.runs.specs.Soak.{lost, block_size, Settles, IsBlock, AreSizes, IsSoak}
+use Rattle.runs.specs.Session.{soak_config}
+use Rattle.runs.specs.Tally.{tally_of}
+use Rattle.runs.specs.declared.tally.Tally.{Tally}
+use Rattle.runs.specs.Soak.{lost, block_size, Settles, IsBlock, AreSizes, IsSoak, Draws}
+use Rattle.stores.specs.declared.memory.OutOfMemory.{OutOfMemory}
 
 pub length-first_words : (n : ℕ) (s : Stream) → length (first_words next_u32 n s) ≡ n
 unfolding first_words
@@ -94,3 +99,17 @@ soak_more c loss done packets size left stream old mid new is some full block re
       cut = (some, full, subst (AreSizes rest.sizes) (omega (arith, is)) rest.cut);
       blocks = (mid, block, rest.blocks);
     }
+
+-- what a run in a new world tells of its tally
+pub drawn_run : (loss packets : ℕ) (stream : Stream) (w : Recorded) (end : Scene) (r : Result Tally OutOfMemory)
+    → w ≡ empty soak_config
+    → OnOk r (IsSoak w.config loss 0 packets stream (scene_of w) end)
+    → IfOk r (λ tally. tally ≡ tally_of (lost loss (first_words next_u32 packets stream)) end.log)
+    → IfOk r (Draws loss packets stream)
+drawn_run loss packets stream w end (Ok tally) is run counts =
+    record {
+      end = end;
+      run = subst (λ (x : Recorded). IsSoak x.config loss 0 packets stream (scene_of x) end) is run;
+      counts = counts;
+    }
+drawn_run loss packets stream w end (Err fault) is run counts = tt

@@ -4,7 +4,8 @@ ghost use Rattle.rand_core.specs.Stream.{next_u32};
 ghost use Rattle.rand_core.specs.Steps.{first_words};
 ghost use Rattle.world.specs.Schedule.{after_words};
 ghost use Rattle.runs.specs.Scene.{scene_of};
-ghost use Rattle.runs.specs.Soak.{lost, seeded, IsBlock, Draws};
+ghost use Rattle.runs.specs.Soak.{lost, seeded, IsBlock, IsSoak, Draws};
+ghost use Rattle.runs.specs.Tally.{tally_of};
 
 use crate::playing::play_all;
 use crate::session::soak_config;
@@ -41,11 +42,31 @@ pub fn soak<R: Rng, H: History, W: Window>(
     ensures err { OnErr result ((count : ℕ) × (count ≤ packets) × (R.stream rng.new ≡ after_words count (R.stream rng.old))) }
 {
     let mut world = World::<H, W>::new(alloc, &soak_config())?;
+    soak_world(alloc, &mut world, rng, packets, loss)
+}
+
+/// The same in a world that is given, from where that stands: its packets are sent at the moments from 0 on.
+///
+/// `OutOfMemory`: the allocator refused a growth. The world then stands after a beginning of its events.
+pub fn soak_world<R: Rng, H: History, W: Window>(
+    alloc: Global,
+    world: &mut World<H, W>,
+    rng: &mut R,
+    packets: u32,
+    loss: u32,
+) -> Result<Tally, OutOfMemory>
+    requires { loss ≤ 1000 }
+    ensures run { OnOk result (IsSoak world.old.config loss 0 packets (R.stream rng.old) (scene_of world.old) (scene_of world.new)) }
+    ensures tally { IfOk result (λ tally. tally ≡ tally_of (lost loss (first_words next_u32 packets (R.stream rng.old))) world.new.log) }
+    ensures drawn { OnOk result (R.stream rng.new ≡ after_words packets (R.stream rng.old)) }
+    ensures err { OnErr result ((count : ℕ) × (count ≤ packets) × (R.stream rng.new ≡ after_words count (R.stream rng.old))) }
+    ensures config { world.new.config ≡ world.old.config }
+{
     let mut dropped = 0;
     let mut done = 0;
     while done < packets {
         let size = BLOCK.min(packets - done);
-        dropped += soak_block(alloc, &mut world, rng, done, size, loss)?;
+        dropped += soak_block(alloc, world, rng, done, size, loss)?;
         done += size;
     }
     Ok(Tally::of(world.log(), dropped))

@@ -1,72 +1,15 @@
-use Rattle.std.proofs.Common.{◌≡◌, ◌+◌, ◌-◌, List, refl, sym, ap, subst, ◌∙◌, arith}
-use Rattle.rand_core.specs.Stream.{Stream, next_u32}
-use Rattle.rand_core.specs.Steps.{first_words}
-use Rattle.world.specs.declared.event.Entry.{Entry}
-use Rattle.world.specs.Config.{Config}
-use Rattle.world.specs.Schedule.{after_words}
-use Rattle.runs.specs.Tally.{tally_of}
+use Rattle.std.proofs.Common.{◌≡◌, ◌∙◌, refl, ap, arith}
+use Rattle.world.specs.World.{empty}
 use Rattle.runs.specs.Scene.{scene_of}
-use Rattle.runs.specs.Session.{soak_config}
-use Rattle.runs.specs.Soak.{lost, IsBlock, IsSoak}
+use Rattle.runs.proofs.SoakSteps.{drawn_run}
 use Rattle.runs.proofs.TrafficSteps.{on_err}
-use Rattle.runs.proofs.SoakSteps.{lost_most, lost_split, words_split, soak_end, soak_more}
 use Rattle.runs.proofs.soaking.soak.Goals as goal
-
-pub loop-done-preserved : goal.loop-done-preserved
-loop-done-preserved g c =
-    let was = c.loop-done.invariant in
-    let block = c.in_ok-dropped.ensures in
-    let size = c.min-size.ensures in
-    let left = c.args.packets - c.loop-done.done in
-    let rest = c.args.packets - (c.loop-done.done + c.min-size.result) in
-    let stream = g.R.Rng.stream c.loop-done.rng in
-    let split : left ≡ c.min-size.result + rest = omega (arith, size, was.most) in
-    record {
-      config = block.config ∙ was.config;
-      most = omega (arith, size, was.most);
-      fits = omega (arith, block.most, was.fits);
-      whole = λ end from.
-          was.whole end
-          (soak_more soak_config c.args.loss c.loop-done.done left c.min-size.result rest stream (scene_of c.loop-done.world) (scene_of c.soak_block.new.world) end
-          split (omega (arith, c.loop-done-test.true)) size
-          (subst (λ (x : Config). IsBlock x c.args.loss c.loop-done.done (first_words next_u32 c.min-size.result stream) (scene_of c.loop-done.world) (scene_of c.soak_block.new.world)) was.config block.block)
-          (subst (λ (x : Stream). IsSoak soak_config c.args.loss (c.loop-done.done + c.min-size.result) rest x (scene_of c.soak_block.new.world) end) block.drawn from));
-      dropped =
-          let h = lost_split c.args.loss left c.min-size.result rest stream split in
-          let e = ap (λ (x : Stream). lost c.args.loss (first_words next_u32 rest x)) block.drawn in
-          omega (arith, h, e, block.lost, was.dropped);
-      drawn = block.drawn ∙ ap (λ (x : Stream). after_words c.min-size.result x) was.drawn ∙ sym (words_split (c.loop-done.done + c.min-size.result) c.loop-done.done c.min-size.result (g.R.Rng.stream c.args.rng.now) refl);
-    }
-
-pub returns-clause-counts : goal.returns-clause-counts
-returns-clause-counts g c =
-    let was = c.loop-done.invariant in
-    let stream = g.R.Rng.stream c.loop-done.rng in
-    let none : c.args.packets - c.loop-done.done ≡ 0 = omega (arith, c.loop-done-test.false) in
-    let nothing : lost c.args.loss (first_words next_u32 (c.args.packets - c.loop-done.done) stream) ≡ 0 = omega (arith, lost_most c.args.loss (c.args.packets - c.loop-done.done) stream, none) in
-    let dropped : c.loop-done.dropped ≡ lost c.args.loss (first_words next_u32 c.args.packets (g.R.Rng.stream c.args.rng.now)) = omega (arith, nothing, was.dropped) in
-    record {
-      end = scene_of c.loop-done.world;
-      run = was.whole (scene_of c.loop-done.world) (soak_end soak_config c.args.loss c.loop-done.done (c.args.packets - c.loop-done.done) stream (scene_of c.loop-done.world) none);
-      counts = c.of.ensures ∙ ap (λ (log : List Entry). tally_of c.loop-done.dropped log) c.log.ensures ∙ ap (λ n. tally_of n c.loop-done.world.log) dropped;
-    }
-
-pub returns-clause-drawn : goal.returns-clause-drawn
-returns-clause-drawn g c =
-    let all : c.loop-done.done ≡ c.args.packets = let h = c.loop-done.invariant.most in omega (arith, h, c.loop-done-test.false) in
-    c.loop-done.invariant.drawn ∙ ap (λ n. after_words n (g.R.Rng.stream c.args.rng.now)) all
 
 -- no word was drawn
 pub returns-in_err-world-clause-err : goal.returns-in_err-world-clause-err
 returns-in_err-world-clause-err g c = on_err c.from_residual.result _ (0, omega arith, refl)
 
-pub returns-in_err-dropped-clause-err : goal.returns-in_err-dropped-clause-err
-returns-in_err-dropped-clause-err g c =
-    let was = c.loop-done.invariant in
-    let block = c.in_err-dropped.ensures.err in
-    let size = c.min-size.ensures in
-    on_err c.from_residual-in_err-dropped.result _ (
-      c.loop-done.done + block.0,
-      omega (arith, block.1, size, was.most),
-      block.2 ∙ ap (λ (x : Stream). after_words block.0 x) was.drawn ∙ sym (words_split (c.loop-done.done + block.0) c.loop-done.done block.0 (g.R.Rng.stream c.args.rng.now) refl),
-    )
+pub returns-clause-counts : goal.returns-clause-counts
+returns-clause-counts g c =
+    drawn_run c.args.loss c.args.packets (g.R.Rng.stream c.args.rng.now) c.in_ok-world.world (scene_of c.soak_world.new.world) c.soak_world.result
+    (c.in_ok-world.ensures ∙ ap empty c.soak_config.ensures) c.soak_world.ensures.run c.soak_world.ensures.tally

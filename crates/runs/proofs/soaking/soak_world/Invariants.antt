@@ -2,19 +2,18 @@ use Rattle.std.proofs.Common.{◌-◌, ◌+◌, ◌≡◌, ◌≤◌}
 use Rattle.rand_core.specs.Stream.{next_u32}
 use Rattle.rand_core.specs.Steps.{first_words}
 use Rattle.world.specs.Schedule.{after_words}
-use Rattle.runs.specs.Scene.{Scene, new_scene, scene_of}
-use Rattle.runs.specs.Session.{soak_config}
+use Rattle.runs.specs.Scene.{Scene, scene_of}
 use Rattle.runs.specs.Soak.{lost, IsSoak}
-use Rattle.runs.proofs.soaking.soak.Given as goal
+use Rattle.runs.proofs.soaking.soak_world.Given as goal
 
 -- what is left from here makes the whole
 abbrev pub invariant-loop-done : goal.invariant-loop-done
 invariant-loop-done g l =
     record {
-      config : l.world.config ≡ soak_config;
+      config : l.world.config ≡ l.fn.world.config;
       most : l.done ≤ l.packets;
       fits : l.dropped ≤ l.done;
-      whole : (end : Scene) → IsSoak soak_config l.loss l.done (l.packets - l.done) (g.R.Rng.stream l.rng) (scene_of l.world) end → IsSoak soak_config l.loss 0 l.packets (g.R.Rng.stream l.fn.rng) (new_scene soak_config) end;
+      whole : (end : Scene) → IsSoak l.fn.world.config l.loss l.done (l.packets - l.done) (g.R.Rng.stream l.rng) (scene_of l.world) end → IsSoak l.fn.world.config l.loss 0 l.packets (g.R.Rng.stream l.fn.rng) (scene_of l.fn.world) end;
       dropped : l.dropped + lost l.loss (first_words next_u32 (l.packets - l.done) (g.R.Rng.stream l.rng)) ≡ lost l.loss (first_words next_u32 l.packets (g.R.Rng.stream l.fn.rng));
       drawn : g.R.Rng.stream l.rng ≡ after_words l.done (g.R.Rng.stream l.fn.rng);
     }
