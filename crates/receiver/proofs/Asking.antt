@@ -7,6 +7,7 @@ use Rattle.std.proofs.lemmas.Option.{same_Some}
 use Rattle.std.proofs.lemmas.List.Folds.{list_any_more}
 use Rattle.std.proofs.lemmas.List.Elements.{All-take}
 use Rattle.arrayvec.specs.ArrayVec.{ArrayVec}
+use Rattle.places.specs.Among.{is_among}
 use Rattle.fbwire.specs.declared.nack.Pair.{Pair}
 use Rattle.fbwire.specs.Nack.{NackSpells}
 use Rattle.fbwire.specs.Packing.{IsPacking, IsNarrow}
@@ -19,7 +20,7 @@ use Rattle.stores.specs.Asking.{CanBeAsked, asked_slot, due_places, missing_plac
 use Rattle.stores.specs.Asking.{is_due as is_due_slot, is_missing as is_missing_slot}
 use Rattle.receiver.specs.Config.{Config}
 use Rattle.receiver.specs.Window.{held_in, missed_in, window_at, window_of}
-use Rattle.receiver.specs.Asks.{is_due, is_missed, is_among, asked_once, Asks, AsksAny, CountsMissing}
+use Rattle.receiver.specs.Asks.{is_due, is_missed, asked_once, Asks, AsksAny, CountsMissing}
 use Rattle.receiver.specs.Counted.{CanAllBeAsked, CountsAsks}
 use Rattle.receiver.proofs.Rising.{members, not_before}
 

@@ -3,6 +3,7 @@ use Rattle.std.proofs.Common.{◌≡◌, ◌≢◌, ℕ, ◌<◌, ◌≤◌, Boo
 use Rattle.std.proofs.lemmas.Bool.{cases_eq, cases_lt}
 use Rattle.std.proofs.lemmas.Bool.Decides.{nat_tests}
 use Rattle.arrayvec.specs.ArrayVec.{ArrayVec}
+use Rattle.places.specs.Among.{is_among}
 use Rattle.rtpwire.specs.declared.content.Content.{Content}
 use Rattle.receiver.specs.declared.answer.Taken.{Taken}
 use Rattle.receiver.specs.declared.answer.Played.{Played}
@@ -12,7 +13,7 @@ use Rattle.receiver.specs.declared.stream.Stream.{Stream}
 use Rattle.receiver.specs.declared.stream.Stream.TheVariants.{Media, Repair, Candidate}
 use Rattle.receiver.specs.Config.{Config}
 use Rattle.receiver.specs.Window.{Missed, ReceiverState, Takes, Passes, AnswersPlace, Plays, PlaysAny}
-use Rattle.receiver.specs.Asks.{is_due, is_among, asked_once, Asks, AsksAny, AsksWithin}
+use Rattle.receiver.specs.Asks.{is_due, asked_once, Asks, AsksAny, AsksWithin}
 use Rattle.receiver.specs.Heard.{AnswersIn, TakesNumber, Hears, TakesOrRefuses}
 use Rattle.receiver.proofs.Rising.{among_take}
 use Rattle.receiver.proofs.Whichever.{whichever}

@@ -1,9 +1,9 @@
 -- What a receiver asks for: which missing places are due, how they are packed into a generic NACK (RFC 4585,
 -- section 6.2.1), and what an ask leaves. When to ask is a choice of this project.
 use Rattle.std.specs.Prelude.{◌≡◌, ◌≢◌, ℕ, ◌+◌, ◌-◌, ◌<◌, ◌≤◌, ◌==◌, ◌||◌, ◌&&◌, Bool, true, false, List, [], length, take, Option, Some, None, IsSomeAnd, IfSome, if◌then◌else◌, nat_lt, nat_le}
-use Rattle.std.specs.List.{list_any}
 use Rattle.std.specs.Option.{option_map}
 use Rattle.arrayvec.specs.ArrayVec.{ArrayVec}
+use Rattle.places.specs.Among.{is_among}
 use Rattle.fbwire.specs.declared.nack.Pair.{Pair}
 use Rattle.fbwire.specs.Nack.{NackSpells}
 use Rattle.fbwire.specs.Packing.{IsPacking, IsNarrow}
@@ -20,10 +20,6 @@ is_due retry limit now None = false
 abbrev pub is_missed : Option Missed → Bool
 is_missed (Some m) = true
 is_missed None = false
-
--- the place is among these
-abbrev pub is_among : List ℕ → ℕ → Bool
-is_among places k = list_any (λ p. p == k) places
 
 -- a missing place after one more ask at the moment `now`
 abbrev pub asked_once : (now : ℕ) → Missed → Missed

@@ -1,10 +1,10 @@
 -- What counting asks for several places leaves in a window, slot by slot.
 use Rattle.std.specs.Prelude.{◌≡◌, ℕ, List, All, IsSomeAnd, if◌then◌else◌}
 use Rattle.std.specs.Option.{option_map}
+use Rattle.places.specs.Among.{is_among}
 use Rattle.stores.specs.Span.{Span, highest_of}
 use Rattle.stores.specs.ByPlace.{slot_at}
 use Rattle.stores.specs.Asking.{CanBeAsked, asked_slot}
-use Rattle.receiver.specs.Asks.{is_among}
 
 -- one more ask may be counted for each of these places
 abbrev pub CanAllBeAsked : Span → List ℕ → Type 0

@@ -3,12 +3,13 @@ use Rattle.std.proofs.Common.{◌≡◌, ℕ, ◌+◌, ◌-◌, ◌<◌, ◌==�
 use Rattle.std.specs.Option.{option_map}
 use Rattle.std.proofs.lemmas.Option.{same_Some, none-some}
 use Rattle.std.proofs.lemmas.Bool.{eqb-true, ltb-true}
+use Rattle.places.specs.Among.{is_among}
 use Rattle.rtpwire.specs.declared.content.Content.{Content}
 use Rattle.stores.specs.declared.entry.HistoryEntry.{HistoryEntry}
 use Rattle.stores.specs.Past.{Past, entry_at, fresh, repeated}
 use Rattle.stores.specs.PastByPlace.{Pushes, Changes, is_marked}
 use Rattle.sender.specs.Sender.{IsBounded, RepeatsWithin}
-use Rattle.sender.specs.Marking.{is_among, marked_below, marked_if, MarksNumbers}
+use Rattle.sender.specs.Marking.{marked_below, marked_if, MarksNumbers}
 use Rattle.places.specs.Place.{number}
 
 module _ (repeats : ℕ) (old new : Past) where

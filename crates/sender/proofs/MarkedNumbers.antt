@@ -6,13 +6,14 @@ use Rattle.std.specs.Option.{option_map}
 use Rattle.std.proofs.lemmas.Option.{same_Some}
 use Rattle.std.proofs.lemmas.Bool.{eqb-true, cases_Bool, lt-ltb, le-ltb, ltb-true, ltb-false}
 use Rattle.std.proofs.lemmas.List.Folds.{list_any-append}
+use Rattle.places.specs.Among.{is_among}
 use Rattle.places.specs.Place.{number}
 use Rattle.stores.specs.declared.entry.HistoryEntry.{HistoryEntry}
 use Rattle.stores.specs.Past.{Past, IsPast, first_of, next_of, entry_at, numbered, marked}
 use Rattle.stores.specs.PastByPlace.{IsKept, Changes, Finds, is_marked}
 use Rattle.sender.specs.History.{CanBeMarked, becomes_marked, Marks}
 use Rattle.sender.specs.Sender.{history_of}
-use Rattle.sender.specs.Marking.{is_among, marked_below, marked_if, start_at, newly_marked, MarksNumbers}
+use Rattle.sender.specs.Marking.{marked_below, marked_if, start_at, newly_marked, MarksNumbers}
 use Rattle.sender.proofs.Listed.{bit, few_pass, counts_add, none_pass, one_passes, lists_passing}
 
 -- the laws of histories that this stands on

@@ -3,6 +3,7 @@ use Rattle.std.proofs.Common.{◌≡◌, ◌↔◌, ℕ, suc, ◌<◌, ◌⊎◌
 use Rattle.std.proofs.lemmas.Bool.{eqb-true, cases_lt}
 use Rattle.std.proofs.lemmas.List.Kept.{AllPairs-from_increasing}
 use Rattle.std.specs.List.{AllPairs}
+use Rattle.places.specs.Among.{is_among}
 use Rattle.places.specs.Place.{number}
 use Rattle.fbwire.specs.declared.fault.FeedbackFault.{FeedbackFault}
 use Rattle.fbwire.specs.Nack.{Nack, NackSpells, Names}
@@ -14,7 +15,6 @@ use Rattle.sender.specs.declared.answer.Marked.{Marked}
 use Rattle.sender.specs.Config.{Config}
 use Rattle.sender.specs.History.{SenderState, Marks, CanBeMarked, becomes_marked}
 use Rattle.sender.specs.Feedback.{first_wrong, ReadsFeedback, MarksNamed, HearsNacks, HearsSaid, HearsFeedback, MarksAlone, MarksOrRefuses}
-use Rattle.sender.specs.Marking.{is_among}
 use Rattle.sender.proofs.Named.{or_left, or_cases, contained_among}
 use Rattle.sender.proofs.SameSteps.{Same, same_history}
 

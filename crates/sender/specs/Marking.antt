@@ -1,17 +1,14 @@
 -- What feedback leaves of a history, said by the list of the numbers that were marked for so far. The private
 -- calls promise it to one another; callers see `Marks`.
-use Rattle.std.specs.Prelude.{◌≡◌, ℕ, ◌==◌, Bool, nat_lt, List, length, Option, Some, None, if◌then◌else◌}
-use Rattle.std.specs.List.{filter, flat_map, list_any, range_with_len}
+use Rattle.std.specs.Prelude.{◌≡◌, ℕ, Bool, nat_lt, List, length, Option, Some, None, if◌then◌else◌}
+use Rattle.std.specs.List.{filter, flat_map, range_with_len}
 use Rattle.std.specs.Option.{option_map}
+use Rattle.places.specs.Among.{is_among}
 use Rattle.places.specs.Place.{number}
 use Rattle.fbwire.specs.Nack.{Nack, numbers_of}
 use Rattle.stores.specs.declared.entry.HistoryEntry.{HistoryEntry}
 use Rattle.stores.specs.Past.{Past, first_of, next_of, entry_at, marked}
 use Rattle.sender.specs.History.{becomes_marked}
-
--- the number is one of these
-abbrev pub is_among : List ℕ → ℕ → Bool
-is_among numbers n = list_any (λ m. m == n) numbers
 
 -- an entry below the limit is marked
 abbrev pub marked_below : (repeats : ℕ) → HistoryEntry → HistoryEntry

@@ -3,8 +3,8 @@ use Rattle.std.proofs.Common.{◌≡◌, ℕ, zero, suc, true, Bool, List, [], �
 use Rattle.std.specs.Prelude.{◌||◌, ◌==◌, Contains}
 use Rattle.std.proofs.lemmas.Bool.{or_cases, eqb-true}
 use Rattle.std.proofs.lemmas.Bool.Decides.{nat_tests}
+use Rattle.places.specs.Among.{is_among}
 use Rattle.places.specs.Place.{number}
-use Rattle.receiver.specs.Asks.{is_among}
 
 here_among : (n : ℕ) (b : Bool) → (n == n || b) ≡ true
 here_among n b = grind (arith, nat_tests)

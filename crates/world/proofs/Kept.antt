@@ -3,10 +3,11 @@ use Rattle.std.proofs.Common.{◌≡◌, ◌⊎◌, ℕ, ◌+◌, ◌-◌, ◌*�
 use Rattle.std.specs.Option.{option_map}
 use Rattle.std.proofs.lemmas.Bool.{cases_eq}
 use Rattle.std.proofs.lemmas.Option.{none-some, same_Some}
+use Rattle.places.specs.Among.{is_among}
 use Rattle.places.specs.Place.{number}
 use Rattle.rtpwire.specs.declared.content.Content.{Content}
 use Rattle.receiver.specs.Window.{Missed, ReceiverState, cursor_after, Starts, Takes, Passes}
-use Rattle.receiver.specs.Asks.{is_among, asked_once, Asks}
+use Rattle.receiver.specs.Asks.{asked_once, Asks}
 use Rattle.world.specs.declared.event.Entry.{Entry}
 use Rattle.world.specs.Config.{Config}
 use Rattle.world.specs.Reading.{WasSent, cursor_of, cursor_from, cursor_next}

@@ -3,6 +3,7 @@ use Rattle.std.proofs.Common.{◌≡◌, ◌⊎◌, ℕ, ◌+◌, ◌*◌, ◌<�
 use Rattle.std.specs.Option.{option_map}
 use Rattle.std.proofs.lemmas.Bool.{cases_eq, cases_Bool}
 use Rattle.std.proofs.lemmas.Option.{same_Some}
+use Rattle.places.specs.Among.{is_among}
 use Rattle.places.specs.Place.{number, reach, IsWithin}
 use Rattle.rtpwire.specs.declared.content.Content.{Content}
 use Rattle.stores.specs.declared.entry.HistoryEntry.{HistoryEntry}
@@ -18,7 +19,7 @@ use Rattle.receiver.specs.declared.stream.Stream.{Stream}
 use Rattle.receiver.specs.declared.stream.Stream.TheVariants as streams
 use Rattle.receiver.specs.Window.{Missed, ReceiverState, Takes, AnswersPlace}
 use Rattle.receiver.specs.Heard.{WasAsked, AnswersIn}
-use Rattle.receiver.specs.Asks.{is_due, is_among, asked_once, Asks, AsksBy}
+use Rattle.receiver.specs.Asks.{is_due, asked_once, Asks, AsksBy}
 use Rattle.world.specs.Config.{Config, IsConfig}
 use Rattle.world.specs.PlaceRun.{AnswersLabel}
 use Rattle.world.proofs.Among.{among_take, number_among, among_number}

@@ -5,6 +5,7 @@ use Rattle.std.proofs.lemmas.List.{length-map, map-append}
 use Rattle.std.proofs.lemmas.Bool.Decides.{nat_tests}
 use Rattle.std.proofs.lemmas.Option.{slice_get-map, same_Some}
 use Rattle.arrayvec.specs.ArrayVec.{ArrayVec}
+use Rattle.places.specs.Among.{is_among}
 use Rattle.places.specs.Place.{number, IsWithin}
 use Rattle.rtpwire.specs.declared.content.Content.{Content}
 use Rattle.rtpwire.specs.Rtp.{RtpPacket, RtpSpells}
@@ -29,7 +30,7 @@ use Rattle.receiver.specs.declared.stream.Stream.{Stream}
 use Rattle.receiver.specs.declared.stream.Stream.TheVariants as streams
 use Rattle.receiver.specs.Streams.{learnt_by, source_of, stream_of}
 use Rattle.receiver.specs.Heard.{AnswersNumber, TakesNumber, Hears}
-use Rattle.receiver.specs.Asks.{is_among, AsksBy, AsksAny}
+use Rattle.receiver.specs.Asks.{AsksBy, AsksAny}
 use Rattle.world.specs.declared.event.Event.{Event}
 use Rattle.world.specs.declared.event.Event.TheVariants.{Send, Repair as Retransmit, Ask, Deliver, Play, Inject}
 use Rattle.world.specs.declared.event.End.{End}

@@ -5,6 +5,7 @@ use Rattle.std.specs.Option.{option_map}
 use Rattle.std.proofs.lemmas.Bool.{cases_eq, cases_lt}
 use Rattle.std.proofs.lemmas.Option.{none-some}
 use Rattle.arrayvec.specs.ArrayVec.{ArrayVec}
+use Rattle.places.specs.Among.{is_among}
 use Rattle.rtpwire.specs.declared.content.Content.{Content}
 use Rattle.receiver.specs.declared.answer.Taken.{Taken as Took}
 use Rattle.receiver.specs.declared.answer.Played.{Played as Play_answer}
@@ -14,7 +15,7 @@ use Rattle.receiver.specs.declared.stream.Stream.{Stream}
 use Rattle.receiver.specs.declared.stream.Stream.TheVariants.{Media, Repair, Candidate}
 use Rattle.receiver.specs.Window.{Missed, ReceiverState, Starts, Takes, Passes, AnswersPlace, StartsAt, PlaysAny}
 use Rattle.receiver.specs.Heard.{AnswersIn, TakesNumber, TakesOrRefuses}
-use Rattle.receiver.specs.Asks.{is_among, asked_once, Asks, AsksAny}
+use Rattle.receiver.specs.Asks.{asked_once, Asks, AsksAny}
 use Rattle.world.specs.declared.event.Event.{Event}
 use Rattle.world.specs.declared.event.Event.TheVariants.{Send, Repair as Retransmit, Ask, Deliver, Play, Inject}
 use Rattle.world.specs.declared.event.End.{End}

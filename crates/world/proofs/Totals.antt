@@ -5,11 +5,12 @@ use Rattle.std.specs.Option.{option_map}
 use Rattle.std.proofs.lemmas.Bool.{cases_eq}
 use Rattle.std.proofs.lemmas.Bool.Decides.{nat_tests}
 use Rattle.std.proofs.lemmas.List.{length-take}
+use Rattle.places.specs.Among.{is_among}
 use Rattle.stores.specs.declared.entry.HistoryEntry.{HistoryEntry}
 use Rattle.sender.specs.History.{SenderState, Repairs}
 use Rattle.receiver.specs.Config.{Config as Receiving}
 use Rattle.receiver.specs.Window.{Missed, ReceiverState}
-use Rattle.receiver.specs.Asks.{is_due, is_among, asked_once, Asks}
+use Rattle.receiver.specs.Asks.{is_due, asked_once, Asks}
 use Rattle.fbwire.specs.declared.nack.Pair.{Pair}
 use Rattle.world.specs.Config.{Config}
 use Rattle.world.specs.PlaceRun.{AsksAnyBy}
