@@ -25,7 +25,7 @@ use Rattle.receiver.specs.Counted.{CanAllBeAsked, CountsAsks}
 use Rattle.receiver.proofs.Rising.{members, not_before}
 
 -- what is true of a slot, by what it misses
-same_due : (now retry limit : ℕ) (o : Option Slot) → is_due_slot now retry limit o ≡ is_due retry limit now (missed_in o)
+same_due : (now retry limit : ℕ) (o : Option Slot) → is_due_slot now retry limit o ≡ is_due now retry limit (missed_in o)
 same_due now retry limit None = refl
 same_due now retry limit (Some (Held content)) = refl
 same_due now retry limit (Some (Missing noticed asks last)) = refl

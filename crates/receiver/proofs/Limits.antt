@@ -19,19 +19,19 @@ use Rattle.receiver.proofs.Rising.{among_take}
 use Rattle.receiver.proofs.Whichever.{whichever}
 
 -- a place that is asked for was asked for fewer times than the limit
-kept : (retry limit now : ℕ) (m : Option Missed) (among : Bool) → (among ≡ true → is_due retry limit now m ≡ true) → IfSome m (λ x. x.asks ≤ limit) →
+kept : (now retry limit : ℕ) (m : Option Missed) (among : Bool) → (among ≡ true → is_due now retry limit m ≡ true) → IfSome m (λ x. x.asks ≤ limit) →
     IfSome (cond among (option_map (asked_once now) m) m) (λ x. x.asks ≤ limit)
-kept retry limit now None true due keeps = keeps
-kept retry limit now None false due keeps = keeps
-kept retry limit now (Some m) true due keeps = let is = due refl in grind (arith, nat_tests)
-kept retry limit now (Some m) false due keeps = keeps
+kept now retry limit None true due keeps = keeps
+kept now retry limit None false due keeps = keeps
+kept now retry limit (Some m) true due keeps = let is = due refl in grind (arith, nat_tests)
+kept now retry limit (Some m) false due keeps = keeps
 
-keeps_at : (c : Config) (now : ℕ) (old : ReceiverState) (due : List ℕ) (count : ℕ) (new : Option ReceiverState) → ((q : ℕ) → is_among due q ≡ is_due c.retry c.asks now (old.missing q)) →
+keeps_at : (c : Config) (now : ℕ) (old : ReceiverState) (due : List ℕ) (count : ℕ) (new : Option ReceiverState) → ((q : ℕ) → is_among due q ≡ is_due now c.retry c.asks (old.missing q)) →
     IsSomeAnd new (Asks old (take count (take 1088 due)) now) → AsksWithin c.asks (Some old) → AsksWithin c.asks new
 keeps_at c now old due count None each none keeps = absurd none
 keeps_at c now old due count (Some new) each asks keeps =
     λ k. subst (λ (m : Option Missed). IfSome m (λ x. x.asks ≤ c.asks)) (sym (asks.missing k))
-    (kept c.retry c.asks now (old.missing k) _ (λ among. sym (each k) ∙ among_take 1088 due k (among_take count (take 1088 due) k among)) (keeps k))
+    (kept now c.retry c.asks (old.missing k) _ (λ among. sym (each k) ∙ among_take 1088 due k (among_take count (take 1088 due) k among)) (keeps k))
 
 pub asks_keep : (c : Config) (now : ℕ) (old : Option ReceiverState) (answer : Option (ArrayVec ℕ)) (new : Option ReceiverState) → AsksAny c old now answer new → AsksWithin c.asks old → AsksWithin c.asks new
 asks_keep c now None answer new (none, is) keeps = subst (λ (s : Option ReceiverState). AsksWithin c.asks s) (sym is) keeps

@@ -44,4 +44,4 @@ module _ (one_packing : OnePacking) (c : Config) (now : ℕ) (v w : Option Recei
   one_ask None r s (none, is) (none', is') = (none ∙ sym none', is ∙ sym is')
   one_ask (Some old) r s a b =
       one_answer old a.due r s a.each.rises a.answers
-      (subst (λ (due : List ℕ). AnswersAsk c old due now s w) (one_list b.due a.due (λ k. is_due c.retry c.asks now (old.missing k)) b.each a.each) b.answers)
+      (subst (λ (due : List ℕ). AnswersAsk c old due now s w) (one_list b.due a.due (λ k. is_due now c.retry c.asks (old.missing k)) b.each a.each) b.answers)

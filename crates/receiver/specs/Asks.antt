@@ -13,9 +13,9 @@ use Rattle.receiver.specs.Window.{Missed, ReceiverState}
 
 -- Whether a place is due to be asked for: it is missing, it was asked for fewer times than the limit, and
 -- never so far or last so long ago. A moment before the last ask is never long enough after it.
-abbrev pub is_due : (retry limit now : ℕ) → Option Missed → Bool
-is_due retry limit now (Some m) = nat_lt m.asks limit && (m.asks == 0 || (nat_le m.last now && nat_le retry (now - m.last)))
-is_due retry limit now None = false
+abbrev pub is_due : (now retry limit : ℕ) → Option Missed → Bool
+is_due now retry limit (Some m) = nat_lt m.asks limit && (m.asks == 0 || (nat_le m.last now && nat_le retry (now - m.last)))
+is_due now retry limit None = false
 
 abbrev pub is_missed : Option Missed → Bool
 is_missed (Some m) = true
@@ -57,7 +57,7 @@ AnswersAsk c old due now None new = (due ≡ []) × (new ≡ Some old)
 -- an ask at a started receiver
 pub record AsksDue (c : Config) (old : ReceiverState) (now : ℕ) (answer : Option (ArrayVec ℕ)) (new : Option ReceiverState) : Type 0 where
   pub due : List ℕ
-  pub each : Lists due (λ k. is_due c.retry c.asks now (old.missing k))
+  pub each : Lists due (λ k. is_due now c.retry c.asks (old.missing k))
   pub answers : AnswersAsk c old due now answer new
 
 -- A receiver that took nothing asks for nothing.

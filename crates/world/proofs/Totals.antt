@@ -68,7 +68,7 @@ due_unasked : (retry limit now asks last : ℕ) → 0 < retry → (nat_lt asks l
     ◌≡◌ {A = ℕ} (if nat_lt 0 asks && last == now then 0 else 1) 1
 due_unasked retry limit now asks last some due = grind (arith, nat_tests)
 
-unasked_falls : (c : Receiving) (now : ℕ) (o : Option Missed) → 0 < c.retry → is_due c.retry c.asks now o ≡ true → unasked now (after_ask true now o) < unasked now o
+unasked_falls : (c : Receiving) (now : ℕ) (o : Option Missed) → 0 < c.retry → is_due now c.retry c.asks o ≡ true → unasked now (after_ask true now o) < unasked now o
 unasked_falls c now None some due = absurd cc
 unasked_falls c now (Some m) some due =
     let e = asked_now (m.asks + 1) now (omega arith) in
@@ -92,12 +92,12 @@ first_among (x ∷ xs) some = (x, here x (is_among xs x))
     here : (n : ℕ) (b : Bool) → (n == n || b) ≡ true
     here n b = grind (arith, nat_tests)
 
-due_is_missing : (c : Receiving) (now : ℕ) (o : Option Missed) → is_due c.retry c.asks now o ≡ true → (m : Missed) × (o ≡ Some m)
+due_is_missing : (c : Receiving) (now : ℕ) (o : Option Missed) → is_due now c.retry c.asks o ≡ true → (m : Missed) × (o ≡ Some m)
 due_is_missing c now None due = absurd cc
 due_is_missing c now (Some m) due = (m, refl)
 
 asks_fall_at : (c : Config) (now : ℕ) (old w : ReceiverState) (covered : List ℕ) (k : ℕ) → old.cursor ≤ k → k < old.cursor + c.window → is_among covered k ≡ true →
-    0 < c.receiver.retry → is_due c.receiver.retry c.receiver.asks now (old.missing k) ≡ true → Asks old covered now w → asks_left c now (Some w) < asks_left c now (Some old)
+    0 < c.receiver.retry → is_due now c.receiver.retry c.receiver.asks (old.missing k) ≡ true → Asks old covered now w → asks_left c now (Some w) < asks_left c now (Some old)
 asks_fall_at c now old w covered k low high among some due asking =
     subst (λ n. total (λ j. unasked now (w.missing j)) n c.window < total (λ j. unasked now (old.missing j)) old.cursor c.window) (sym asking.cursor)
     (total_lt (λ j. unasked now (old.missing j)) (λ j. unasked now (w.missing j)) old.cursor c.window k
