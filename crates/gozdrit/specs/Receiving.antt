@@ -3,7 +3,7 @@ use Rattle.std.specs.Prelude.{◌≡◌, ◌≢◌, ◌⊎◌, ℕ, ◌<◌, ◌
 use Rattle.arrayvec.specs.ArrayVec.{ArrayVec}
 use Rattle.rtpwire.specs.declared.fault.ConfigFault.{ConfigFault}
 use Rattle.rtpwire.specs.Fault.{config_number}
-use Rattle.stores.specs.Span.{IsSpan, empty_span}
+use Rattle.stores.specs.Span.{empty_span}
 use Rattle.receiver.specs.declared.answer.Taken.{Taken}
 use Rattle.receiver.specs.declared.answer.Played.{Played}
 use Rattle.receiver.specs.declared.answer.Played.TheVariants.{Wait}
@@ -11,7 +11,7 @@ use Rattle.receiver.specs.declared.fault.ReceiveFault.{ReceiveFault}
 use Rattle.receiver.specs.Asks.{AsksAny}
 use Rattle.receiver.specs.Fault.{receive_number}
 use Rattle.receiver.specs.Heard.{Hears}
-use Rattle.receiver.specs.Receiver.{Receiving, state_of}
+use Rattle.receiver.specs.Receiver.{Receiving, Stays, state_of}
 use Rattle.receiver.specs.Window.{PlaysAny}
 use Rattle.gozdrit.specs.declared.config.ReceiverFields.{ReceiverFields}
 use Rattle.gozdrit.specs.declared.answers.TakenPlace.{TakenPlace}
@@ -30,17 +30,11 @@ CreatesReceiver f code after =
     × (((code ≡ out_of_memory) × (after ≡ None))
     ⊎ ((code ≡ ok) × (after ≡ Some (record { config = receiver_config f; span = empty_span f.window; learnt = None })))))
 
--- what every call of a receiver leaves as it was
-pub record Keeps (before after : Receiving) : Type 0 where
-  pub config : after.config ≡ before.config
-  pub capacity : after.span.capacity ≡ before.span.capacity
-  pub is_span : IsSpan after.span
-
 -- what the receiver's own call promises of a datagram
 pub record HearsAs (before : Receiving) (octets : List ℕ) (now : ℕ) (answer : Result Taken ReceiveFault) (after : Receiving) : Type 0 where
   pub hears : Hears before.span.capacity before.config (state_of before) octets now answer (state_of after)
   pub err : OnErr answer (after ≡ before)
-  pub keeps : Keeps before after
+  pub stays : Stays before after
 
 abbrev pub TellsTaken : Result Taken ReceiveFault → (code : ℤ) → (taken' : TakenPlace) → Type 0
 TellsTaken (Ok taken) code taken' = (code ≡ ok) × (taken'.place ≡ taken.place) × (taken'.overrun ≡ taken.overrun)
@@ -50,13 +44,13 @@ TellsTaken (Err fault) code taken' = code ≡ pos (receive_number fault)
 pub record PlaysAs (before : Receiving) (now : ℕ) (answer : Played) (after : Receiving) : Type 0 where
   pub plays : PlaysAny before.config.patience (state_of before) now answer (state_of after)
   pub wait : answer ≡ Wait → after ≡ before
-  pub keeps : Keeps before after
+  pub stays : Stays before after
 
 -- what the receiver's own call promises of an ask
 pub record AsksAs (before : Receiving) (now : ℕ) (answer : Option (ArrayVec ℕ)) (after : Receiving) : Type 0 where
   pub asks : AsksAny before.config (state_of before) now answer (state_of after)
   pub none : answer ≡ None → after ≡ before
-  pub keeps : Keeps before after
+  pub stays : Stays before after
 
 -- an ask is told: a datagram at the front of the buffer, or the length 0
 abbrev pub TellsAsk : Option (ArrayVec ℕ) → (out : List ℕ) → (length' : ℕ) → (out' : List ℕ) → Type 0

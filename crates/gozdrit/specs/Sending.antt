@@ -6,13 +6,13 @@ use Rattle.rtpwire.specs.declared.fault.ConfigFault.{ConfigFault}
 use Rattle.rtpwire.specs.Fault.{config_number}
 use Rattle.fbwire.specs.declared.fault.FeedbackFault.{FeedbackFault}
 use Rattle.fbwire.specs.Fault.{feedback_number}
-use Rattle.stores.specs.Past.{IsPast, empty_past}
+use Rattle.stores.specs.Past.{empty_past}
 use Rattle.sender.specs.declared.answer.Marked.{Marked}
 use Rattle.sender.specs.declared.fault.SendFault.{SendFault}
 use Rattle.sender.specs.Fault.{send_number}
 use Rattle.sender.specs.Feedback.{HearsFeedback}
 use Rattle.sender.specs.Repairing.{RepairsAny}
-use Rattle.sender.specs.Sender.{Sending, new_sending, state_of}
+use Rattle.sender.specs.Sender.{Sending, Stays, new_sending, state_of}
 use Rattle.sender.specs.Sending.{SendsAny}
 use Rattle.gozdrit.specs.declared.config.SenderFields.{SenderFields}
 use Rattle.gozdrit.specs.declared.answers.SentPacket.{SentPacket}
@@ -31,17 +31,11 @@ CreatesSender f code after =
     × (((code ≡ out_of_memory) × (after ≡ None))
     ⊎ ((code ≡ ok) × (after ≡ Some (new_sending (sender_config f) (empty_past f.history))))))
 
--- what every call of a sender leaves as it was
-pub record Keeps (before after : Sending) : Type 0 where
-  pub config : after.config ≡ before.config
-  pub capacity : after.past.capacity ≡ before.past.capacity
-  pub is_past : IsPast after.past
-
 -- what the sender's own call promises of a send
 pub record SendsAs (before : Sending) (content : Content) (padding : ℕ) (answer : Result (ℕ × ArrayVec ℕ) SendFault) (after : Sending) : Type 0 where
   pub sends : SendsAny before.config.session before.past.capacity (state_of before) content padding answer (state_of after)
   pub err : OnErr answer (after ≡ before)
-  pub keeps : Keeps before after
+  pub stays : Stays before after
 
 -- an answer to a send is told
 abbrev pub TellsSent : Result (ℕ × ArrayVec ℕ) SendFault → (out : List ℕ) → (code : ℤ) → (sent' : SentPacket) → (out' : List ℕ) → Type 0
@@ -52,7 +46,7 @@ TellsSent (Err fault) out code sent' out' = code ≡ pos (send_number fault)
 pub record HearsAs (before : Sending) (octets : List ℕ) (answer : Result Marked FeedbackFault) (after : Sending) : Type 0 where
   pub hears : HearsFeedback before.config (state_of before) octets answer (state_of after)
   pub err : OnErr answer (after ≡ before)
-  pub keeps : Keeps before after
+  pub stays : Stays before after
 
 abbrev pub TellsMarked : Result Marked FeedbackFault → (code : ℤ) → (marked' : ℕ) → Type 0
 TellsMarked (Ok marked) code marked' = (code ≡ ok) × (marked' ≡ marked.places)
@@ -62,7 +56,7 @@ TellsMarked (Err fault) code marked' = code ≡ pos (feedback_number fault)
 pub record RepairsAs (before : Sending) (answer : Option (ℕ × ArrayVec ℕ)) (after : Sending) : Type 0 where
   pub repairs : RepairsAny before.config.session (state_of before) answer (state_of after)
   pub none : answer ≡ None → after ≡ before
-  pub keeps : Keeps before after
+  pub stays : Stays before after
 
 -- where there is none, the length is 0, and the rest is as it was
 abbrev pub TellsRepair : Option (ℕ × ArrayVec ℕ) → (sent : SentPacket) → (out : List ℕ) → (sent' : SentPacket) → (out' : List ℕ) → Type 0

@@ -1,6 +1,6 @@
 -- A receiver as its callers see it.
 use Rattle.std.specs.Prelude.{◌≡◌, ℕ, Option, None}
-use Rattle.stores.specs.Span.{Span}
+use Rattle.stores.specs.Span.{Span, IsSpan}
 use Rattle.receiver.specs.Config.{Config}
 use Rattle.receiver.specs.Window.{ReceiverState, window_of}
 use Rattle.receiver.specs.Asks.{AsksWithin}
@@ -22,3 +22,9 @@ state_of r = window_of r.learnt r.span
 pub record IsReceiving (r : Receiving) : Type 0 where
   pub unlearnt : IsUnlearnt r.span r.learnt
   pub limit : AsksWithin r.config.asks (state_of r)
+
+-- what no call changes: how it is configured, how many places its window keeps, and that it is a window
+pub record Stays (old new : Receiving) : Type 0 where
+  pub config : new.config ≡ old.config
+  pub capacity : new.span.capacity ≡ old.span.capacity
+  pub is_span : IsSpan new.span

@@ -4,7 +4,6 @@ ghost use Rattle.std.specs.Option.{option_map};
 ghost use Rattle.std.specs.Result.{result_err};
 ghost use Rattle.std.specs.List.Sorted.{IsStrictlyIncreasing};
 ghost use Rattle.rtpwire.specs.FirstOf.{FirstOf};
-ghost use Rattle.stores.specs.Span.{IsSpan};
 ghost use Rattle.stores.specs.ByPlace.{slot_at};
 ghost use Rattle.receiver.specs.Asks.{AsksAny, CountsMissing, AsksWithin};
 ghost use Rattle.receiver.specs.Counted.{CanAllBeAsked, CountsAsks};
@@ -14,7 +13,7 @@ ghost use Rattle.receiver.specs.Heard.{Hears, WasAsked};
 ghost use Rattle.receiver.specs.Fault.{receive_number};
 ghost use Rattle.receiver.specs.Order.{hearing_order};
 ghost use Rattle.receiver.specs.Finding.{FindsPlace};
-ghost use Rattle.receiver.specs.Receiver.{state_of, IsUnlearnt};
+ghost use Rattle.receiver.specs.Receiver.{state_of, IsUnlearnt, Stays};
 
 use crate::answer::{Played, Taken};
 use crate::config::ReceiverConfig;
@@ -91,9 +90,7 @@ impl<W: Window> Receiver<W> {
         ensures hears { Hears self.old.span.capacity self.old.config (state_of self.old) octets.now now result (state_of self.new) }
         ensures order { FirstOf (hearing_order self.old.config (state_of self.old) octets.now) (option_map receive_number (result_err result)) }
         ensures err { OnErr result (self.new ≡ self.old) }
-        ensures config { self.new.config ≡ self.old.config }
-        ensures capacity { self.new.span.capacity ≡ self.old.span.capacity }
-        ensures is_span { IsSpan self.new.span }
+        ensures stays { Stays self.old self.new }
     {
         hearing_is_in_order();
         hear(
@@ -122,9 +119,7 @@ impl<W: Window> Receiver<W> {
     pub fn play(&mut self, now: u64) -> Played
         ensures plays { PlaysAny self.old.config.patience (state_of self.old) now result (state_of self.new) }
         ensures wait { result ≡ Played.Wait → self.new ≡ self.old }
-        ensures config { self.new.config ≡ self.old.config }
-        ensures capacity { self.new.span.capacity ≡ self.old.span.capacity }
-        ensures is_span { IsSpan self.new.span }
+        ensures stays { Stays self.old self.new }
     {
         let patience = self.config.patience();
         play_from(&mut self.window, patience, now)
@@ -141,9 +136,7 @@ impl<W: Window> Receiver<W> {
     pub fn ask(&mut self, now: u64) -> Option<Datagram>
         ensures asks { AsksAny self.old.config (state_of self.old) now result (state_of self.new) }
         ensures none { IsNone result → self.new ≡ self.old }
-        ensures config { self.new.config ≡ self.old.config }
-        ensures capacity { self.new.span.capacity ≡ self.old.span.capacity }
-        ensures is_span { IsSpan self.new.span }
+        ensures stays { Stays self.old self.new }
     {
         ask_from(&mut self.window, &self.config, now)
     }

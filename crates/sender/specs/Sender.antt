@@ -2,7 +2,7 @@
 use Rattle.std.specs.Prelude.{◌≡◌, ℕ, ◌+◌, ◌^◌, ◌<◌, ◌≤◌, true, Some}
 use Rattle.std.specs.Option.{ForSome}
 use Rattle.stores.specs.declared.entry.HistoryEntry.{HistoryEntry}
-use Rattle.stores.specs.Past.{Past, next_of, entry_at}
+use Rattle.stores.specs.Past.{Past, IsPast, next_of, entry_at}
 use Rattle.sender.specs.Config.{Config}
 use Rattle.sender.specs.History.{SenderState}
 
@@ -44,3 +44,9 @@ pub record IsSending (s : Sending) : Type 0 where
   pub follows : ForSome (next_of s.past) (λ next. s.next ≡ next)
   pub counted : s.config.repeats ≤ 255
   pub limit : RepeatsWithin s.config.repeats s.past
+
+-- what no call changes: how it is configured, how many entries its history keeps, and that it is a history
+pub record Stays (old new : Sending) : Type 0 where
+  pub config : new.config ≡ old.config
+  pub capacity : new.past.capacity ≡ old.past.capacity
+  pub is_past : IsPast new.past

@@ -1,8 +1,7 @@
 //! The sending end.
 ghost use Rattle.std.specs.Prelude.{◌≡◌, [], None, OnErr};
-ghost use Rattle.stores.specs.Past.{IsPast};
 ghost use Rattle.sender.specs.History.{new_history};
-ghost use Rattle.sender.specs.Sender.{Sending, IsSending, new_sending, state_of};
+ghost use Rattle.sender.specs.Sender.{Sending, IsSending, Stays, new_sending, state_of};
 ghost use Rattle.sender.specs.Sending.{SendsAny, sent_in};
 ghost use Rattle.sender.specs.Feedback.{HearsFeedback};
 ghost use Rattle.sender.specs.Repairing.{RepairsAny, repaired_in};
@@ -72,9 +71,7 @@ impl<H: History> Sender<H> {
     pub fn send(&mut self, content: Content, padding: u8) -> Result<(Place, Datagram), SendFault>
         ensures sends { SendsAny self.old.config.session self.old.past.capacity (state_of self.old) content padding result (state_of self.new) }
         ensures err { OnErr result (self.new ≡ self.old) }
-        ensures config { self.new.config ≡ self.old.config }
-        ensures capacity { self.new.past.capacity ≡ self.old.past.capacity }
-        ensures is_past { IsPast self.new.past }
+        ensures stays { Stays self.old self.new }
     {
         let mut out = Datagram::new();
         match self.send_to(&mut out, content, padding) {
@@ -94,9 +91,7 @@ impl<H: History> Sender<H> {
         ensures sends { SendsAny self.old.config.session self.old.past.capacity (state_of self.old) content padding (sent_in out.new result) (state_of self.new) }
         ensures lent { OnErr result (out.new ≡ out.old) }
         ensures err { OnErr result (self.new ≡ self.old) }
-        ensures config { self.new.config ≡ self.old.config }
-        ensures capacity { self.new.past.capacity ≡ self.old.past.capacity }
-        ensures is_past { IsPast self.new.past }
+        ensures stays { Stays self.old self.new }
     {
         let session = self.config.session();
         if padding > 0 && content.payload.is_empty() {
@@ -136,9 +131,7 @@ impl<H: History> Sender<H> {
     pub fn on_feedback(&mut self, octets: &[u8]) -> Result<Marked, FeedbackFault>
         ensures hears { HearsFeedback self.old.config (state_of self.old) octets.now result (state_of self.new) }
         ensures err { OnErr result (self.new ≡ self.old) }
-        ensures config { self.new.config ≡ self.old.config }
-        ensures capacity { self.new.past.capacity ≡ self.old.past.capacity }
-        ensures is_past { IsPast self.new.past }
+        ensures stays { Stays self.old self.new }
     {
         history_by_place();
         nack_is_determined();
@@ -156,9 +149,7 @@ impl<H: History> Sender<H> {
     pub fn next_repair(&mut self) -> Option<(Place, Datagram)>
         ensures repairs { RepairsAny self.old.config.session (state_of self.old) result (state_of self.new) }
         ensures none { result ≡ None → self.new ≡ self.old }
-        ensures config { self.new.config ≡ self.old.config }
-        ensures capacity { self.new.past.capacity ≡ self.old.past.capacity }
-        ensures is_past { IsPast self.new.past }
+        ensures stays { Stays self.old self.new }
     {
         let mut out = Datagram::new();
         match self.next_repair_to(&mut out) {
@@ -173,9 +164,7 @@ impl<H: History> Sender<H> {
         ensures repairs { RepairsAny self.old.config.session (state_of self.old) (repaired_in out.new result) (state_of self.new) }
         ensures lent { result ≡ None → out.new ≡ out.old }
         ensures none { result ≡ None → self.new ≡ self.old }
-        ensures config { self.new.config ≡ self.old.config }
-        ensures capacity { self.new.past.capacity ≡ self.old.past.capacity }
-        ensures is_past { IsPast self.new.past }
+        ensures stays { Stays self.old self.new }
     {
         history_by_place();
         let place = self.history.least_marked()?;

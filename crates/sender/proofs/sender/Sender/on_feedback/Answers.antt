@@ -1,4 +1,4 @@
-use Rattle.std.proofs.Common.{◌≡◌, ℕ, List, Option, None, Result, Ok, sym, ap, subst, ◌∙◌}
+use Rattle.std.proofs.Common.{◌≡◌, ℕ, List, Option, None, Result, Ok, refl, sym, ap, subst, ◌∙◌}
 use Rattle.rtpwire.specs.Session.{Streams}
 use Rattle.fbwire.specs.declared.fault.FeedbackFault.{FeedbackFault}
 use Rattle.fbwire.specs.Nack.{Nack}
@@ -6,7 +6,7 @@ use Rattle.fbwire.specs.Compound.{NacksName}
 use Rattle.sender.specs.declared.answer.Marked.{Marked}
 use Rattle.stores.specs.Past.{IsPast}
 use Rattle.sender.specs.Feedback.{first_wrong, HearsNacks}
-use Rattle.sender.specs.Sender.{Sending, history_of, state_of}
+use Rattle.sender.specs.Sender.{Sending, Stays, history_of, state_of}
 use Rattle.sender.specs.Marking.{MarksNumbers, all_numbers}
 use Rattle.sender.proofs.Keeping.{marks_keep}
 use Rattle.sender.proofs.MarkedNumbers.{Laws, marks_named}
@@ -52,8 +52,20 @@ returns-clause-hears g c =
           (marks_named config.repeats laws (all_numbers nacks) (NacksName nacks) (named_among c.nack_is_determined.ensures.names nacks) past after count c.self.inside.next c.self.inside.repair is marks));
     }
 
-pub returns-in_err-compound-clause-is_past : goal.returns-in_err-compound-clause-is_past
-returns-in_err-compound-clause-is_past g c = subst (λ (s : Sending). IsPast s.past) c.self.view_is (g.met.H.History.is_past c.self.inside.history)
+pub returns-clause-stays : goal.returns-clause-stays
+returns-clause-stays g c =
+    record {
+      config = ap (λ (s : Sending). s.config) c.self.view_is;
+      capacity = c.mark_nacks-places.ensures.capacity ∙ ap (λ (s : Sending). s.past.capacity) c.self.view_is;
+      is_past = g.met.H.History.is_past c.mark_nacks-places.new.history;
+    }
 
-pub returns-in_err-are_of_session-clause-is_past : goal.returns-in_err-are_of_session-clause-is_past
-returns-in_err-are_of_session-clause-is_past g c = subst (λ (s : Sending). IsPast s.past) c.self.view_is (g.met.H.History.is_past c.self.inside.history)
+-- where nothing changed
+same_stays : (inside now : Sending) → inside ≡ now → IsPast inside.past → Stays now now
+same_stays inside now view_is past = record { config = refl; capacity = refl; is_past = subst (λ (s : Sending). IsPast s.past) view_is past }
+
+pub returns-in_err-compound-clause-stays : goal.returns-in_err-compound-clause-stays
+returns-in_err-compound-clause-stays g c = same_stays _ _ c.self.view_is (g.met.H.History.is_past c.self.inside.history)
+
+pub returns-in_err-are_of_session-clause-stays : goal.returns-in_err-are_of_session-clause-stays
+returns-in_err-are_of_session-clause-stays g c = same_stays _ _ c.self.view_is (g.met.H.History.is_past c.self.inside.history)
