@@ -8,8 +8,9 @@ use Rattle.receiver.specs.Window.{ReceiverState}
 use Rattle.world.specs.declared.event.Event.{Event}
 use Rattle.world.specs.declared.event.Event.TheVariants.{Repair as Retransmit, Ask, Deliver}
 use Rattle.world.specs.declared.event.Label.{Label}
-use Rattle.world.specs.declared.event.Label.TheVariants.{Repair, Feedback}
+use Rattle.world.specs.declared.event.Label.TheVariants.{Media, Repair, Feedback}
 use Rattle.world.specs.declared.event.Answer.{Answer}
+use Rattle.world.specs.declared.event.Answer.TheVariants.{Marked}
 use Rattle.world.specs.declared.event.Entry.{Entry}
 use Rattle.world.specs.declared.event.Entry.TheVariants.{Repaired, NoRepair, Asked, NoAsk, Nothing, Delivered}
 use Rattle.world.specs.Config.{Config, IsConfig}
@@ -94,17 +95,22 @@ repairs_heard c now place at entry old mid made new log grown grown' grown'' on 
 pub repairs_end : (c : Config) (now : ℕ) (old mid new : WorldState) (log grown grown' : List Entry) → GoesOn c (IsRepairing now) old mid log grown → Step c mid Retransmit NoRepair new → grown' ≡ grown ++ NoRepair ∷ [] → GoesOn c (IsRound now) old new log grown'
 repairs_end c now old mid new log grown grown' on step more = goes_on c (IsRepairing now) (IsRound now) old mid new log grown grown' Retransmit NoRepair on step more (λ added kind. kind)
 
--- what was done when memory ran out
+-- what was done when memory ran out, with the entries that were left to do
 pub asking_begun : (now : ℕ) (added : List Entry) → IsAsking now added → IsRoundBegun now added
-asking_begun now [] kind = tt
-asking_begun now (Delivered index label moment answer ∷ Asked at asked ∷ added) kind = kind
-asking_begun now (entry ∷ added) kind = absurd kind
+asking_begun now added kind = (NoRepair ∷ NoAsk now ∷ [], (refl, kind))
 
 pub repairing_begun : (now : ℕ) (added : List Entry) → IsRepairing now added → IsRoundBegun now added
-repairing_begun now [] kind = absurd kind
-repairing_begun now (NoAsk asked ∷ added) kind = kind
-repairing_begun now (Delivered index label moment answer ∷ Repaired place at ∷ added) kind = kind
-repairing_begun now (entry ∷ added) kind = absurd kind
+repairing_begun now added kind = (NoRepair ∷ [], kind)
+
+-- a round leaves open what a delivery is labelled and answered
+some_answer : Answer
+some_answer = Marked (record { places = 0 })
+
+pub ask_begun : (now at : ℕ) (added : List Entry) → IsAsking now added → IsRoundBegun now (Asked at now ∷ added)
+ask_begun now at added kind = (NoRepair ∷ NoAsk now ∷ Delivered at (Media 0) now some_answer ∷ [], (refl, (refl, refl, refl, kind)))
+
+pub repair_begun : (now place at : ℕ) (added : List Entry) → IsRepairing now added → IsRoundBegun now (Repaired place at ∷ added)
+repair_begun now place at added kind = (NoRepair ∷ Delivered at (Repair place) now some_answer ∷ [], (refl, refl, kind))
 
 module _ (any : AnyHearing) (laws : Laws) (c : Config) (met : IsConfig c) (events : List Event) (log : List Entry) (start : WorldState) (answers : Answers c events (reverse log) start) where
   -- an ask and its delivery leave fewer places to be asked for

@@ -36,16 +36,9 @@ abbrev pub IsRound : (now : ℕ) → List Entry → Type 0
 IsRound now (NoRepair ∷ added) = IsRepairing now added
 IsRound now added = ⊥
 
--- a beginning of a round
+-- a beginning of a round: later entries make it one
 abbrev pub IsRoundBegun : (now : ℕ) → List Entry → Type 0
-IsRoundBegun now [] = Unit {0}
-IsRoundBegun now (Asked at asked ∷ added) = (asked ≡ now) × IsAsking now added
-IsRoundBegun now (NoAsk asked ∷ added) = IsRepairing now (NoAsk asked ∷ added)
-IsRoundBegun now (Repaired place at ∷ added) = IsRepairing now added
-IsRoundBegun now (NoRepair ∷ added) = IsRepairing now added
-IsRoundBegun now (Delivered index label moment answer ∷ Asked at asked ∷ added) = IsAsking now (Delivered index label moment answer ∷ Asked at asked ∷ added)
-IsRoundBegun now (Delivered index label moment answer ∷ Repaired place at ∷ added) = IsRepairing now (Delivered index label moment answer ∷ Repaired place at ∷ added)
-IsRoundBegun now added = ⊥
+IsRoundBegun now added = (later : List Entry) × IsRound now (later ++ added)
 
 -- A world went on, and what was added to its log is of a kind. Logs are oldest first here, as a world keeps them.
 pub record GoesOn (c : Config) (IsKind : List Entry → Type 0) (old new : WorldState) (log grown : List Entry) : Type 0 where

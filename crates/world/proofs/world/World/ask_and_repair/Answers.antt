@@ -10,7 +10,7 @@ use Rattle.world.specs.Round.{IsAsking, IsRepairing, IsRoundBegun, IsMended}
 use Rattle.world.specs.World.{Recorded, stand_of}
 use Rattle.world.proofs.Simulates.{Laws}
 use Rattle.world.proofs.Totals.{asks_left_most, marks_left_most}
-use Rattle.world.proofs.RoundSteps.{goes_nowhere, goes_on, goes_same, goes_as, asks_heard, asks_end, repairs_heard, repairs_end, repairing_begun, ask_falls, repair_falls, one_longer, on_err, at_none, back}
+use Rattle.world.proofs.RoundSteps.{goes_nowhere, goes_on, goes_same, goes_as, asks_heard, asks_end, repairs_heard, repairs_end, asking_begun, repairing_begun, ask_begun, repair_begun, ask_falls, repair_falls, one_longer, on_err, at_none, back}
 use Rattle.world.proofs.world.World.ask_and_repair.Goals as goal
 
 pub loop-ask-init : goal.loop-ask-init
@@ -22,6 +22,13 @@ loop-ask-init g c =
       counted = let h = asks_left_most c.args.self.now.config c.args.now (stand_of c.args.self.now).receiver in omega (arith, h);
     }
 
+pub returns-in_err-ask-clause-err : goal.returns-in_err-ask-clause-err
+returns-in_err-ask-clause-err g c =
+    on_err c.from_residual.result _
+    (goes_same c.args.self.now.config (IsRoundBegun c.args.now) (stand_of c.args.self.now) (stand_of c.loop-ask.self) (stand_of c.ask_once.new.self) c.args.self.now.log c.loop-ask.self.log c.ask_once.new.self.log
+    (goes_as c.args.self.now.config (IsAsking c.args.now) (IsRoundBegun c.args.now) (stand_of c.args.self.now) (stand_of c.loop-ask.self) c.args.self.now.log c.loop-ask.self.log (asking_begun c.args.now) c.loop-ask.invariant.goes_on)
+    (ap stand_of c.in_err-ask.ensures.err) (ap (λ (w : Recorded). w.log) c.in_err-ask.ensures.err))
+
 pub returns-in_err-advance-clause-err : goal.returns-in_err-advance-clause-err
 returns-in_err-advance-clause-err g c =
     let config = c.loop-ask.invariant.config in
@@ -29,7 +36,7 @@ returns-in_err-advance-clause-err g c =
     let step = subst (λ (x : Config). Step x (stand_of c.loop-ask.self) (Ask c.args.now) (Asked c.in-Some.ask c.args.now) (stand_of c.ask_once.new.self)) config told.0 in
     on_err c.from_residual-in_err-advance.result _
     (goes_same c.args.self.now.config (IsRoundBegun c.args.now) (stand_of c.args.self.now) (stand_of c.ask_once.new.self) (stand_of c.advance.new.self) c.args.self.now.log c.ask_once.new.self.log c.advance.new.self.log
-    (goes_on c.args.self.now.config (IsAsking c.args.now) (IsRoundBegun c.args.now) (stand_of c.args.self.now) (stand_of c.loop-ask.self) (stand_of c.ask_once.new.self) c.args.self.now.log c.loop-ask.self.log c.ask_once.new.self.log (Ask c.args.now) (Asked c.in-Some.ask c.args.now) c.loop-ask.invariant.goes_on step told.1 (λ added kind. (refl, kind)))
+    (goes_on c.args.self.now.config (IsAsking c.args.now) (IsRoundBegun c.args.now) (stand_of c.args.self.now) (stand_of c.loop-ask.self) (stand_of c.ask_once.new.self) c.args.self.now.log c.loop-ask.self.log c.ask_once.new.self.log (Ask c.args.now) (Asked c.in-Some.ask c.args.now) c.loop-ask.invariant.goes_on step told.1 (ask_begun c.args.now c.in-Some.ask))
     (ap stand_of c.in_err-advance.ensures.err) (ap (λ (w : Recorded). w.log) c.in_err-advance.ensures.err))
 
 pub loop-ask-smaller : goal.loop-ask-smaller
@@ -102,7 +109,7 @@ returns-in_err-advance-2-clause-err g c =
     let step = subst (λ (x : Config). Step x (stand_of c.loop-repair.self) Retransmit (Repaired told.0 c.in-Some-2.repair) (stand_of c.repair_once.new.self)) config told.1 in
     on_err c.from_residual-in_err-advance-2.result _
     (goes_same c.args.self.now.config (IsRoundBegun c.args.now) (stand_of c.args.self.now) (stand_of c.repair_once.new.self) (stand_of c.advance-in-Some-2.new.self) c.args.self.now.log c.repair_once.new.self.log c.advance-in-Some-2.new.self.log
-    (goes_on c.args.self.now.config (IsRepairing c.args.now) (IsRoundBegun c.args.now) (stand_of c.args.self.now) (stand_of c.loop-repair.self) (stand_of c.repair_once.new.self) c.args.self.now.log c.loop-repair.self.log c.repair_once.new.self.log Retransmit (Repaired told.0 c.in-Some-2.repair) c.loop-repair.invariant.goes_on step told.2 (λ added kind. kind))
+    (goes_on c.args.self.now.config (IsRepairing c.args.now) (IsRoundBegun c.args.now) (stand_of c.args.self.now) (stand_of c.loop-repair.self) (stand_of c.repair_once.new.self) c.args.self.now.log c.loop-repair.self.log c.repair_once.new.self.log Retransmit (Repaired told.0 c.in-Some-2.repair) c.loop-repair.invariant.goes_on step told.2 (repair_begun c.args.now told.0 c.in-Some-2.repair))
     (ap stand_of c.in_err-advance-2.ensures.err) (ap (λ (w : Recorded). w.log) c.in_err-advance-2.ensures.err))
 
 pub loop-repair-smaller : goal.loop-repair-smaller
