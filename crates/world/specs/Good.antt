@@ -1,12 +1,13 @@
 -- The headline: what a close and honest log promises.
-use Rattle.std.specs.Prelude.{◌≡◌, ℕ, ◌*◌, List, ◌∷◌, take, reverse}
+use Rattle.std.specs.Prelude.{◌≡◌, ℕ, ◌*◌, ◌≤◌, List, ◌∷◌, take, reverse}
 use Rattle.receiver.specs.declared.answer.Played.{Played as Play_answer}
 use Rattle.world.specs.declared.event.Event.{Event}
 use Rattle.world.specs.declared.event.Entry.{Entry}
 use Rattle.world.specs.declared.event.Entry.TheVariants.{Played}
 use Rattle.world.specs.Config.{Config}
 use Rattle.world.specs.Answers.{WorldState, Answers}
-use Rattle.world.specs.Reading.{IsRising, IsFinal}
+use Rattle.world.specs.Reading.{IsRising, IsFinal, repairs_of}
+use Rattle.world.specs.Wire.{IsFaithful}
 use Rattle.world.specs.Reach.{shift_of}
 use Rattle.world.specs.Close.{IsClose, IsHonest}
 use Rattle.world.specs.Right.{IsRight}
@@ -35,6 +36,14 @@ pub record PlaysRightly (c : Config) (log : List Entry) (end : WorldState) : Typ
       (events : List Event) → Answers c (reverse events) (reverse log) end → (n : ℕ)
       → IsClose (reverse (take n log)) → IsHonest (reverse (take n log))
       → (mid : WorldState) × Answers c (reverse (take n events)) (reverse (take n log)) mid × IsGood c (reverse (take n log)) mid
+
+-- What every log that answers events keeps to, the oldest entry first: each call of a world promises it of the log that it leaves.
+pub record KeepsPromises (c : Config) (log : List Entry) (end : WorldState) : Type 0 where
+  pub rising : IsRising c (reverse log)  -- what is played or given up rises,
+  pub finals : IsFinal (reverse log)  -- and is played never again
+  pub faithful : IsFaithful c (reverse log) end.wire  -- what lies on the wire was sent
+  pub repeats : (place : ℕ) → repairs_of place (reverse log) ≤ c.repeats  -- no place is retransmitted more often than that
+  pub good : PlaysRightly c log end  -- the headline
 
 -- what a play may answer after this log: its entry is in order, right and justified
 abbrev pub MayPlay : Config → List Entry → (now : ℕ) → Play_answer → Type 0

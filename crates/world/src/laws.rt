@@ -9,9 +9,9 @@ ghost use Rattle.world.specs.Wire.{IsFaithful, SpellsLabel};
 ghost use Rattle.world.specs.Close.{IsClose, IsHonest, IsUninjected};
 ghost use Rattle.world.specs.PlaceRun.{PlaceWorld, PlaceRun};
 ghost use Rattle.world.specs.Reach.{highest_taken, shift_of};
-ghost use Rattle.world.specs.Good.{IsGood, PlaysRightly, MayPlay};
+ghost use Rattle.world.specs.Good.{IsGood, KeepsPromises, PlaysRightly, MayPlay};
 ghost use Rattle.receiver.specs.declared.answer.Played.{Played as Play_answer};
-ghost use Rattle.world.specs.World.{stand_of};
+ghost use Rattle.world.specs.World.{IsLogged, stand_of};
 ghost use Rattle.world.specs.Round.{Adds, IsRound, IsMarkedUpTo, IsMendable, IsMended};
 
 use crate::world::World;
@@ -66,6 +66,16 @@ pub fn logs_are_good()
     nack_is_determined();
     hearing_is_determined();
     feedback_is_determined();
+}
+
+/// All of these at once, of a log with the oldest entry first.
+pub(crate) fn logs_keep_promises()
+    ensures { (c : Config) → IsConfig c → (log : List Entry) (end : WorldState) → IsLogged c log end → KeepsPromises c log end }
+{
+    logs_are_in_order();
+    wires_are_faithful();
+    repeats_are_limited();
+    logs_are_good();
 }
 
 /// One undisturbed round mends: where a log is close and honest, and no place is marked above the greatest one taken,

@@ -1,18 +1,14 @@
 //! One undisturbed round that settles a world.
 ghost use Rattle.std.specs.Prelude.{◌≡◌, ◌≤◌, ◌+◌, ◌*◌, ◌++◌, [], ◌∷◌, ℕ, length, reverse, IfOk, OnOk, OnErr, MatchOption};
 ghost use Rattle.world.specs.Answers.{Step};
-ghost use Rattle.world.specs.Reading.{repairs_of, IsRising, IsFinal};
-ghost use Rattle.world.specs.Wire.{IsFaithful};
-ghost use Rattle.world.specs.Good.{PlaysRightly};
+ghost use Rattle.world.specs.Good.{KeepsPromises};
 ghost use Rattle.world.specs.Reach.{highest_taken, shift_of};
 ghost use Rattle.world.specs.Close.{IsClose, IsHonest};
 ghost use Rattle.world.specs.Round.{GoesOn, IsRound, IsRoundBegun, IsMarkedUpTo, IsMendable, IsMended};
 ghost use Rattle.world.specs.World.{IsLogged, stand_of};
 
 use crate::event::{Entry, Event};
-use crate::laws::{
-    logs_are_good, logs_are_in_order, repeats_are_limited, rounds_mend, wires_are_faithful,
-};
+use crate::laws::{logs_keep_promises, rounds_mend};
 use crate::world::World;
 use fbwire::{compound_is_determined, nack_is_determined};
 use receiver::hearing_is_determined;
@@ -44,18 +40,11 @@ impl<H: History, W: Window> World<H, W> {
             → IsMendable self.old.config (shift_of (reverse self.old.log)) (stand_of self.old) place now
             → IsMended (shift_of (reverse self.new.log)) (stand_of self.new) place × IsClose (reverse self.new.log)) }
 
-        // As after each event: the log answers events, is in order, and its beginnings are good; the wire is faithful to it.
+        // As after each event: the log answers events, and keeps to what such logs promise.
         ensures logged { IsLogged self.new.config self.new.log (stand_of self.new) }
-        ensures rising { IsRising self.new.config (reverse self.new.log) }
-        ensures finals { IsFinal (reverse self.new.log) }
-        ensures faithful { IsFaithful self.new.config (reverse self.new.log) self.new.wire }
-        ensures repeats { (place : ℕ) → repairs_of place (reverse self.new.log) ≤ self.new.config.repeats }
-        ensures good { PlaysRightly self.new.config self.new.log (stand_of self.new) }
+        ensures promises { KeepsPromises self.new.config self.new.log (stand_of self.new) }
     {
-        logs_are_in_order();
-        wires_are_faithful();
-        repeats_are_limited();
-        logs_are_good();
+        logs_keep_promises();
         let done = self.ask_and_repair(now);
         self.keeps_log();
         done

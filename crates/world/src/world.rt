@@ -5,17 +5,15 @@ ghost use Rattle.receiver.specs.Asks.{AsksWithin};
 ghost use Rattle.receiver.specs.Receiver.{state_of};
 ghost use Rattle.world.specs.Config.{IsConfig};
 ghost use Rattle.world.specs.Answers.{Step, Answers};
-ghost use Rattle.world.specs.Reading.{repairs_of, IsRising, IsFinal};
-ghost use Rattle.world.specs.Wire.{IsFaithful};
 ghost use Rattle.world.specs.Close.{IsClose, IsUninjected};
-ghost use Rattle.world.specs.Good.{IsGood, PlaysRightly};
+ghost use Rattle.world.specs.Good.{IsGood, KeepsPromises};
 ghost use Rattle.world.specs.World.{IsLogged, stand_of, empty};
 
 use crate::closeness::Closeness;
 use crate::config::Config;
 use crate::ends::answered;
 use crate::event::{Entry, Event, Label};
-use crate::laws::{logs_are_good, logs_are_in_order, repeats_are_limited, wires_are_faithful};
+use crate::laws::{logs_are_good, logs_keep_promises};
 use receiver::Receiver;
 use rtpwire::Datagram;
 use sender::Sender;
@@ -80,20 +78,11 @@ impl<H: History, W: Window> World<H, W> {
         ensures kept { self.new.sender.past.capacity ≡ self.new.config.history }
         ensures err { OnErr result (self.new ≡ self.old) }
 
-        // The log answers the events so far, so it is in order, and the wire is faithful to it.
+        // The log answers the events so far, and keeps to what such logs promise.
         ensures logged { OnOk result (IsLogged self.new.config self.new.log (stand_of self.new)) }
-        ensures rising { OnOk result (IsRising self.new.config (reverse self.new.log)) }
-        ensures finals { OnOk result (IsFinal (reverse self.new.log)) }
-        ensures faithful { OnOk result (IsFaithful self.new.config (reverse self.new.log) self.new.wire) }
-        // No place is retransmitted more often than the configuration allows.
-        ensures repeats { OnOk result ((place : ℕ) → repairs_of place (reverse self.new.log) ≤ self.new.config.repeats) }
-        // Each beginning of the log that is close and honest is good, and answers the first of the events.
-        ensures good { OnOk result (PlaysRightly self.new.config self.new.log (stand_of self.new)) }
+        ensures promises { OnOk result (KeepsPromises self.new.config self.new.log (stand_of self.new)) }
     {
-        logs_are_in_order();
-        wires_are_faithful();
-        repeats_are_limited();
-        logs_are_good();
+        logs_keep_promises();
         self.config.limits();
         self.log.reserve(1)?;
         self.wire.reserve(1)?;
@@ -180,21 +169,13 @@ pub fn run<H: History, W: Window>(
     ensures kept { IfOk result (λ world. world.sender.past.capacity ≡ config.now.history) }
     // One entry for each event, each the answer of its end in the state that those before it left.
     ensures answers { IfOk result (λ world. Answers config.now (reverse events.now) (reverse world.log) (stand_of world)) }
-    // What is played or given up rises, and is played never again.
-    ensures rising { IfOk result (λ world. IsRising config.now (reverse world.log)) }
-    ensures finals { IfOk result (λ world. IsFinal (reverse world.log)) }
-    // What lies on the wire was sent.
-    ensures faithful { IfOk result (λ world. IsFaithful config.now (reverse world.log) world.wire) }
-    // No place is retransmitted more often than the configuration allows.
-    ensures repeats { IfOk result (λ world. (place : ℕ) → repairs_of place (reverse world.log) ≤ config.now.repeats) }
-    // The headline: each beginning of the log that is close and honest is good, and answers the first of these
-    // events. The receiver plays what was sent at each place, gives up and waits for cause alone, and refuses lawfully.
-    ensures good { IfOk result (λ world. PlaysRightly config.now world.log (stand_of world)) }
+    // What is played or given up rises, and is played never again; what lies on the wire was sent; no place is
+    // retransmitted more often than the configuration allows; and, the headline, each beginning of the log that is close and
+    // honest is good, and answers the first of these events: the receiver plays what was sent at each place, gives up and
+    // waits for cause alone, and refuses lawfully.
+    ensures promises { IfOk result (λ world. KeepsPromises config.now world.log (stand_of world)) }
 {
-    logs_are_in_order();
-    wires_are_faithful();
-    repeats_are_limited();
-    logs_are_good();
+    logs_keep_promises();
     config.limits();
     let mut world = World::new(alloc, config)?;
     for event in events {

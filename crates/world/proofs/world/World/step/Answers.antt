@@ -26,17 +26,5 @@ invariant_of-self-2 g c =
       tells_more closeness.result.highest closeness.result.holds w.log.items c.push_reserved.new.self.items c.answered-entry.result log (closeness.ensures (reverse w.log.items) c.self.invariant.5),
     )
 
-pub returns-clause-rising : goal.returns-clause-rising
-returns-clause-rising g c = c.logs_are_in_order.ensures.rising _ _ _ _ (returns-clause-logged g c).answers
-
-pub returns-clause-finals : goal.returns-clause-finals
-returns-clause-finals g c = c.logs_are_in_order.ensures.finals _ _ _ _ (returns-clause-logged g c).answers
-
-pub returns-clause-faithful : goal.returns-clause-faithful
-returns-clause-faithful g c = c.wires_are_faithful.ensures.faithful _ c.limits.ensures _ _ _ (returns-clause-logged g c).answers
-
-pub returns-clause-repeats : goal.returns-clause-repeats
-returns-clause-repeats g c = c.repeats_are_limited.ensures _ _ _ _ (returns-clause-logged g c).answers
-
-pub returns-clause-good : goal.returns-clause-good
-returns-clause-good g c = c.logs_are_good.ensures.beginnings _ c.limits.ensures _ _ _ (returns-clause-logged g c).answers
+pub returns-clause-promises : goal.returns-clause-promises
+returns-clause-promises g c = c.logs_keep_promises.ensures _ c.limits.ensures _ _ (returns-clause-logged g c)
