@@ -12,6 +12,4 @@ mod logs;
 #[cfg(test)]
 mod memory;
 #[cfg(test)]
-mod soak_log;
-#[cfg(test)]
 mod soaks;
