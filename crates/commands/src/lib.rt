@@ -22,5 +22,5 @@ pub use output::{Stream, WriteFailed};
 pub use pack::{PackFault, pack_text};
 pub use show::{ShowFault, show_trace};
 pub use sim::sim_text;
-pub use tally_text::write_tally;
+pub use tally_text::push_tally;
 pub use udp_link::UdpLink;

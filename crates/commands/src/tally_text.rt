@@ -1,32 +1,25 @@
 //! The line of a tally.
-ghost use Rattle.std.specs.Prelude.{OnOk};
-ghost use Rattle.std.specs.Io.KnownBytes.{Appends};
 ghost use Rattle.commands.specs.TallyText.{tally_line};
+ghost use Rattle.lines.specs.Sink.{Pushes};
 
-use crate::output::WriteFailed;
+use lines::{Sink, Word, push_line};
 use runs::Tally;
-use std::io::Write;
 
-/// Writes the line of a tally, in which the packets that were dropped are called so.
-pub fn write_tally<W: Write>(
-    output: &mut W,
-    dropped: &str,
-    tally: &Tally,
-) -> Result<(), WriteFailed>
-    ensures { OnOk result (Appends (W.contents output.old) (W.contents output.new) (tally_line dropped.now tally.now)) }
+/// Pushes the line of a tally, in which the packets that were dropped are called so.
+pub fn push_tally<S: Sink>(sink: &mut S, dropped: &str, tally: &Tally) -> Result<(), S::Fault>
+    ensures { Pushes result (S.contents sink.old) (S.contents sink.new) (tally_line dropped.now tally.now) }
 {
-    let Tally {
-        sent,
-        dropped: count,
-        repaired,
-        played,
-        gaps,
-    } = *tally;
-    match writeln!(
-        output,
-        "sent {sent} {dropped} {count} repaired {repaired} played {played} gaps {gaps}"
-    ) {
-        Ok(()) => Ok(()),
-        Err(_) => Err(WriteFailed),
-    }
+    let words = [
+        Word::Text(b"sent"),
+        Word::Decimal(tally.sent),
+        Word::Text(dropped.as_bytes()),
+        Word::Decimal(tally.dropped),
+        Word::Text(b"repaired"),
+        Word::Decimal(tally.repaired),
+        Word::Text(b"played"),
+        Word::Decimal(tally.played),
+        Word::Text(b"gaps"),
+        Word::Decimal(tally.gaps),
+    ];
+    push_line(sink, &words)
 }

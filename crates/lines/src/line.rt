@@ -9,7 +9,7 @@ use crate::sink::Sink;
 use crate::word::{Word, push_word};
 
 /// Pushes a line of these words, with its line feed.
-pub(crate) fn push_line<S: Sink>(sink: &mut S, words: &[Word<'_>]) -> Result<(), S::Fault>
+pub fn push_line<S: Sink>(sink: &mut S, words: &[Word<'_>]) -> Result<(), S::Fault>
     ensures { Pushes result (S.contents sink.old) (S.contents sink.new) (line_of (map word_text words.now)) }
 {
     push_words(sink, words)?;

@@ -11,7 +11,7 @@ use itoa::Buffer;
 
 /// A word of a line, by what it says.
 #[derive(Clone, Copy)]
-pub(crate) enum Word<'a> {
+pub enum Word<'a> {
     /// This text.
     Text(&'a [u8]),
     /// A number in decimal digits.

@@ -1,3 +1,4 @@
 pub mod Status
 pub mod CommandLine
+pub mod Printing
 pub mod Program

@@ -1,21 +1,23 @@
 //! What the program does with a command line, over whatever it reads and writes.
-ghost use Rattle.std.specs.Prelude.{◌≡◌, ◌⊎◌, ◌≤◌, ℕ, List, Option, IfErr, IfSome, None, OnOk, is_some, map, true};
+ghost use Rattle.std.specs.Prelude.{◌≡◌, ◌⊎◌, ◌≤◌, ℕ, List, Option, IfErr, IfSome, None, OnErr, OnOk, is_some, map, true};
 ghost use Rattle.std.specs.Io.Buffered.{writer_contents, writer_inner};
-ghost use Rattle.std.specs.Io.KnownBytes.{Keeps};
-ghost use Rattle.clap.specs.Words.{kind_of};
-ghost use Rattle.clap.specs.declared.error.ErrorKind.TheVariants.{DisplayHelp, DisplayVersion};
-ghost use Rattle.rtxtool.specs.CommandLine.{IsWithin, said_by};
+ghost use Rattle.std.specs.Io.KnownBytes.{Appends, Keeps};
 ghost use Rattle.commands.specs.Pack.{WrotePacking};
-ghost use Rattle.rtxtool.specs.Program.{Does, Ends, Fails, FailsIn, FailsToLoop, Known, MayBe, PrintedAll, PrintedBefore, PrintedLoop, PrintedTally, RefusesPacking, RefusesTrace, ShowedAll, Succeeds, unknown};
+ghost use Rattle.commands.specs.TallyText.{tally_line};
+ghost use Rattle.lines.specs.Sink.{AppendsFront};
+ghost use Rattle.rtxtool.specs.CommandLine.{IsWithin, said_by};
+ghost use Rattle.rtxtool.specs.Printing.{CameOut, ComesOut, FailsToDraw, FailsToLoop, Known, MayBe, PrintedAll, PrintedBefore, PrintedLoop, PrintedTally, RefusesPacking, RefusesTrace, ShowedAll, unknown};
+ghost use Rattle.rtxtool.specs.Program.{Does, Ends, Helps, HelpsNot, Stops, Succeeds};
+ghost use Rattle.rtxtool.specs.Status.{status_of};
 
 use crate::command_line::{Choice, ChooseFault, choose};
 use crate::tell::{ToolFault, tell};
 use commands::{
     PackFault, ShowFault, SimFault, Stream, WriteFailed, drop_list, loopback, pack_text,
-    show_trace, sim_text, write_tally,
+    push_tally, show_trace, sim_text,
 };
 use places::Place;
-use runs::{Link, soak_seed};
+use runs::{Link, Tally, soak_seed};
 use std::alloc::Global;
 use std::convert::AsStr;
 use std::io::{BufWriter, Read, Write};
@@ -70,7 +72,7 @@ fn run<S: AsStr, O: Outside, W: Write + Drop>(
     output: &mut Stream<BufWriter<W>>,
 ) -> Result<(), ToolFault>
     ensures ok { OnOk result (Succeeds (O.known outside.now) (map S.text words.now) (writer_contents W.contents output.old.writer) (W.contents (writer_inner output.new.writer))) }
-    ensures err { IfErr result (λ fault. Fails fault (O.known outside.now) (map S.text words.now) (writer_contents W.contents output.old.writer) (W.contents (writer_inner output.new.writer))) }
+    ensures err { IfErr result (λ fault. Ends (status_of fault) (O.known outside.now) (map S.text words.now) (writer_contents W.contents output.old.writer) (W.contents (writer_inner output.new.writer))) }
 {
     match choose(alloc, words) {
         Ok(choice) => does(alloc, &choice, outside, output),
@@ -88,7 +90,7 @@ fn does<O: Outside, W: Write + Drop>(
 ) -> Result<(), ToolFault>
     requires { IsWithin choice.now }
     ensures ok { OnOk result (Does (said_by choice.now) (O.known outside.now) (writer_contents W.contents output.old.writer) (W.contents (writer_inner output.new.writer))) }
-    ensures err { IfErr result (λ fault. FailsIn fault (said_by choice.now) (O.known outside.now) (writer_contents W.contents output.old.writer) (W.contents (writer_inner output.new.writer))) }
+    ensures err { IfErr result (λ fault. Stops (status_of fault) (said_by choice.now) (O.known outside.now) (writer_contents W.contents output.old.writer) (W.contents (writer_inner output.new.writer))) }
 {
     match choice {
         Choice::Sim(path) => match outside.open(path) {
@@ -177,15 +179,14 @@ fn soak<W: Write + Drop>(
 ) -> Result<(), ToolFault>
     requires { loss ≤ 1000 }
     ensures ok { OnOk result (PrintedTally seed packets loss (writer_contents W.contents output.old.writer) (W.contents (writer_inner output.new.writer))) }
-    ensures err { IfErr result (λ fault. (fault ≡ ToolFault.Output) ⊎ (fault ≡ ToolFault.Memory)) }
+    ensures err { IfErr result (λ fault. FailsToDraw fault seed packets loss (writer_contents W.contents output.old.writer) (W.contents (writer_inner output.new.writer))) }
 {
     let Ok(tally) = soak_seed::<RingHistory, RingWindow>(alloc, seed, packets, loss) else {
         return Err(ToolFault::Memory);
     };
-    let written = write_tally(&mut output.writer, "lost", &tally);
-    match (bring_out(output), written) {
-        (Ok(()), Ok(())) => Ok(()),
-        _ => Err(ToolFault::Output),
+    match print_tally("lost", &tally, output) {
+        Ok(()) => Ok(()),
+        Err(WriteFailed) => Err(ToolFault::Output),
     }
 }
 
@@ -198,7 +199,7 @@ fn over_link<O: Outside, W: Write + Drop>(
     output: &mut Stream<BufWriter<W>>,
 ) -> Result<(), ToolFault>
     ensures ok { OnOk result (MayBe (O.known outside.now).output × MayBe (O.known outside.now).link × PrintedLoop packets drops.now (writer_contents W.contents output.old.writer) (W.contents (writer_inner output.new.writer))) }
-    ensures err { IfErr result (λ fault. FailsToLoop fault packets drops.now (writer_contents W.contents output.old.writer) (W.contents (writer_inner output.new.writer))) }
+    ensures err { IfErr result (λ fault. FailsToLoop fault packets drops.now (O.known outside.now) (writer_contents W.contents output.old.writer) (W.contents (writer_inner output.new.writer))) }
 {
     let list = match drop_list(alloc, drops, packets) {
         Ok(list) => list,
@@ -219,16 +220,32 @@ fn over_link<O: Outside, W: Write + Drop>(
         Ok(tally) => tally,
         Err(fault) => return Err(ToolFault::Drive(fault)),
     };
-    let written = write_tally(&mut output.writer, "dropped", &tally);
-    match (bring_out(output), written) {
-        (Ok(()), Ok(())) => Ok(()),
-        _ => Err(ToolFault::Output),
+    match print_tally("dropped", &tally, output) {
+        Ok(()) => Ok(()),
+        Err(WriteFailed) => Err(ToolFault::Output),
     }
 }
 
-/// Brings out what the buffer holds.
+/// Prints the line of a tally.
+fn print_tally<W: Write + Drop>(
+    dropped: &str,
+    tally: &Tally,
+    output: &mut Stream<BufWriter<W>>,
+) -> Result<(), WriteFailed>
+    ensures ok { OnOk result (Appends (writer_contents W.contents output.old.writer) (W.contents (writer_inner output.new.writer)) (tally_line dropped.now tally.now)) }
+    ensures err { OnErr result (ComesOut (λ total. AppendsFront (writer_contents W.contents output.old.writer) total (tally_line dropped.now tally.now)) (W.contents (writer_inner output.new.writer))) }
+{
+    let pushed = push_tally(output, dropped, tally);
+    match (bring_out(output), pushed) {
+        (Ok(()), Ok(())) => Ok(()),
+        _ => Err(WriteFailed),
+    }
+}
+
+/// Brings out what the buffer holds. Where that fails, a beginning of what was put in has come out.
 fn bring_out<W: Write + Drop>(output: &mut Stream<BufWriter<W>>) -> Result<(), WriteFailed>
-    ensures { OnOk result (Keeps (writer_contents W.contents output.old.writer) (W.contents (writer_inner output.new.writer))) }
+    ensures came { CameOut (writer_contents W.contents output.old.writer) (W.contents (writer_inner output.new.writer)) }
+    ensures ok { OnOk result (Keeps (writer_contents W.contents output.old.writer) (W.contents (writer_inner output.new.writer))) }
 {
     match output.writer.flush() {
         Ok(()) => Ok(()),
@@ -238,8 +255,8 @@ fn bring_out<W: Write + Drop>(output: &mut Stream<BufWriter<W>>) -> Result<(), W
 
 /// Prints the help or the version that was asked for; any other text of `clap` is a fault.
 fn help<W: Write>(text: clap::Error, output: &mut Stream<W>) -> Result<(), ToolFault>
-    ensures ok { OnOk result (kind_of text ≡ DisplayHelp ⊎ kind_of text ≡ DisplayVersion) }
-    ensures err { IfErr result (λ fault. fault ≡ ToolFault.Output ⊎ fault ≡ ToolFault.Choose (ChooseFault.Line text)) }
+    ensures ok { OnOk result (Helps text) }
+    ensures err { IfErr result (HelpsNot text) }
 {
     if text.use_stderr() {
         return Err(ToolFault::Choose(ChooseFault::Line(text)));
