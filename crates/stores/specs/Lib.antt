@@ -5,6 +5,7 @@ pub mod ByPlace
 pub mod PlaceLists
 pub mod Asking
 pub mod Past
+pub mod RunIsPast
 pub mod PastByPlace
 pub mod Bits
 pub mod Index

@@ -1,7 +1,5 @@
 -- What a history is to its callers: the latest entries, one for each place, the oldest first.
 use Rattle.std.specs.Prelude.{◌≡◌, ℕ, ◌+◌, ◌-◌, ◌^◌, ◌<◌, ◌≤◌, ◌==◌, Bool, true, false, List, [], ◌∷◌, ◌++◌, length, map, drop, slice_get, Option, Some, if◌then◌else◌}
-use Rattle.std.proofs.Common.{refl, ap, sym, subst, ◌∙◌, arith}
-use Rattle.std.proofs.lemmas.Option.{same_Some}
 use Rattle.std.specs.Option.{ForSome, option_map}
 use Rattle.std.specs.List.{find}
 use Rattle.places.specs.Place.{number}
@@ -88,26 +86,3 @@ repeated entry = record { place = entry.place; content = entry.content; repeats 
 
 abbrev pub repeated_at : Past → ℕ → Past
 repeated_at h q = changed_at repeated h q
-
-first_is : (k j : ℕ) (entries : List HistoryEntry) → IsRun k entries → option_map (λ (entry : HistoryEntry). entry.place) (slice_get entries 0) ≡ Some j → j ≡ k
-first_is k j [] run e = absurd (cc)
-first_is k j (entry ∷ entries) run e = sym (same_Some entry.place j e) ∙ (let at = (run 0 entry refl).0 in omega arith)
-
-next_is : (k next : ℕ) (entries : List HistoryEntry) → IsRun k entries →
-    option_map (λ k. k + length entries) (option_map (λ (entry : HistoryEntry). entry.place) (slice_get entries 0)) ≡ Some next → next ≡ k + length entries
-next_is k next [] run e = absurd (cc)
-next_is k next (entry ∷ entries) run e =
-    let place : entry.place ≡ k = let at = (run 0 entry refl).0 in omega arith in
-    sym (same_Some _ next e) ∙ ap (λ j. j + length (entry ∷ entries)) place
-
--- entries one after another are a history
-pub past_of_run : (k : ℕ) (entries : List HistoryEntry) (capacity : ℕ) → length entries ≤ capacity → 0 < capacity → capacity ≤ 8192 → IsRun k entries → k + length entries ≤ 2 ^ 48 →
-    IsPast (record { entries = entries; capacity = capacity })
-past_of_run k entries capacity room nonzero limit run ends =
-    record {
-      room = room;
-      nonzero = nonzero;
-      limit = limit;
-      run = λ j e. subst (λ i. IsRun i entries) (sym (first_is k j entries run e)) run;
-      ends = λ next e. let at = next_is k next entries run e in omega arith;
-    }

@@ -41,7 +41,8 @@ impl ListHistory {
 
 impl History for ListHistory {
     ghost use Rattle.std.specs.Prelude.{◌≡◌};
-    ghost use Rattle.stores.specs.Past.{Past, past_of_run};
+    ghost use Rattle.stores.specs.Past.{Past};
+    ghost use Rattle.stores.specs.RunIsPast.{past_of_run};
 
     ghost meaning = { λ h. record { entries = h.entries.items; capacity = h.capacity } };
 
