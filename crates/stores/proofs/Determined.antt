@@ -13,9 +13,9 @@ left_alike (Ok a) (Err b) new other ok err e o f p g = absurd (cc)
 left_alike (Err a) (Ok b) new other ok err e o f p g = absurd (cc)
 
 pub one_put : (old new other : Span) (place now : ℕ) (content : Content) (r s : Result ℕ PutFault) →
-    r ≡ put_answer old place old.cursor → OnOk r (new ≡ after_put old place content now old.cursor) → OnErr r (new ≡ old) →
-    s ≡ put_answer old place old.cursor → OnOk s (other ≡ after_put old place content now old.cursor) → OnErr s (other ≡ old) →
+    r ≡ put_answer old place → OnOk r (new ≡ after_put old place content now) → OnErr r (new ≡ old) →
+    s ≡ put_answer old place → OnOk s (other ≡ after_put old place content now) → OnErr s (other ≡ old) →
     (r ≡ s) × (new ≡ other)
 one_put old new other place now content r s answer ok err answer' ok' err' =
     let same = answer ∙ sym answer' in
-    (same, left_alike r s new other (after_put old place content now old.cursor) old same ok err ok' err')
+    (same, left_alike r s new other (after_put old place content now) old same ok err ok' err')

@@ -11,7 +11,7 @@ use Rattle.stores.specs.declared.slot.Slot.TheVariants.{Held, Missing}
 use Rattle.stores.specs.declared.slot.PutFault.{PutFault}
 use Rattle.stores.specs.declared.slot.PutFault.TheVariants.{Late}
 use Rattle.stores.specs.Span.{Span, IsSpan}
-use Rattle.stores.specs.Put.{noticed_at, overrun_of, answer_at, put_answer, extended, after_higher, after_put}
+use Rattle.stores.specs.Put.{noticed_at, overrun_of, answer_at, put_answer, extended, after_higher, left_from, after_put}
 use Rattle.stores.specs.ByPlace.{slot_from, StartsWith, Gains, PutStep}
 use Rattle.stores.proofs.Lookup.{slice_get-append_left, slice_get-append_right, slice_get-drop, slice_get-replicate, slice_get-set_same, slice_get-set_other}
 
@@ -116,14 +116,14 @@ module _ (slots : List Slot) (capacity k p : ℕ) (content : Content) (now : ℕ
         capacity = refl;
       }
 
-  gains : IsSpan at → k ≤ p → Gains at (after_put at p content now (Some k)) (k + overrun_of capacity k p) p content now
+  gains : IsSpan at → k ≤ p → Gains at (after_put at p content now) (k + overrun_of capacity k p) p content now
   gains is over =
       cond_both (nat_lt p (k + length slots)) _ _ (λ s. Gains at s (k + overrun_of capacity k p) p content now)
       (λ e. gains_inside is over (ltb-true _ _ e))
       (λ e. gains_above is over (ltb-false _ _ e))
 
 -- a put that was not refused, at a window that was not started
-starts : (old : Span) (p : ℕ) (content : Content) (now : ℕ) → StartsWith old (after_put old p content now None) p content
+starts : (old : Span) (p : ℕ) (content : Content) (now : ℕ) → StartsWith old (left_from old p content now None) p content
 starts old p content now =
     record {
       cursor = refl;
@@ -137,7 +137,7 @@ module _ (slots : List Slot) (capacity k p : ℕ) (content : Content) (now : ℕ
   old = at slots capacity k p content now
 
   abbrev Leaves : Result ℕ PutFault → Type 0
-  Leaves result = OnOk result (new ≡ after_put old p content now (Some k)) → OnErr result (new ≡ old) → PutStep p content now old result new
+  Leaves result = OnOk result (new ≡ after_put old p content now) → OnErr result (new ≡ old) → PutStep p content now old result new
 
   slot_at_or_above : k ≤ p → slot_from k slots p ≡ slice_get slots (p - k)
   slot_at_or_above over = grind (arith, nat_tests)
@@ -149,7 +149,7 @@ module _ (slots : List Slot) (capacity k p : ℕ) (content : Content) (now : ℕ
       let below : p - k < length slots = slice_get_within slots (p - k) _ e in
       let room : length slots ≤ capacity = is.room in
       let none : overrun_of capacity k p ≡ 0 = omega arith in
-      let G : ℕ → Type 0 = λ n. Gains old (after_put old p content now (Some k)) (k + n) p content now in
+      let G : ℕ → Type 0 = λ n. Gains old (after_put old p content now) (k + n) p content now in
       (over, rw here (λ held. held), sym none, rw ok (subst G none (gains slots capacity k p content now is over)))
   by_slot is over None here e ok err = (over, rw here (λ held. held), refl, rw ok (gains slots capacity k p content now is over))
 
@@ -159,14 +159,14 @@ module _ (slots : List Slot) (capacity k p : ℕ) (content : Content) (now : ℕ
   by_test is false e ok err = let over : k ≤ p = ltb-false _ _ e in by_slot is over _ (slot_at_or_above over) refl ok err
 
 by_cursor : (cursor : Option ℕ) (slots : List Slot) (capacity p : ℕ) (content : Content) (now : ℕ) (new : Span) → let s : Span = record { cursor = cursor; slots = slots; capacity = capacity } in
-    IsSpan s → OnOk (put_answer s p cursor) (new ≡ after_put s p content now cursor) → OnErr (put_answer s p cursor) (new ≡ s) → PutStep p content now s (put_answer s p cursor) new
+    IsSpan s → OnOk (put_answer s p) (new ≡ after_put s p content now) → OnErr (put_answer s p) (new ≡ s) → PutStep p content now s (put_answer s p) new
 by_cursor None slots capacity p content now new is ok err = (refl, rw ok (starts _ p content now))
 by_cursor (Some k) slots capacity p content now new is ok err = by_test slots capacity k p content now new is (nat_lt p k) refl ok err
 
 -- what a put answers and leaves, place by place
 pub put_by_place : (old new : Span) (p : ℕ) (content : Content) (now : ℕ) (result : Result ℕ PutFault) → IsSpan old →
-    result ≡ put_answer old p old.cursor → OnOk result (new ≡ after_put old p content now old.cursor) → OnErr result (new ≡ old) →
+    result ≡ put_answer old p → OnOk result (new ≡ after_put old p content now) → OnErr result (new ≡ old) →
     PutStep p content now old result new
 put_by_place old new p content now result is answer ok err =
-    let T : Result ℕ PutFault → Type 0 = λ r. OnOk r (new ≡ after_put old p content now old.cursor) → OnErr r (new ≡ old) → PutStep p content now old r new in
+    let T : Result ℕ PutFault → Type 0 = λ r. OnOk r (new ≡ after_put old p content now) → OnErr r (new ≡ old) → PutStep p content now old r new in
     subst T (sym answer) (by_cursor old.cursor old.slots old.capacity p content now new is) ok err

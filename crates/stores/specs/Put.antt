@@ -22,11 +22,14 @@ answer_at (Some (Held content)) overrun = Err Duplicate
 answer_at (Some (Missing noticed asks last)) overrun = Ok 0
 answer_at None overrun = Ok overrun
 
--- the answer, by the cursor of the window
-abbrev pub put_answer : Span → ℕ → Option ℕ → Result ℕ PutFault
-put_answer s p None = Ok 0
-put_answer s p (Some k) =
+abbrev pub answer_from : Span → ℕ → Option ℕ → Result ℕ PutFault
+answer_from s p None = Ok 0
+answer_from s p (Some k) =
     if nat_lt p k then Err Late else answer_at (slice_get s.slots (p - k)) (overrun_of s.capacity k p)
+
+-- the answer
+abbrev pub put_answer : Span → ℕ → Result ℕ PutFault
+put_answer s p = answer_from s p s.cursor
 
 -- the slots without the first n, then so many missing ones, then a held one
 abbrev pub extended : List Slot → ℕ → ℕ → Slot → Slot → List Slot
@@ -42,10 +45,13 @@ after_higher s n k p content now =
       capacity = s.capacity;
     }
 
--- the window after a put that was not refused, by the cursor that it had
-abbrev pub after_put : Span → ℕ → Content → ℕ → Option ℕ → Span
-after_put s p content now None = record { cursor = Some p; slots = Held content ∷ []; capacity = s.capacity }
-after_put s p content now (Some k) =
+abbrev pub left_from : Span → ℕ → Content → ℕ → Option ℕ → Span
+left_from s p content now None = record { cursor = Some p; slots = Held content ∷ []; capacity = s.capacity }
+left_from s p content now (Some k) =
     if nat_lt p (k + length s.slots)
     then record { cursor = Some k; slots = slice_set s.slots (p - k) (Held content); capacity = s.capacity }
     else after_higher s (overrun_of s.capacity k p) (k + overrun_of s.capacity k p) p content now
+
+-- the window after a put that was not refused
+abbrev pub after_put : Span → ℕ → Content → ℕ → Span
+after_put s p content now = left_from s p content now s.cursor

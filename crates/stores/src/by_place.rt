@@ -33,8 +33,8 @@ pub fn window_by_place()
 
     // What `put` answers and leaves, and what `take_front` gives and leaves.
     ensures put { (old new : Span) (place now : ℕ) (content : Content) (result : Result ℕ PutFault) →
-        IsSpan old → result ≡ put_answer old place old.cursor →
-        OnOk result (new ≡ after_put old place content now old.cursor) → OnErr result (new ≡ old) →
+        IsSpan old → result ≡ put_answer old place →
+        OnOk result (new ≡ after_put old place content now) → OnErr result (new ≡ old) →
         PutStep place content now old result new }
     ensures take_front { (old new : Span) (slot : Slot) → IsSpan old → front_of old ≡ Some slot →
         new ≡ without_front old → IsSomeAnd old.cursor (LosesFront old slot new) }

@@ -18,8 +18,8 @@ ghost use Rattle.stores.specs.Past.{Past, entry_at};
 pub fn answers_are_determined()
     // What `put` answers and leaves.
     ensures put { (old new other : Span) (place now : ℕ) (content : Content) (r s : Result ℕ PutFault)
-        → r ≡ put_answer old place old.cursor → OnOk r (new ≡ after_put old place content now old.cursor) → OnErr r (new ≡ old)
-        → s ≡ put_answer old place old.cursor → OnOk s (other ≡ after_put old place content now old.cursor) → OnErr s (other ≡ old)
+        → r ≡ put_answer old place → OnOk r (new ≡ after_put old place content now) → OnErr r (new ≡ old)
+        → s ≡ put_answer old place → OnOk s (other ≡ after_put old place content now) → OnErr s (other ≡ old)
         → (r ≡ s) × (new ≡ other) }
     // The slot that `take_front` takes, and what it leaves.
     ensures take_front { (old new other : Span) (x y : Slot)

@@ -16,7 +16,8 @@ use std::alloc::Global;
 /// of them held or missing.
 ///
 /// It takes memory in `new` alone, for all that it will ever keep, so no other call can meet a want of it.
-/// Every call leaves its capacity as it is. All may be called at any time, but `take_front` and `count_ask`.
+/// Every call leaves its capacity as it is. Any of them may be called at any time, but three: `new` wants a capacity
+/// that it can keep, `take_front` a slot at the front, and `count_ask` a place that may be asked for once more.
 ///
 /// The contracts speak of a cursor and a list of slots; [`window_by_place`](crate::window_by_place) says
 /// what they mean for the slot of each place.
@@ -50,8 +51,8 @@ pub trait Window: Drop {
     /// `Late` (35): the place lies below the cursor. `Duplicate` (36): the place is held already. After
     /// either the window is as it was.
     fn put(&mut self, place: Place, content: Content, now: u64) -> Result<u64, PutFault>
-        ensures answer { result ≡ put_answer (meaning self.old) place (meaning self.old).cursor }
-        ensures ok { OnOk result (meaning self.new ≡ after_put (meaning self.old) place content now (meaning self.old).cursor) }
+        ensures answer { result ≡ put_answer (meaning self.old) place }
+        ensures ok { OnOk result (meaning self.new ≡ after_put (meaning self.old) place content now) }
         ensures err { OnErr result (meaning self.new ≡ meaning self.old) };
 
     /// The slot of the cursor's place. None before the first `put`, and where all places up to the highest
