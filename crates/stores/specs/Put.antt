@@ -1,10 +1,12 @@
 -- What a put of a content at a place answers, and the window that it leaves.
-use Rattle.std.specs.Prelude.{ℕ, ◌+◌, ◌-◌, List, [], ◌∷◌, ◌++◌, length, drop, replicate, slice_get, slice_set, Option, Some, None, Result, Ok, Err, if◌then◌else◌, nat_lt}
+use Rattle.std.specs.Prelude.{◌≡◌, ℕ, ◌+◌, ◌-◌, ◌<◌, ◌≤◌, List, [], ◌∷◌, ◌++◌, length, drop, replicate, slice_get, slice_set, Option, Some, None, Result, Ok, Err, if◌then◌else◌, nat_lt}
 use Rattle.rtpwire.specs.declared.content.Content.{Content}
 use Rattle.stores.specs.declared.slot.Slot.{Slot}
 use Rattle.stores.specs.declared.slot.Slot.TheVariants.{Held, Missing}
 use Rattle.stores.specs.declared.slot.PutFault.{PutFault}
 use Rattle.stores.specs.declared.slot.PutFault.TheVariants.{Late, Duplicate}
+use Rattle.stores.specs.declared.spot.Spot.{Spot}
+use Rattle.stores.specs.declared.spot.Spot.TheVariants.{Below, Within, Above}
 use Rattle.stores.specs.Span.{Span}
 
 -- a place that was noticed to be missing at this moment and never asked for
@@ -15,6 +17,14 @@ noticed_at now = Missing now 0 0
 -- below p - capacity + 1.
 abbrev pub overrun_of : ℕ → ℕ → ℕ → ℕ
 overrun_of capacity k p = p + 1 - capacity - k
+
+-- Where the place p lies to a window whose cursor is k and that has so many slots: below the cursor, in the slot at an
+-- index, or above all slots. There, what stays of the slots and the unseen places reach from the new cursor to p.
+abbrev pub IsSpot : (k count capacity p : ℕ) → Spot → Type 0
+IsSpot k count capacity p Below = p < k
+IsSpot k count capacity p (Within index) = (index < count) × (p ≡ k + index)
+IsSpot k count capacity p (Above overrun unseen) =
+    (k + count ≤ p) × (overrun ≡ overrun_of capacity k p) × (p ≡ k + overrun + (count - overrun) + unseen)
 
 -- the answer at or above the cursor, by the slot that the place has
 abbrev pub answer_at : Option Slot → ℕ → Result ℕ PutFault

@@ -14,6 +14,7 @@ mod ring;
 mod ring_history;
 mod ring_window;
 mod slot;
+mod spot;
 mod window;
 
 pub use by_place::{history_by_place, window_by_place};

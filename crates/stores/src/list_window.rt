@@ -8,6 +8,7 @@ ghost use Rattle.stores.specs.Asking.{is_due, is_missing};
 
 use crate::memory::OutOfMemory;
 use crate::slot::{PutFault, Slot};
+use crate::spot::{Spot, spot_of};
 use crate::window::Window;
 use arrayvec::ArrayVec;
 use places::Place;
@@ -63,30 +64,26 @@ impl Window for ListWindow {
             self.slots.push_reserved(Slot::Held(content));
             return Ok(0);
         };
-        if place < cursor {
-            return Err(PutFault::Late);
-        }
-        let end = cursor + self.slots.len() as u64;
-        if place < end {
-            let slot = &mut self.slots[(place - cursor) as usize];
-            return match slot {
-                Slot::Held(_) => Err(PutFault::Duplicate),
-                Slot::Missing { .. } => {
-                    *slot = Slot::Held(content);
-                    Ok(0)
+        match spot_of(cursor, self.slots.len(), self.capacity, place) {
+            Spot::Below => Err(PutFault::Late),
+            Spot::Within(index) => {
+                let slot = &mut self.slots[index];
+                match slot {
+                    Slot::Held(_) => Err(PutFault::Duplicate),
+                    Slot::Missing { .. } => {
+                        *slot = Slot::Held(content);
+                        Ok(0)
+                    }
                 }
-            };
+            }
+            Spot::Above { overrun, unseen } => {
+                drop_front(&mut self.slots, overrun);
+                add_missing(&mut self.slots, unseen, now);
+                self.slots.push_reserved(Slot::Held(content));
+                self.cursor = Some(cursor + overrun);
+                Ok(overrun)
+            }
         }
-        let overrun = (place + 1)
-            .saturating_sub(self.capacity as u64)
-            .saturating_sub(cursor);
-        drop_front(&mut self.slots, overrun);
-        let cursor = cursor + overrun;
-        let unseen = place - (cursor + self.slots.len() as u64);
-        add_missing(&mut self.slots, unseen, now);
-        self.slots.push_reserved(Slot::Held(content));
-        self.cursor = Some(cursor);
-        Ok(overrun)
     }
 
     fn front(&self) -> Option<&Slot> {

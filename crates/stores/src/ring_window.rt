@@ -11,6 +11,7 @@ use crate::bits::Bits;
 use crate::memory::OutOfMemory;
 use crate::ring::{append, drop_first};
 use crate::slot::{PutFault, Slot};
+use crate::spot::{Spot, spot_of};
 use crate::window::Window;
 use arrayvec::ArrayVec;
 use circular_buffer::HeapCircularBuffer;
@@ -65,7 +66,6 @@ impl Window for RingWindow {
         Place::new(end - 1)
     }
 
-    #[tactic(auto, using(std::proofs::lemmas::Option::slice_get_past))]
     fn put(&mut self, place: Place, content: Content, now: u64) -> Result<u64, PutFault> {
         let place = place.value();
         let Some(cursor) = self.cursor else {
@@ -73,29 +73,24 @@ impl Window for RingWindow {
             append(&mut self.slots, Slot::Held(content));
             return Ok(0);
         };
-        if place < cursor {
-            return Err(PutFault::Late);
-        }
-        let end = cursor + self.slots.len() as u64;
-        if place < end {
-            let index = (place - cursor) as usize;
-            if !self.missing.contains(index) {
-                return Err(PutFault::Duplicate);
+        match spot_of(cursor, self.slots.len(), self.slots.capacity(), place) {
+            Spot::Below => Err(PutFault::Late),
+            Spot::Within(index) => {
+                if !self.missing.contains(index) {
+                    return Err(PutFault::Duplicate);
+                }
+                *self.slots.get_mut(index).unwrap() = Slot::Held(content);
+                self.missing.clear(index);
+                Ok(0)
             }
-            *self.slots.get_mut(index).unwrap() = Slot::Held(content);
-            self.missing.clear(index);
-            return Ok(0);
+            Spot::Above { overrun, unseen } => {
+                drop_front(&mut self.slots, &mut self.missing, overrun);
+                add_missing(&mut self.slots, &mut self.missing, unseen, now);
+                append(&mut self.slots, Slot::Held(content));
+                self.cursor = Some(cursor + overrun);
+                Ok(overrun)
+            }
         }
-        let overrun = (place + 1)
-            .saturating_sub(self.slots.capacity() as u64)
-            .saturating_sub(cursor);
-        drop_front(&mut self.slots, &mut self.missing, overrun);
-        let cursor = cursor + overrun;
-        let unseen = place - (cursor + self.slots.len() as u64);
-        add_missing(&mut self.slots, &mut self.missing, unseen, now);
-        append(&mut self.slots, Slot::Held(content));
-        self.cursor = Some(cursor);
-        Ok(overrun)
     }
 
     fn front(&self) -> Option<&Slot> {

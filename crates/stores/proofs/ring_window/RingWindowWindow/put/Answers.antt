@@ -1,4 +1,4 @@
-use Rattle.std.proofs.Common.{◌≡◌, ◌-◌, ◌<◌, ◌∙◌, ap, slice_get, Some, rules, refl, sym, subst, arith}
+use Rattle.std.proofs.Common.{◌≡◌, ◌<◌, ◌∙◌, ap, length, slice_get, Some, rules, refl, sym, subst, arith}
 use Rattle.stores.specs.declared.slot.Slot.TheVariants.{Held}
 use Rattle.stores.specs.Asking.{is_missing}
 use Rattle.stores.specs.Bits.{bits_of}
@@ -7,28 +7,26 @@ use Rattle.stores.proofs.SlotPlaces.{started_set}
 use Rattle.stores.proofs.MissingIndex.{index_hold, index_push}
 use Rattle.stores.proofs.ring_window.RingWindowWindow.put.Goals as goal
 
-pub invariant_of-self-then-place-end-clause-started : goal.invariant_of-self-then-place-end-clause-started
-invariant_of-self-then-place-end-clause-started c =
+pub invariant_of-self-in-Within-clause-started : goal.invariant_of-self-in-Within-clause-started
+invariant_of-self-in-Within-clause-started c =
     let before = c.args.self.now in
-    started_set before.cursor before.slots.items (c.value-place.result - c.in-Some.cursor) (Held c.args.content) before.started
+    started_set before.cursor before.slots.items c.in-Within.index (Held c.args.content) before.started
 
-pub invariant_of-self-then-place-end-clause-index : goal.invariant_of-self-then-place-end-clause-index
-invariant_of-self-then-place-end-clause-index c =
+pub invariant_of-self-in-Within-clause-index : goal.invariant_of-self-in-Within-clause-index
+invariant_of-self-in-Within-clause-index c =
     let before = c.args.self.now in
-    let index = c.value-place.result - c.in-Some.cursor in
+    let index = c.in-Within.index in
     let found : slice_get before.slots.items index ≡ Some c.unwrap.result.now = search rules in
     let room = before.room in
     let wide = before.wide in
-    let end = c.if-place-end.true in
-    let count = c.len.ensures.len in
-    let over = c.if-place-cursor.false in
+    let within : index < length before.slots.items = search rules in
     let below : index < bits_of before.missing.words.items = omega arith in
     let missing = ap is_missing (sym found) ∙ sym (before.index.0 index below) ∙ sym c.contains.ensures ∙ c.if-not-contains.false in
     index_hold before.missing.words.items c.clear.new.self.words.items before.missing.front c.clear.new.self.front before.slots.items index (Held c.args.content) c.unwrap.result.now
     c.clear.ensures.words found missing refl below c.clear.ensures.members c.clear.ensures.size before.index
 
-pub invariant_of-self-2-clause-index : goal.invariant_of-self-2-clause-index
-invariant_of-self-2-clause-index c =
+pub invariant_of-self-in-Above-clause-index : goal.invariant_of-self-in-Above-clause-index
+invariant_of-self-in-Above-clause-index c =
     let missing = c.add_missing.new.missing in
     let is = index_push missing.words.items missing.front c.add_missing.new.slots.items (Held c.args.content) refl c.add_missing.ensures.index in
-    subst (λ xs. IsIndex missing.words.items missing.front xs) (sym c.append-2.ensures.items) is
+    subst (λ xs. IsIndex missing.words.items missing.front xs) (sym c.append-in-Above.ensures.items) is
