@@ -1,6 +1,6 @@
 -- Whole packets, and what their first four octets say of them.
-use Rattle.std.proofs.Common.{◌≡◌, ℕ, ◌+◌, ◌*◌, ◌/◌, ◌%◌, ◌<◌, ◌≤◌, Bool, true, false, eqb, ltb-false, List, ◌++◌, length, take, drop, get_or, None, refl, ap, subst, sym, ◌∙◌, arith, inl, inr, length-append}
-use Rattle.std.specs.Prelude.{not, ◌==◌, ◌&&◌, nat_lt}
+use Rattle.std.proofs.Common.{◌≡◌, ℕ, ◌+◌, ◌<◌, ◌≤◌, Bool, true, false, ltb-false, List, ◌++◌, length, take, drop, get_or, None, refl, ap, subst, sym, ◌∙◌, arith, inl, inr, length-append}
+use Rattle.std.specs.Prelude.{◌==◌, ◌&&◌}
 use Rattle.std.specs.List.{flat_map}
 use Rattle.std.proofs.lemmas.List.{length-drop, length-take, get_or_append_left, drop-append-le, take-append-drop}
 use Rattle.std.proofs.lemmas.Bool.{eqb-true, eqb-false, eq-eqb, ne_eqb, le-ltb, not-false, not_from_true, cond-false, cases_Bool, and_left, and_right, and_cases, and_parts, both_ways}
@@ -29,19 +29,19 @@ same_head p r headed =
     }
 
 pub same_version : (a b : List ℕ) → SameHead a b → version_of a ≡ version_of b
-same_version a b same = ap (λ n. n / 64) same.first
+same_version a b same = rw same.first refl
 
 pub same_padded : (a b : List ℕ) → SameHead a b → is_padded a ≡ is_padded b
-same_padded a b same = ap (λ n. eqb (n / 32 % 2) 1) same.first
+same_padded a b same = rw same.first refl
 
 pub same_nack : (a b : List ℕ) → SameHead a b → is_nack a ≡ is_nack b
-same_nack a b same = ap (λ n. eqb n 205 && eqb (get_or a 0 0 % 32) 1) same.second ∙ ap (λ n. eqb (get_or b 1 0) 205 && eqb (n % 32) 1) same.first
+same_nack a b same = rw (same.first, same.second) refl
 
 pub same_feedback : (a b : List ℕ) → SameHead a b → is_feedback a ≡ is_feedback b
-same_feedback a b same = ap (λ n. eqb n 205) same.second
+same_feedback a b same = rw same.second refl
 
 pub same_length : (a b : List ℕ) → SameHead a b → packet_length a ≡ packet_length b
-same_length a b same = ap (λ n. 4 * (n + 1)) same.words
+same_length a b same = rw same.words refl
 
 -- the packet at the front passes each check
 pub record IsSound (octets : List ℕ) : Type 0 where
@@ -74,14 +74,12 @@ pub no_packet_fault : (octets : List ℕ) → IsSound octets → packet_fault oc
 no_packet_fault octets s =
     let unless : (t : Bool) → (is_nack octets ≡ true → t ≡ false) → (is_nack octets && t) ≡ false = λ t h.
     elim (cases_Bool (is_nack octets)) [ inl nack ↦ and_right _ t (h nack) | inr other ↦ and_left _ t other ] in
-    cond-false (nat_lt (length octets) 4) _ _ (le-ltb _ _ s.headed)
-    ∙ cond-false (not (version_of octets == 2)) _ _ (not_from_true _ (eq-eqb _ _ s.version))
-    ∙ cond-false (is_nack octets && is_padded octets) _ _ (unless (is_padded octets) s.unpadded)
-    ∙ cond-false (nat_lt (length octets) (packet_length octets)) _ _ (le-ltb _ _ s.fits)
-    ∙ cond-false (is_nack octets && nat_lt (packet_length octets) 12) _ _
-    (unless (nat_lt (packet_length octets) 12) (λ nack. le-ltb _ _ (let more = s.full nack in omega arith)))
-    ∙ cond-false (is_nack octets && (packet_length octets == 12)) _ _
-    (unless (packet_length octets == 12) (λ nack. ne_eqb _ _ (λ e. let more = s.full nack in omega arith)))
+    cond-false _ _ _ (le-ltb _ _ s.headed)
+    ∙ cond-false _ _ _ (not_from_true _ (eq-eqb _ _ s.version))
+    ∙ cond-false _ _ _ (unless _ s.unpadded)
+    ∙ cond-false _ _ _ (le-ltb _ _ s.fits)
+    ∙ cond-false _ _ _ (unless _ (λ nack. le-ltb _ _ (let more = s.full nack in omega arith)))
+    ∙ cond-false _ _ _ (unless _ (λ nack. ne_eqb _ _ (λ e. let more = s.full nack in omega arith)))
 
 -- a packet that passes, and is all of the octets
 pub record IsPacket (octets : List ℕ) : Type 0 where
@@ -183,10 +181,11 @@ nack_passes p packet nack =
     let s = packet.sound in
     let full = s.full nack in let whole = packet.whole in
     let types = and_parts (packet_type p == 205) (message_type p == 1) nack in
-    cond-false (nat_lt (length p) 12) _ _ (le-ltb _ _ (omega arith))
-    ∙ cond-false (not (version_of p == 2)) _ _ (not_from_true _ (eq-eqb _ _ s.version))
-    ∙ cond-false (is_padded p) _ _ (s.unpadded nack)
-    ∙ cond-false (not (packet_type p == 205)) _ _ (not_from_true _ types.0)
-    ∙ cond-false (not (message_type p == 1)) _ _ (not_from_true _ types.1)
-    ∙ cond-false (not (length p == packet_length p)) _ _ (not_from_true _ (eq-eqb _ _ whole))
-    ∙ cond-false (length p == 12) _ _ (ne_eqb _ _ (λ e. omega arith))
+    let long : 12 ≤ length p = omega arith in
+    cond-false _ _ _ (le-ltb _ _ long)
+    ∙ cond-false _ _ _ (not_from_true _ (eq-eqb _ _ s.version))
+    ∙ cond-false _ _ _ (s.unpadded nack)
+    ∙ cond-false _ _ _ (not_from_true _ types.0)
+    ∙ cond-false _ _ _ (not_from_true _ types.1)
+    ∙ cond-false _ _ _ (not_from_true _ (eq-eqb _ _ whole))
+    ∙ cond-false _ _ _ (ne_eqb (length p) 12 (λ e. omega arith))

@@ -1,7 +1,7 @@
 -- What `near` answers, in the words of nearness.
 use Rattle.std.proofs.Common.{◌≡◌, ◌↔◌, ◌⊎◌, ℕ, ◌+◌, ◌-◌, ◌%◌, ◌^◌, ◌<◌, ◌≤◌, arith, refl, inl, inr, ltb, ltb-true, ltb-false, nat_lt, if◌then◌else◌, Result, Ok, Err}
 use Rattle.std.proofs.lemmas.Bool.{cond_both}
-use Rattle.places.specs.Place.{number, IsNear, IsFar, IsPastEnd}
+use Rattle.places.specs.Place.{number, reach, IsNear, IsFar, IsPastEnd}
 use Rattle.places.specs.declared.nearness.PlaceFault.{PlaceFault}
 use Rattle.places.specs.declared.nearness.PlaceFault.TheVariants.{Far, PastEnd}
 
@@ -18,9 +18,9 @@ lowered raised =
 -- the answer as a function of the two numbers
 abbrev pub near_place : ℕ → ℕ → Result ℕ PlaceFault
 near_place highest seq =
-    if nat_lt (ahead highest seq) 16384
+    if nat_lt (ahead highest seq) reach
     then lowered (highest + 65536 + ahead highest seq)
-    else (if nat_lt 49152 (ahead highest seq) then lowered (highest + ahead highest seq) else Err Far)
+    else (if nat_lt (65536 - reach) (ahead highest seq) then lowered (highest + ahead highest seq) else Err Far)
 
 -- a near number is a place, or is none, or there is no near number
 pub data IsAnswer (highest seq : ℕ) : Result ℕ PlaceFault → Type 0 where
@@ -44,14 +44,14 @@ lowered_is h s q near =
 
 pub near_place_is : (h s : ℕ) → s < 65536 → IsAnswer h s (near_place h s)
 near_place_is h s fits =
-    cond_both (ltb (ahead h s) 16384) _ _ (IsAnswer h s)
-    (λ e. let close : ahead h s < 16384 = ltb-true _ _ e in
+    cond_both (ltb (ahead h s) reach) _ _ (IsAnswer h s)
+    (λ e. let close : ahead h s < reach = ltb-true _ _ e in
     lowered_is h s (h + 65536 + ahead h s) (record { same_number = omega arith; not_above = omega arith; not_below = omega arith }))
-    (λ e. let over : 16384 ≤ ahead h s = ltb-false _ _ e in
-    cond_both (ltb 49152 (ahead h s)) _ _ (IsAnswer h s)
-    (λ f. let behind : 49152 < ahead h s = ltb-true _ _ f in
+    (λ e. let over : reach ≤ ahead h s = ltb-false _ _ e in
+    cond_both (ltb (65536 - reach) (ahead h s)) _ _ (IsAnswer h s)
+    (λ f. let behind : 65536 - reach < ahead h s = ltb-true _ _ f in
     lowered_is h s (h + ahead h s) (record { same_number = omega arith; not_above = omega arith; not_below = omega arith }))
-    (λ f. let most : ahead h s ≤ 49152 = ltb-false _ _ f in
+    (λ f. let most : ahead h s ≤ 65536 - reach = ltb-false _ _ f in
     far (λ q n. let a = n.same_number in let b = n.not_above in let d = n.not_below in omega arith)))
 
 -- no other number is near
