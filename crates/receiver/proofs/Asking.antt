@@ -16,7 +16,7 @@ use Rattle.stores.specs.declared.slot.Slot.TheVariants.{Held, Missing}
 use Rattle.stores.specs.Span.{Span, IsSpan}
 use Rattle.stores.specs.ByPlace.{slot_at, IsInside}
 use Rattle.stores.specs.PlaceLists.{Lists}
-use Rattle.stores.specs.Asking.{CanBeAsked, asked_slot, due_places, missing_places, CountsAsk}
+use Rattle.stores.specs.Asking.{CanBeAsked, asked_slot, due_places, missing_places, CountsAsk, longest_ask}
 use Rattle.stores.specs.Asking.{is_due as is_due_slot, is_missing as is_missing_slot}
 use Rattle.receiver.specs.Config.{Config}
 use Rattle.receiver.specs.Window.{held_in, missed_in, window_at, window_of}
@@ -153,10 +153,10 @@ module _ (slots : List Slot) (room : ℕ) (c : Config) (now : ℕ) (learnt : Opt
   due cursor = due_places (at cursor) now c.retry c.asks
 
   pub asks_some : (cursor : Option ℕ) (pairs : List Pair) (count : ℕ) (datagram : ArrayVec ℕ) (new : Span) →
-      Lists (due cursor) (λ q. is_due_slot now c.retry c.asks (slot_at (at cursor) q)) → IsNarrow (take 1088 (due cursor)) →
-      take 1088 (due cursor) ≢ [] → 0 < count → IsPacking (take 1088 (due cursor)) pairs count →
+      Lists (due cursor) (λ q. is_due_slot now c.retry c.asks (slot_at (at cursor) q)) → IsNarrow (take longest_ask (due cursor)) →
+      take longest_ask (due cursor) ≢ [] → 0 < count → IsPacking (take longest_ask (due cursor)) pairs count →
       NackSpells (record { reporter = c.session.receiver_ssrc; media = c.session.media_ssrc; pairs = pairs }) datagram.items →
-      CountsAsks (at cursor) new (take count (take 1088 (due cursor))) now →
+      CountsAsks (at cursor) new (take count (take longest_ask (due cursor))) now →
       AsksAny c (window_of learnt (at cursor)) now (Some datagram) (window_of learnt new)
   asks_some None pairs count datagram new lists narrow some covers packs spells counts = absurd (some refl)
   asks_some (Some k) pairs count datagram new lists narrow some covers packs spells counts =
@@ -164,7 +164,7 @@ module _ (slots : List Slot) (room : ℕ) (c : Config) (now : ℕ) (learnt : Opt
         due = due (Some k);
         each = lists_same _ _ _ (λ q. same_due now c.retry c.asks (slot_at (at (Some k)) q)) lists;
         answers = (
-          λ none. some (ap (take 1088) none),
+          λ none. some (ap (take longest_ask) none),
           record { pairs = pairs; asked = record { count = count; covers = covers; narrow = narrow; packing = packs; asks = asks_at learnt k slots room new _ now counts }; spells = spells },
         );
       }
@@ -192,7 +192,7 @@ counts_missed slots room learnt (Some k) count lists is =
     }
 
 -- no place is due where the first ones are none
-pub none_due : (items places : List ℕ) → items ≡ take 1088 places → (length items == 0) ≡ true → places ≡ []
+pub none_due : (items places : List ℕ) → items ≡ take longest_ask places → (length items == 0) ≡ true → places ≡ []
 none_due items [] is none = refl
 none_due items (x ∷ xs) is none = let count = ap length is in let e = eqb-true _ _ none in absurd (omega arith)
 

@@ -17,6 +17,7 @@ use Rattle.receiver.specs.Asks.{is_due, asked_once, Asks, AsksAny, AsksWithin}
 use Rattle.receiver.specs.Heard.{AnswersIn, TakesNumber, Hears, TakesOrRefuses}
 use Rattle.receiver.proofs.Rising.{among_take}
 use Rattle.receiver.proofs.Whichever.{whichever}
+use Rattle.stores.specs.Asking.{longest_ask}
 
 -- a place that is asked for was asked for fewer times than the limit
 kept : (now retry limit : ℕ) (m : Option Missed) (among : Bool) → (among ≡ true → is_due now retry limit m ≡ true) → IfSome m (λ x. x.asks ≤ limit) →
@@ -27,11 +28,11 @@ kept now retry limit (Some m) true due keeps = let is = due refl in grind (arith
 kept now retry limit (Some m) false due keeps = keeps
 
 keeps_at : (c : Config) (now : ℕ) (old : ReceiverState) (due : List ℕ) (count : ℕ) (new : Option ReceiverState) → ((q : ℕ) → is_among due q ≡ is_due now c.retry c.asks (old.missing q)) →
-    IsSomeAnd new (Asks old (take count (take 1088 due)) now) → AsksWithin c.asks (Some old) → AsksWithin c.asks new
+    IsSomeAnd new (Asks old (take count (take longest_ask due)) now) → AsksWithin c.asks (Some old) → AsksWithin c.asks new
 keeps_at c now old due count None each none keeps = absurd none
 keeps_at c now old due count (Some new) each asks keeps =
     λ k. subst (λ (m : Option Missed). IfSome m (λ x. x.asks ≤ c.asks)) (sym (asks.missing k))
-    (kept now c.retry c.asks (old.missing k) _ (λ among. sym (each k) ∙ among_take 1088 due k (among_take count (take 1088 due) k among)) (keeps k))
+    (kept now c.retry c.asks (old.missing k) _ (λ among. sym (each k) ∙ among_take longest_ask due k (among_take count (take longest_ask due) k among)) (keeps k))
 
 pub asks_keep : (c : Config) (now : ℕ) (old : Option ReceiverState) (answer : Option (ArrayVec ℕ)) (new : Option ReceiverState) → AsksAny c old now answer new → AsksWithin c.asks old → AsksWithin c.asks new
 asks_keep c now None answer new (none, is) keeps = subst (λ (s : Option ReceiverState). AsksWithin c.asks s) (sym is) keeps

@@ -5,6 +5,7 @@ use Rattle.arrayvec.specs.ArrayVec.{ArrayVec}
 use Rattle.fbwire.specs.declared.nack.Pair.{Pair}
 use Rattle.fbwire.specs.Nack.{Nack, nack_octets}
 use Rattle.fbwire.specs.Packing.{IsPacking, IsNarrow}
+use Rattle.stores.specs.Asking.{longest_ask}
 use Rattle.receiver.specs.Config.{Config}
 use Rattle.receiver.specs.Window.{ReceiverState}
 use Rattle.receiver.specs.Asks.{is_due, Asks, AsksFor, AsksAny, AnswersAsk}
@@ -24,12 +25,12 @@ module _ (one_packing : OnePacking) (c : Config) (now : ℕ) (v w : Option Recei
   one_ask_for old due x y rising a b =
       let v_asked = a.asked in
       let w_asked = b.asked in
-      let packing = one_packing (take 1088 due) a.pairs b.pairs v_asked.count w_asked.count (rising_take 1088 due rising) v_asked.narrow v_asked.packing w_asked.packing in
+      let packing = one_packing (take longest_ask due) a.pairs b.pairs v_asked.count w_asked.count (rising_take longest_ask due rising) v_asked.narrow v_asked.packing w_asked.packing in
       let nack : List Pair → Nack = λ pairs. record { reporter = c.session.receiver_ssrc; media = c.session.media_ssrc; pairs = pairs } in
       let octets : x.items ≡ y.items = a.spells.spelled ∙ ap (λ pairs. nack_octets (nack pairs)) packing.0 ∙ sym b.spells.spelled in (
         λ i. record { items = octets i },
-        one_such (Asks old (take v_asked.count (take 1088 due)) now) (one_asks old (take v_asked.count (take 1088 due)) now) v w v_asked.asks
-            (subst (λ n. IsSomeAnd w (Asks old (take n (take 1088 due)) now)) (sym packing.1) w_asked.asks),
+        one_such (Asks old (take v_asked.count (take longest_ask due)) now) (one_asks old (take v_asked.count (take longest_ask due)) now) v w v_asked.asks
+            (subst (λ n. IsSomeAnd w (Asks old (take n (take longest_ask due)) now)) (sym packing.1) w_asked.asks),
       )
 
   one_answer : (old : ReceiverState) (due : List ℕ) (r s : Option (ArrayVec ℕ)) → IsStrictlyIncreasing due → AnswersAsk c old due now r v → AnswersAsk c old due now s w → Same r s v w

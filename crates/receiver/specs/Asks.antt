@@ -8,6 +8,7 @@ use Rattle.fbwire.specs.declared.nack.Pair.{Pair}
 use Rattle.fbwire.specs.Nack.{NackSpells}
 use Rattle.fbwire.specs.Packing.{IsPacking, IsNarrow}
 use Rattle.stores.specs.PlaceLists.{Lists}
+use Rattle.stores.specs.Asking.{longest_ask}
 use Rattle.receiver.specs.Config.{Config}
 use Rattle.receiver.specs.Window.{Missed, ReceiverState}
 
@@ -33,15 +34,15 @@ pub record Asks (old : ReceiverState) (covered : List ℕ) (now : ℕ) (new : Re
   pub missing : (k : ℕ) → new.missing k ≡ (if is_among covered k then option_map (asked_once now) (old.missing k) else old.missing k)
   pub learnt : new.learnt ≡ old.learnt
 
--- An ask for due places by pairs. The first 1088 of them, or all, are packed into as few pairs as name them, 64
--- at most. A due place that the pairs do not cover stays due.
+-- An ask for due places by pairs. The first `longest_ask` of them, or all, are packed into as few pairs as name
+-- them, 64 at most. A due place that the pairs do not cover stays due.
 pub record AsksBy (old : ReceiverState) (due : List ℕ) (now : ℕ) (pairs : List Pair) (new : Option ReceiverState) : Type 0 where
   pub count : ℕ
   pub covers : 0 < count
   -- the places lie within one window, so no two of them have one sequence number
-  pub narrow : IsNarrow (take 1088 due)
-  pub packing : IsPacking (take 1088 due) pairs count
-  pub asks : IsSomeAnd new (Asks old (take count (take 1088 due)) now)
+  pub narrow : IsNarrow (take longest_ask due)
+  pub packing : IsPacking (take longest_ask due) pairs count
+  pub asks : IsSomeAnd new (Asks old (take count (take longest_ask due)) now)
 
 -- An ask as a datagram: the NACK of the pairs, from the receiver to the media source.
 pub record AsksFor (c : Config) (old : ReceiverState) (due : List ℕ) (now : ℕ) (datagram : ArrayVec ℕ) (new : Option ReceiverState) : Type 0 where

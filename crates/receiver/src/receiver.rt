@@ -130,9 +130,10 @@ impl<W: Window> Receiver<W> {
     /// the session's receiver to its media source, and None where no place is due: nothing changes then.
     ///
     /// A place is due that is missing, was asked for fewer times than the configured limit, and either
-    /// never or last at least `retry` milliseconds before `now`. The first 1088 of them, or all, are packed
-    /// into at most 64 pairs. Each place that the pairs cover was then asked for once more, last at `now`;
-    /// one that they do not cover stays due, so a caller asks again until the answer is None.
+    /// never or last at least `retry` milliseconds before `now`. The first
+    /// [`LONGEST_ASK`](stores::LONGEST_ASK) of them, or all, are packed into at most 64 pairs. Each place that
+    /// the pairs cover was then asked for once more, last at `now`; one that they do not cover stays due, so a
+    /// caller asks again until the answer is None.
     pub fn ask(&mut self, now: u64) -> Option<Datagram>
         ensures asks { AsksAny self.old.config (state_of self.old) now result (state_of self.new) }
         ensures none { IsNone result → self.new ≡ self.old }

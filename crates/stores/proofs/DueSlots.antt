@@ -6,7 +6,7 @@ use Rattle.std.proofs.lemmas.Bool.{cond_both}
 use Rattle.stores.specs.declared.slot.Slot.{Slot}
 use Rattle.stores.specs.declared.slot.Slot.TheVariants.{Held, Missing}
 use Rattle.stores.specs.ByPlace.{slot_from}
-use Rattle.stores.specs.Asking.{is_due, is_missing, due_places}
+use Rattle.stores.specs.Asking.{is_due, is_missing, due_places, longest_ask}
 use Rattle.stores.proofs.SlotPlaces.{slot_from_index, slot_of_index}
 use Rattle.stores.proofs.Passing.{passing, passing_yes, passing_no, passing_none}
 
@@ -71,8 +71,9 @@ found_all limit xs rest all e none fits =
     let whole : xs ≡ all = sym (append-nil xs) ∙ ap (λ ys. xs ++ ys) (sym none) ∙ e in
     sym (ap (take limit) (sym whole) ∙ take_all limit xs fits)
 
--- the due places of a window and those of its slots
-pub due_of_slots : (cursor : Option ℕ) (slots : List Slot) (capacity now retry limit k : ℕ) (xs : List ℕ) → cursor ≡ Some k →
-    xs ≡ take 1088 (filter (λ q. is_due now retry limit (slot_from k slots q)) (range_with_len k (length slots))) →
-    xs ≡ take 1088 (due_places (record { cursor = cursor; slots = slots; capacity = capacity }) now retry limit)
-due_of_slots cursor slots capacity now retry limit k xs started e = rw started e
+-- the due places of a window and those of its slots, as they were read
+pub due_of_slots : (cursor : Option ℕ) (slots read : List Slot) (capacity now retry limit k : ℕ) (xs : List ℕ) → cursor ≡ Some k → read ≡ slots →
+    xs ≡ take longest_ask (filter (λ q. is_due now retry limit (slot_from k read q)) (range_with_len k (length read))) →
+    xs ≡ take longest_ask (due_places (record { cursor = cursor; slots = slots; capacity = capacity }) now retry limit)
+due_of_slots cursor slots read capacity now retry limit k xs started same e =
+    rw started (e ∙ ap (λ ys. take longest_ask (filter (λ q. is_due now retry limit (slot_from k ys q)) (range_with_len k (length ys)))) same)

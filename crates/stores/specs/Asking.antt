@@ -7,6 +7,10 @@ use Rattle.stores.specs.declared.slot.Slot.TheVariants.{Held, Missing}
 use Rattle.stores.specs.Span.{Span, highest_of}
 use Rattle.stores.specs.ByPlace.{slot_at}
 
+-- How many places one ask names at most: what 64 pairs can name, 17 each.
+abbrev pub longest_ask : ℕ
+longest_ask = 1088
+
 -- Whether a place with this slot is due at the moment `now`: it is missing, it was asked for fewer times than
 -- the limit, and never so far or last so long ago. A moment before the last ask is never long enough after it.
 abbrev pub is_due : (now retry limit : ℕ) → Option Slot → Bool

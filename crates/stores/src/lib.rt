@@ -27,4 +27,4 @@ pub use memory::OutOfMemory;
 pub use ring_history::RingHistory;
 pub use ring_window::RingWindow;
 pub use slot::{PutFault, Slot};
-pub use window::Window;
+pub use window::{LONGEST_ASK, Window};

@@ -4,12 +4,12 @@ ghost use Rattle.std.specs.Option.{ForSome, ForNone};
 ghost use Rattle.std.specs.List.{filter, range_with_len};
 ghost use Rattle.stores.specs.Put.{noticed_at};
 ghost use Rattle.stores.specs.ByPlace.{slot_from};
-ghost use Rattle.stores.specs.Asking.{is_due, is_missing};
+ghost use Rattle.stores.specs.Asking.{longest_ask, is_due, is_missing};
 
 use crate::memory::OutOfMemory;
 use crate::slot::{PutFault, Slot};
 use crate::spot::{Spot, spot_of};
-use crate::window::Window;
+use crate::window::{LONGEST_ASK, Window};
 use arrayvec::ArrayVec;
 use places::Place;
 use rtpwire::Content;
@@ -103,7 +103,7 @@ impl Window for ListWindow {
         self.slots.get(index as usize)
     }
 
-    fn due(&self, now: u64, retry: u64, asks: u8) -> ArrayVec<Place, 1088> {
+    fn due(&self, now: u64, retry: u64, asks: u8) -> ArrayVec<Place, LONGEST_ASK> {
         match self.cursor {
             None => ArrayVec::new(),
             Some(cursor) => due_from(cursor, self.slots.as_slice(), now, retry, asks),
@@ -127,9 +127,15 @@ impl Window for ListWindow {
 }
 
 /// The first due places of these slots, of which the first is that of the place `first`.
-fn due_from(first: u64, slots: &[Slot], now: u64, retry: u64, asks: u8) -> ArrayVec<Place, 1088>
+fn due_from(
+    first: u64,
+    slots: &[Slot],
+    now: u64,
+    retry: u64,
+    asks: u8,
+) -> ArrayVec<Place, LONGEST_ASK>
     requires { first + length slots.now ≤ 2 ^ 48 }
-    ensures { result.items ≡ take 1088 (filter (λ q. is_due now retry asks (slot_from first slots.now q)) (range_with_len first (length slots.now))) }
+    ensures { result.items ≡ take longest_ask (filter (λ q. is_due now retry asks (slot_from first slots.now q)) (range_with_len first (length slots.now))) }
 {
     let mut due = ArrayVec::new();
     for (index, slot) in slots.iter().enumerate() {

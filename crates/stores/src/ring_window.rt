@@ -3,7 +3,7 @@ ghost use Rattle.std.specs.List.{filter, range_with_len};
 ghost use Rattle.std.specs.Option.{ForSome, ForNone};
 ghost use Rattle.stores.specs.Put.{noticed_at};
 ghost use Rattle.stores.specs.ByPlace.{slot_from};
-ghost use Rattle.stores.specs.Asking.{is_due, is_missing};
+ghost use Rattle.stores.specs.Asking.{longest_ask, is_due, is_missing};
 ghost use Rattle.stores.specs.Bits.{bits_of, IsSetOf};
 ghost use Rattle.stores.specs.Index.{IsIndex};
 
@@ -12,7 +12,7 @@ use crate::memory::OutOfMemory;
 use crate::ring::{append, drop_first};
 use crate::slot::{PutFault, Slot};
 use crate::spot::{Spot, spot_of};
-use crate::window::Window;
+use crate::window::{LONGEST_ASK, Window};
 use arrayvec::ArrayVec;
 use circular_buffer::HeapCircularBuffer;
 use places::Place;
@@ -111,7 +111,7 @@ impl Window for RingWindow {
         self.slots.get(index as usize)
     }
 
-    fn due(&self, now: u64, retry: u64, asks: u8) -> ArrayVec<Place, 1088> {
+    fn due(&self, now: u64, retry: u64, asks: u8) -> ArrayVec<Place, LONGEST_ASK> {
         match self.cursor {
             None => ArrayVec::new(),
             Some(cursor) => due_among(cursor, &self.slots, &self.missing, now, retry, asks),
@@ -181,11 +181,11 @@ fn due_among(
     now: u64,
     retry: u64,
     asks: u8,
-) -> ArrayVec<Place, 1088>
+) -> ArrayVec<Place, LONGEST_ASK>
     requires places { first + length slots.now.items ≤ 2 ^ 48 }
     requires room { length slots.now.items < bits_of missing.now.words.items }
     requires index { IsSetOf is_missing missing.now.words.items missing.now.front slots.now.items }
-    ensures { result.items ≡ take 1088 (filter (λ q. is_due now retry asks (slot_from first slots.now.items q)) (range_with_len first (length slots.now.items))) }
+    ensures { result.items ≡ take longest_ask (filter (λ q. is_due now retry asks (slot_from first slots.now.items q)) (range_with_len first (length slots.now.items))) }
 {
     let mut due = ArrayVec::new();
     let mut index = 0;

@@ -3,7 +3,7 @@ ghost use Rattle.std.specs.Option.{option_copied};
 ghost use Rattle.stores.specs.Span.{Span, IsSpan, empty_span, highest_of, front_of, without_front};
 ghost use Rattle.stores.specs.Put.{put_answer, after_put};
 ghost use Rattle.stores.specs.ByPlace.{slot_at};
-ghost use Rattle.stores.specs.Asking.{due_places, missing_places, CanBeAsked, asked};
+ghost use Rattle.stores.specs.Asking.{longest_ask, due_places, missing_places, CanBeAsked, asked};
 
 use crate::memory::OutOfMemory;
 use crate::slot::{PutFault, Slot};
@@ -11,6 +11,9 @@ use arrayvec::ArrayVec;
 use places::Place;
 use rtpwire::Content;
 use std::alloc::Global;
+
+/// How many places one ask names at most: what 64 pairs of feedback can name, 17 each.
+pub const LONGEST_ASK: usize = 1088;
 
 /// A receiver's window: the places from the next one to play up to the highest one that was taken, each
 /// of them held or missing.
@@ -71,13 +74,13 @@ pub trait Window: Drop {
     fn slot(&self, place: Place) -> Option<&Slot>
         ensures { option_copied result ≡ slot_at (meaning self.now) place };
 
-    /// The first 1088 places, or all, if they are fewer, that are due to be asked for at the moment `now`, in
-    /// rising order.
+    /// The first [`LONGEST_ASK`] places, or all, if they are fewer, that are due to be asked for at the moment
+    /// `now`, in rising order.
     ///
     /// A place is due that is missing, was asked for fewer than `asks` times, and either was never asked for
     /// or last at least `retry` milliseconds before `now`.
-    fn due(&self, now: u64, retry: u64, asks: u8) -> ArrayVec<Place, 1088>
-        ensures { result.items ≡ take 1088 (due_places (meaning self.now) now retry asks) };
+    fn due(&self, now: u64, retry: u64, asks: u8) -> ArrayVec<Place, LONGEST_ASK>
+        ensures { result.items ≡ take longest_ask (due_places (meaning self.now) now retry asks) };
 
     /// Counts one more ask for this place, made at the moment `now`. The place must be missing, and asked for
     /// fewer than 255 times so far.

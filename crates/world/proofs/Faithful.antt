@@ -13,6 +13,7 @@ use Rattle.fbwire.specs.Nack.{Nack, NackSpells}
 use Rattle.fbwire.specs.Packing.{IsPacking}
 use Rattle.stores.specs.declared.entry.HistoryEntry.{HistoryEntry}
 use Rattle.stores.specs.Past.{fresh, repeated}
+use Rattle.stores.specs.Asking.{longest_ask}
 use Rattle.sender.specs.History.{SenderState}
 use Rattle.sender.specs.Sending.{media_packet}
 use Rattle.receiver.specs.Window.{ReceiverState}
@@ -173,7 +174,7 @@ asked_as one c old new now index step = by old.receiver step.asks
           covered = asked.count;
           rising = asks.each.rises;
           narrow = asked.narrow;
-          packing = subst (λ (pairs : List Pair). IsPacking (take 1088 asks.due) pairs asked.count) same asked.packing;
+          packing = subst (λ (pairs : List Pair). IsPacking (take longest_ask asks.due) pairs asked.count) same asked.packing;
           spelled = step.spells;
         }
 

@@ -4,6 +4,7 @@ use Rattle.std.proofs.lemmas.Option.{none-some, same_Some}
 use Rattle.places.specs.Place.{number}
 use Rattle.rtpwire.specs.declared.content.Content.{Content}
 use Rattle.stores.specs.declared.slot.PutFault.TheVariants.{Late, Duplicate}
+use Rattle.stores.specs.Asking.{longest_ask}
 use Rattle.receiver.specs.declared.answer.Taken.{Taken as Took}
 use Rattle.receiver.specs.declared.answer.Played.{Played as Play_answer}
 use Rattle.receiver.specs.declared.answer.Played.TheVariants.{Packet, Gap, Wait}
@@ -116,7 +117,7 @@ asked_at c covered now old (Some w) asks was = own_as c old.learnt w.learnt asks
 
 asked : (c : Config) (now : ℕ) (pairs : List Pair) (old new : Option ReceiverState) → AsksAnyBy c.receiver old now pairs new → LearntIs c old → LearntIs c new
 asked c now pairs None new never was = absurd never
-asked c now pairs (Some old) new step was = asked_at c (take step.asked.count (take 1088 step.due)) now old new step.asked.asks was
+asked c now pairs (Some old) new step was = asked_at c (take step.asked.count (take longest_ask step.due)) now old new step.asked.asks was
 
 injected : (c : Config) (answer : Answer) (old new : PlaceWorld) → MarksAnything c old answer new → LearntIs c old.receiver → LearntIs c new.receiver
 injected c (Marked marking) old new (nacks, (marks, is)) was = same_receiver c old.receiver new.receiver is was

@@ -5,6 +5,7 @@ use Rattle.places.specs.Place.{reach, IsWithin}
 use Rattle.rtpwire.specs.declared.content.Content.{Content}
 use Rattle.stores.specs.declared.entry.HistoryEntry.{HistoryEntry}
 use Rattle.stores.specs.PastByPlace.{is_marked}
+use Rattle.stores.specs.Asking.{longest_ask}
 use Rattle.fbwire.specs.declared.nack.Pair.{Pair}
 use Rattle.fbwire.specs.Nack.{Names}
 use Rattle.sender.specs.declared.answer.Marked.{Marked as Marking}
@@ -100,7 +101,7 @@ module _ (laws : Laws) (c : Config) (met : IsConfig c) (now shift p q top : ℕ)
       at_window : AsksDueBy c.receiver state.window now pairs.items new.receiver → WhileAsking new
       at_window step = by new.receiver refl step.asked.asks
         where
-          by : (r' : Option ReceiverState) → new.receiver ≡ r' → IsSomeAnd r' (Asks state.window (take step.asked.count (take 1088 step.due)) now) → WhileAsking new
+          by : (r' : Option ReceiverState) → new.receiver ≡ r' → IsSomeAnd r' (Asks state.window (take step.asked.count (take longest_ask step.due)) now) → WhileAsking new
           by None is none = absurd none
           by (Some w) is asking =
               record {

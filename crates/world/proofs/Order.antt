@@ -3,6 +3,7 @@ use Rattle.std.proofs.Common.{◌≡◌, ℕ, ◌+◌, ◌-◌, ◌<◌, List, [
 use Rattle.arrayvec.specs.ArrayVec.{ArrayVec}
 use Rattle.rtpwire.specs.declared.content.Content.{Content}
 use Rattle.fbwire.specs.declared.fault.FeedbackFault.{FeedbackFault}
+use Rattle.stores.specs.Asking.{longest_ask}
 use Rattle.sender.specs.declared.answer.Marked.{Marked as Marking}
 use Rattle.receiver.specs.declared.answer.Taken.{Taken as Took}
 use Rattle.receiver.specs.declared.answer.Played.{Played as Play_answer}
@@ -165,7 +166,7 @@ asked c past covered now old (Some w) asks was =
 asked_any : (c : Config) (past : List Entry) (now : ℕ) (datagram : ArrayVec ℕ) (old new : Option ReceiverState) → AsksAny c.receiver old now (Some datagram) new → Ordered c past old → Ordered c past new
 asked_any c past now datagram None new (none, is) was = absurd cc
 asked_any c past now datagram (Some old) new asks was =
-    asked c past (take asks.answers.1.asked.count (take 1088 asks.due)) now old new asks.answers.1.asked.asks was
+    asked c past (take asks.answers.1.asked.count (take longest_ask asks.due)) now old new asks.answers.1.asked.asks was
 
 -- an entry of the sender's, or none, leaves the receiver as it was
 untouched : (c : Config) (past : List Entry) (old new : Option ReceiverState) → new ≡ old → Ordered c past old → Ordered c past new

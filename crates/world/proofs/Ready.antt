@@ -9,6 +9,7 @@ use Rattle.rtpwire.specs.declared.content.Content.{Content}
 use Rattle.stores.specs.declared.entry.HistoryEntry.{HistoryEntry}
 use Rattle.stores.specs.declared.slot.PutFault.TheVariants.{Late, Duplicate}
 use Rattle.stores.specs.Past.{repeated}
+use Rattle.stores.specs.Asking.{longest_ask}
 use Rattle.fbwire.specs.declared.nack.Pair.{Pair}
 use Rattle.fbwire.specs.Nack.{Names}
 use Rattle.sender.specs.History.{SenderState, Marks, Repairs}
@@ -79,16 +80,21 @@ due_missing c now (Some m) due = (m, refl)
 
 module _ (c : Config) (met : IsConfig c) (now shift p q top : ℕ) where
   -- An ask, and its pairs at the sender.
+<<<<<<< HEAD
   module _ (v v' : ReceiverState) (s s' : SenderState) (due : List ℕ) (each : (k : ℕ) → is_among due k ≡ is_due now c.receiver.retry c.receiver.asks (v.missing k)) (pairs : List Pair) (r' : Option ReceiverState) (by : AsksBy v due now pairs r')
       (asking : Asks v (take by.count (take 1088 due)) now v') (count : ℕ) (marking : Marks c.repeats (Names pairs) s count s') (decided : (n : ℕ) → Names pairs n ⊎ (Names pairs n → ⊥)) (r : Ready c shift p q top v s) where
+=======
+  module _ (v v' : ReceiverState) (s s' : SenderState) (due : List ℕ) (each : (k : ℕ) → is_among due k ≡ is_due c.receiver.retry c.receiver.asks now (v.missing k)) (pairs : List Pair) (r' : Option ReceiverState) (by : AsksBy v due now pairs r')
+      (asking : Asks v (take by.count (take longest_ask due)) now v') (count : ℕ) (marking : Marks c.repeats (Names pairs) s count s') (decided : (n : ℕ) → Names pairs n ⊎ (Names pairs n → ⊥)) (r : Ready c shift p q top v s) where
+>>>>>>> ec70b43 (stores: the most places of one ask have one name, LONGEST_ASK in code and longest_ask in definitions; receiver and world cite it)
     abbrev covered : List ℕ
-    covered = take by.count (take 1088 due)
+    covered = take by.count (take longest_ask due)
 
     -- a number that is named is that of a covered place, which was due
     named_due : (n : ℕ) → Names pairs n → (k : ℕ) × IsDue c now k v × (number k ≡ n)
     named_due n named =
         let place = number_among covered n ((by.packing.fewest.exact n).0 named) in
-        (place.0, sym (each place.0) ∙ among_take 1088 due place.0 (among_take by.count (take 1088 due) place.0 place.1), place.2)
+        (place.0, sym (each place.0) ∙ among_take longest_ask due place.0 (among_take by.count (take longest_ask due) place.0 place.1), place.2)
 
     below_top : (k : ℕ) (e : HistoryEntry) → s.entries k ≡ Some e → Names pairs (number k) → k ≤ top
     below_top k e is named =

@@ -8,6 +8,7 @@ use Rattle.places.specs.Place.{number}
 use Rattle.places.specs.declared.nearness.PlaceFault.TheVariants.{Far}
 use Rattle.rtpwire.specs.declared.content.Content.{Content}
 use Rattle.stores.specs.declared.slot.PutFault.TheVariants.{Late, Duplicate}
+use Rattle.stores.specs.Asking.{longest_ask}
 use Rattle.receiver.specs.declared.answer.Taken.{Taken as Took}
 use Rattle.receiver.specs.declared.answer.Played.{Played as Play_answer}
 use Rattle.receiver.specs.declared.answer.Played.TheVariants.{Packet, Gap, Wait}
@@ -244,7 +245,7 @@ asked_at c past covered now w (Some v) step kept = asks (shift_of past) (cursor_
 -- an ask leaves what is held, and when a place was noticed
 asked : (c : Config) (past : List Entry) (now : ℕ) (pairs : List Pair) (old new : Option ReceiverState) → AsksAnyBy c.receiver old now pairs new → Keeps c past old → Keeps c past new
 asked c past now pairs None new never kept = absurd never
-asked c past now pairs (Some w) new step kept = asked_at c past (take step.asked.count (take 1088 step.due)) now w new step.asked.asks kept
+asked c past now pairs (Some w) new step kept = asked_at c past (take step.asked.count (take longest_ask step.due)) now w new step.asked.asks kept
 
 -- whatever is injected at the sender leaves the receiver
 injected : (c : Config) (past : List Entry) (now : ℕ) (answer : Answer) (old new : PlaceWorld) → MarksAnything c old answer new → KeepsAndPlays c past old.receiver → KeepsAndPlays c (Injected Sender now answer ∷ past) new.receiver

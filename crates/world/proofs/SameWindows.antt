@@ -7,6 +7,7 @@ use Rattle.rtpwire.specs.declared.content.Content.{Content}
 use Rattle.fbwire.specs.declared.nack.Pair.{Pair}
 use Rattle.fbwire.specs.Packing.{IsPacking, IsNarrow}
 use Rattle.stores.specs.declared.slot.PutFault.TheVariants.{Late, Duplicate}
+use Rattle.stores.specs.Asking.{longest_ask}
 use Rattle.receiver.specs.declared.answer.Taken.{Taken}
 use Rattle.receiver.specs.declared.fault.ReceiveFault.{ReceiveFault}
 use Rattle.receiver.specs.declared.fault.ReceiveFault.TheVariants as refused
@@ -128,10 +129,10 @@ one_asks old covered now v w a b =
 module _ (one_packing : OnePacking) (now : ℕ) (m n : List Pair) (v w : Option ReceiverState) where
   one_ask_by : (old : ReceiverState) (due : List ℕ) → IsStrictlyIncreasing due → AsksBy old due now m v → AsksBy old due now n w → (m ≡ n) × (v ≡ w)
   one_ask_by old due rising a b =
-      let packing = one_packing (take 1088 due) m n a.count b.count (rising_take 1088 due rising) a.narrow a.packing b.packing in (
+      let packing = one_packing (take longest_ask due) m n a.count b.count (rising_take longest_ask due rising) a.narrow a.packing b.packing in (
         packing.0,
-        one_such (Asks old (take a.count (take 1088 due)) now) (one_asks old (take a.count (take 1088 due)) now) v w a.asks
-            (subst (λ k. IsSomeAnd w (Asks old (take k (take 1088 due)) now)) (sym packing.1) b.asks),
+        one_such (Asks old (take a.count (take longest_ask due)) now) (one_asks old (take a.count (take longest_ask due)) now) v w a.asks
+            (subst (λ k. IsSomeAnd w (Asks old (take k (take longest_ask due)) now)) (sym packing.1) b.asks),
       )
 
   pub one_ask : (c : Config) (old : Option ReceiverState) → AsksAnyBy c old now m v → AsksAnyBy c old now n w → (m ≡ n) × (v ≡ w)

@@ -27,6 +27,7 @@ use Rattle.world.specs.Config.{Config}
 use Rattle.world.specs.Labels.{end_of}
 use Rattle.world.specs.Answers.{WorldState, new_stand, HearsAt, Answers}
 use Rattle.world.proofs.Order.{AnyHearing}
+use Rattle.stores.specs.Asking.{longest_ask}
 
 pub record Spans (room : ℕ) (w : ReceiverState) : Type 0 where
   pub short : w.highest < w.cursor + room
@@ -128,7 +129,7 @@ asked room now covered old (Some w) asks was = spans_asks room now covered old w
 
 asked_any : (c : Config) (now : ℕ) (datagram : ArrayVec ℕ) (old new : Option ReceiverState) → AsksAny c.receiver old now (Some datagram) new → SpansAny c.window old → SpansAny c.window new
 asked_any c now datagram None new (none, is) was = absurd cc
-asked_any c now datagram (Some old) new asks was = asked c.window now (take asks.answers.1.asked.count (take 1088 asks.due)) old new asks.answers.1.asked.asks was
+asked_any c now datagram (Some old) new asks was = asked c.window now (take asks.answers.1.asked.count (take longest_ask asks.due)) old new asks.answers.1.asked.asks was
 
 receiver_of : (v w : WorldState) → v ≡ w → v.receiver ≡ w.receiver
 receiver_of v w e = ap (λ (x : WorldState). x.receiver) e

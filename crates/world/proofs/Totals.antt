@@ -7,6 +7,7 @@ use Rattle.std.proofs.lemmas.Bool.Decides.{nat_tests}
 use Rattle.std.proofs.lemmas.List.{length-take}
 use Rattle.places.specs.Among.{is_among}
 use Rattle.stores.specs.declared.entry.HistoryEntry.{HistoryEntry}
+use Rattle.stores.specs.Asking.{longest_ask}
 use Rattle.sender.specs.History.{SenderState, Repairs}
 use Rattle.receiver.specs.Config.{Config as Receiving}
 use Rattle.receiver.specs.Window.{Missed, ReceiverState}
@@ -110,17 +111,17 @@ pub asks_fall : (c : Config) (now : ℕ) (pairs : List Pair) (r r' : Option Rece
 asks_fall c now pairs None r' some spans never = absurd never
 asks_fall c now pairs (Some old) r' some spans step = by r' step.asked.asks
   where
-    by : (new : Option ReceiverState) → IsSomeAnd new (Asks old (take step.asked.count (take 1088 step.due)) now) → asks_left c now new < asks_left c now (Some old)
+    by : (new : Option ReceiverState) → IsSomeAnd new (Asks old (take step.asked.count (take longest_ask step.due)) now) → asks_left c now new < asks_left c now (Some old)
     by None none = absurd none
     by (Some w) asking =
         let within = step.asked.packing.within in
-        let covers : 0 < length (take step.asked.count (take 1088 step.due)) = let h = step.asked.covers in omega (arith, h, within, length-take step.asked.count (take 1088 step.due)) in
-        let first = first_among (take step.asked.count (take 1088 step.due)) covers in
-        let due = sym (step.each.each first.0) ∙ among_take 1088 step.due first.0 (among_take step.asked.count (take 1088 step.due) first.0 first.1) in
+        let covers : 0 < length (take step.asked.count (take longest_ask step.due)) = let h = step.asked.covers in omega (arith, h, within, length-take step.asked.count (take longest_ask step.due)) in
+        let first = first_among (take step.asked.count (take longest_ask step.due)) covers in
+        let due = sym (step.each.each first.0) ∙ among_take longest_ask step.due first.0 (among_take step.asked.count (take longest_ask step.due) first.0 first.1) in
         let missed = due_is_missing c.receiver now (old.missing first.0) due in
         let inside = spans.missing first.0 missed.0 missed.1 in
         let short = spans.short in
-        asks_fall_at c now old w (take step.asked.count (take 1088 step.due)) first.0 inside.0 (omega (arith, inside.1, short)) first.1 some due asking
+        asks_fall_at c now old w (take step.asked.count (take longest_ask step.due)) first.0 inside.0 (omega (arith, inside.1, short)) first.1 some due asking
 
 -- an entry that is marked
 abbrev pub one_marked : Option HistoryEntry → ℕ

@@ -9,6 +9,7 @@ use Rattle.rtpwire.specs.Retransmission.{RepairSpells}
 use Rattle.fbwire.specs.declared.nack.Pair.{Pair}
 use Rattle.fbwire.specs.Nack.{NackSpells}
 use Rattle.fbwire.specs.Packing.{IsPacking, IsNarrow}
+use Rattle.stores.specs.Asking.{longest_ask}
 use Rattle.sender.specs.Sending.{media_packet}
 use Rattle.world.specs.declared.event.Label.{Label}
 use Rattle.world.specs.declared.event.Label.TheVariants.{Media, Repair, Feedback}
@@ -33,14 +34,14 @@ pub record IsRepairedAs (c : Config) (before : List Entry) (place : ℕ) (octets
   pub kept : 65536 + c.first + length (contents before) ≤ place + c.history
   pub spelled : RepairSpells content (number place) ((c.repair_first + repairs_in before) % 65536) c.receiver.session.repair_type c.receiver.session.repair_ssrc octets
 
--- The octets are those of an ask with these pairs: the pairs are the packing of the first 1088 of some places in rising
--- order, or of all, and the octets spell the NACK of the pairs (RFC 4585, section 6.2.1).
+-- The octets are those of an ask with these pairs: the pairs are the packing of the first `longest_ask` of some places
+-- in rising order, or of all, and the octets spell the NACK of the pairs (RFC 4585, section 6.2.1).
 pub record IsAskedAs (c : Config) (pairs : List Pair) (octets : List ℕ) : Type 0 where
   pub places : List ℕ
   pub covered : ℕ
   pub rising : IsStrictlyIncreasing places
-  pub narrow : IsNarrow (take 1088 places)
-  pub packing : IsPacking (take 1088 places) pairs covered
+  pub narrow : IsNarrow (take longest_ask places)
+  pub packing : IsPacking (take longest_ask places) pairs covered
   pub spelled : NackSpells (nack_of c.receiver.session pairs) octets
 
 -- The wire is what the log says, its latest datagram first: each entry that put one there put the last one, at

@@ -1,9 +1,10 @@
 use Rattle.std.proofs.Common.{◌≡◌, ◌≤◌, ◌++◌, length}
 use Rattle.stores.proofs.DueSlots.{due_left}
 use Rattle.stores.proofs.list_window.due_from.Given as goal
+use Rattle.stores.specs.Asking.{longest_ask}
 
 abbrev pub invariant-loop-index : goal.invariant-loop-index
 invariant-loop-index l = record {
   left : l.due.items ++ due_left l.now l.retry l.asks l.first l.slots l.index ≡ due_left l.now l.retry l.asks l.first l.slots 0;
-  fits : length l.due.items ≤ 1088;
+  fits : length l.due.items ≤ longest_ask;
 }

@@ -6,9 +6,10 @@ use Rattle.stores.proofs.EntryIndex.{new_is}
 use Rattle.stores.proofs.DueSlots.{due_left_whole, due_left_yes, due_left_no, due_left_skip, due_left_none, found_full, found_all}
 use Rattle.stores.proofs.ring_window.due_among.Goals as goal
 use Rattle.stores.proofs.ring_window.due_among.Goals.{then-is_due, else-is_due}
+use Rattle.stores.specs.Asking.{longest_ask}
 
 pub returns-then-is_full : goal.returns-then-is_full
-returns-then-is_full c = found_full 1088 _ _ _ (c.loop-next.invariant.left ∙ due_left_whole _ _ _ _ _) (search rules)
+returns-then-is_full c = found_full longest_ask _ _ _ (c.loop-next.invariant.left ∙ due_left_whole _ _ _ _ _) (search rules)
 
 pub unwrap-requires-then-is_due : goal.unwrap-requires-then-is_due
 unwrap-requires-then-is_due c =
@@ -40,5 +41,5 @@ loop-next-preserved c =
 pub returns : goal.returns
 returns c =
     let none = c.in_default.ensures in
-    found_all 1088 _ _ _ (c.loop-next.invariant.left ∙ due_left_whole _ _ _ _ _)
+    found_all longest_ask _ _ _ (c.loop-next.invariant.left ∙ due_left_whole _ _ _ _ _)
     (due_left_none _ _ _ _ c.args.slots.now.items c.loop-next.index (λ p l u. sym (c.requires.index p (omega arith)) ∙ none p l (omega arith))) c.loop-next.invariant.fits

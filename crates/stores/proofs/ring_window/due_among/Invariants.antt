@@ -1,12 +1,13 @@
 use Rattle.std.proofs.Common.{◌≡◌, ◌-◌, ◌≤◌, ◌++◌, length}
 use Rattle.stores.specs.Bits.{bits_of}
+use Rattle.stores.specs.Asking.{longest_ask}
 use Rattle.stores.proofs.DueSlots.{due_left}
 use Rattle.stores.proofs.ring_window.due_among.Given as goal
 
 abbrev pub invariant-loop-next : goal.invariant-loop-next
 invariant-loop-next l = record {
   left : l.due.items ++ due_left l.now l.retry l.asks l.first l.slots.items l.index ≡ due_left l.now l.retry l.asks l.first l.slots.items 0;
-  fits : length l.due.items ≤ 1088;
+  fits : length l.due.items ≤ longest_ask;
   within : l.index ≤ bits_of l.missing.words.items;
 }
 
