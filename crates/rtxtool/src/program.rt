@@ -49,7 +49,9 @@ pub trait Outside {
 }
 
 /// Does what a command line asks for, and answers the exit status. The first word is the program's name. With the
-/// statuses 0 and 1 all that was printed has reached the writer behind the buffer.
+/// statuses 0 and 1 all that was printed has reached the writer behind the buffer. With 3, where a file, a socket or the
+/// output fails, a beginning of what would be printed has reached it; with 4, where memory is refused, a script's log so
+/// far, and else nothing. When a device fails or memory is refused, no contract can say.
 pub fn program<S: AsStr, O: Outside, W: Write + Drop, E: Write>(
     alloc: Global,
     words: &[S],
