@@ -1,18 +1,16 @@
 -- A run over a link, of a world that was new before it.
 use Rattle.std.specs.Prelude.{◌≡◌, ℕ, List, length, Option}
-use Rattle.receiver.specs.Config.{config as receiving}
-use Rattle.world.specs.Config.{Config, config}
+use Rattle.world.specs.Config.{Config}
 use Rattle.runs.specs.declared.link.Transfer.{Transfer}
 use Rattle.runs.specs.declared.tally.Tally.{Tally}
 use Rattle.runs.specs.Drive.{Reaches, StopsRun, done, plan_of, send_from}
 use Rattle.runs.specs.Scene.{Scene, new_scene}
-use Rattle.runs.specs.Session.{session}
+use Rattle.runs.specs.Session.{run_config}
 use Rattle.runs.specs.Tally.{tally_of}
 
--- First sequence number 65000, first retransmission 0, history and window of 1024; a patience of 1000000 milliseconds,
--- asks at least 1 millisecond apart, at most 3 for a place, and at most 3 retransmissions.
+-- the configuration of a run over a link
 abbrev pub loopback_config : Config
-loopback_config = config (receiving session 1000000 1 3) 65000 0 1024 1024 3
+loopback_config = run_config 65000
 
 -- The tally is that of the log of a run of so many packets, of which these are dropped.
 pub record RunsOverLink (packets : ℕ) (drop : List ℕ) (told telling : Option (List Transfer)) (tally : Tally) : Type 0 where

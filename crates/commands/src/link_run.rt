@@ -4,8 +4,7 @@ ghost use Rattle.std.specs.List.Sorted.{IsStrictlyIncreasing};
 ghost use Rattle.runs.specs.Blame.{blame};
 ghost use Rattle.commands.specs.Loopback.{StopsOverLink, RunsOverLink, loopback_config};
 
-use rtpwire::Session;
-use runs::{DriveFault, Link, Tally, drive};
+use runs::{DriveFault, Link, Tally, drive, run_config};
 use std::alloc::Global;
 use stores::{RingHistory, RingWindow};
 use world::{Config, World};
@@ -14,8 +13,7 @@ use world::{Config, World};
 fn loopback_config() -> Config
     ensures { result ≡ loopback_config }
 {
-    let session = Session::new(0x1111_1111, 96, 0x2222_2222, 97, 0x3333_3333).unwrap();
-    Config::new(session, 65000, 0, 1024, 1024, 1_000_000, 1, 3, 3).unwrap()
+    run_config(65000)
 }
 
 /// Sends so many packets over a link, mends the run, and answers what it came to; see [`drive`]. The link's count of

@@ -2,16 +2,12 @@
 -- behind them where the receiver is to learn the SSRC of the retransmissions.
 use Rattle.std.specs.Prelude.{ℕ, Bool, true, false, ◌^◌, ◌-◌, nat_le, List, [], ◌∷◌, length, codes, if◌then◌else◌, Option, Some, None}
 use Rattle.std.specs.Str.{bytes_eq}
-use Rattle.rtpwire.specs.Session.{Streams, streams}
 use Rattle.receiver.specs.Config.{config_of as receiving}
 use Rattle.world.specs.Config.{Config, config}
+use Rattle.world.specs.Session.{trial_session}
 use Rattle.lines.specs.Steps.{◌>>=◌}
 use Rattle.lines.specs.Words.{words_of, longest_line}
 use Rattle.lines.specs.Numbers.{numbers_first}
-
--- the session of every script: the media's SSRC and payload type, the retransmissions', the receiver's SSRC
-abbrev pub script_session : Streams
-script_session = streams 0x11111111 96 0x22222222 97 0x33333333
 
 -- what each number of a config line may be: the least, and the most
 abbrev pub config_bounds : List (ℕ × ℕ)
@@ -35,7 +31,7 @@ learns_of _ = None
 -- the numbers of a config line in their order, and whether the receiver learns
 abbrev pub config_with : List ℕ → (learns : Bool) → Option Config
 config_with (first ∷ repair_first ∷ history ∷ window ∷ patience ∷ retry ∷ asks ∷ repeats ∷ []) learns =
-    Some (config (receiving script_session patience retry asks learns) first repair_first history window repeats)
+    Some (config (receiving trial_session patience retry asks learns) first repair_first history window repeats)
 config_with _ _ = None
 
 -- the words behind `config`

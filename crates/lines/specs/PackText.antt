@@ -4,13 +4,13 @@ use Rattle.std.specs.List.{flat_map}
 use Rattle.fbwire.specs.declared.nack.Pair.{Pair}
 use Rattle.fbwire.specs.Nack.{Nack, NackSpells}
 use Rattle.fbwire.specs.Packing.{IsPacking}
-use Rattle.lines.specs.ConfigLine.{script_session}
+use Rattle.world.specs.Session.{trial_session}
 use Rattle.lines.specs.ContentText.{octets_text}
 use Rattle.lines.specs.Line.{line_of}
 
 -- what the receiver of every script says with these pairs
 abbrev pub script_nack : List Pair → Nack
-script_nack pairs = record { reporter = script_session.receiver_ssrc; media = script_session.media_ssrc; pairs = pairs }
+script_nack pairs = record { reporter = trial_session.receiver_ssrc; media = trial_session.media_ssrc; pairs = pairs }
 
 -- The datagram asks for the first of these places, as many as one packing covers; the others are left.
 pub record AsksFirst (places datagram others : List ℕ) : Type 0 where

@@ -15,7 +15,7 @@ use Rattle.fbwire.specs.Fault.{feedback_number}
 use Rattle.fbwire.specs.Nack.{Nack}
 use Rattle.fbwire.specs.Compound.{CompoundSpells}
 use Rattle.fbwire.specs.CompoundChecks.{IsRefused}
-use Rattle.lines.specs.ConfigLine.{script_session}
+use Rattle.world.specs.Session.{trial_session}
 use Rattle.lines.specs.ContentText.{octets_text, sources_text, extension_text, marker_text}
 use Rattle.lines.specs.Line.{joined, line_of, refused_line}
 
@@ -67,7 +67,7 @@ pub record IsFeedback (octets : List ℕ) : Type 0 where
 
 -- the payload type of retransmissions
 abbrev pub repair_type : ℕ
-repair_type = script_session.repair_type
+repair_type = trial_session.repair_type
 
 -- The line of an RTP packet: as a packet, or where it has the type of retransmissions, as what it retransmits, or the
 -- number of the refusal where it has no room for an original's sequence number.

@@ -1,29 +1,13 @@
 //! The first line of a script: `config FIRST RFIRST HISTORY WINDOW PATIENCE RETRY ASKS REPEATS`, and `learn`
 //! behind them where the receiver is to learn the SSRC of the retransmissions.
 ghost use Rattle.std.specs.Prelude.{◌≡◌};
-ghost use Rattle.lines.specs.ConfigLine.{config_bounds, config_of, config_with, learns_of, script_session};
+ghost use Rattle.lines.specs.ConfigLine.{config_bounds, config_of, config_with, learns_of};
 ghost use Rattle.lines.specs.NumberSteps.{AreWithin};
 ghost use Rattle.lines.specs.Words.{words_left};
 
 use crate::numbers::take_numbers;
 use crate::words::{LONGEST_LINE, cut};
-use rtpwire::{ConfigFault, Session};
-use world::Config;
-
-/// The SSRC of the media, in the session of every script.
-pub(crate) const MEDIA_SSRC: u32 = 0x1111_1111;
-
-/// The payload type of the media.
-const MEDIA_TYPE: u8 = 96;
-
-/// The SSRC of the retransmissions.
-const REPAIR_SSRC: u32 = 0x2222_2222;
-
-/// The payload type of the retransmissions.
-pub(crate) const REPAIR_TYPE: u8 = 97;
-
-/// The SSRC of the receiver.
-pub(crate) const RECEIVER_SSRC: u32 = 0x3333_3333;
+use world::{Config, trial_session};
 
 /// The least and the most of each number, in the line's order.
 const BOUNDS: [(u64, u64); 8] = [
@@ -87,7 +71,7 @@ fn config_with(numbers: &[u64; 8], learns: bool) -> Option<Config>
         asks,
         repeats,
     ] = *numbers;
-    let session = script_session().ok()?;
+    let session = trial_session();
     let (first, repair_first) = (first as u16, repair_first as u16);
     let (history, window) = (history as usize, window as usize);
     let (asks, repeats) = (asks as u8, repeats as u8);
@@ -117,17 +101,4 @@ fn config_with(numbers: &[u64; 8], learns: bool) -> Option<Config>
         )
     };
     made.ok()
-}
-
-/// The session of every script.
-fn script_session() -> Result<Session, ConfigFault>
-    ensures { result ≡ Ok script_session }
-{
-    Session::new(
-        MEDIA_SSRC,
-        MEDIA_TYPE,
-        REPAIR_SSRC,
-        REPAIR_TYPE,
-        RECEIVER_SSRC,
-    )
 }

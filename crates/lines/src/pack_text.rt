@@ -6,12 +6,12 @@ ghost use Rattle.fbwire.specs.Packing.{IsNarrow};
 ghost use Rattle.lines.specs.PackText.{AskInTurn, datagram_lines};
 ghost use Rattle.lines.specs.Sink.{AppendsFront};
 
-use crate::config_line::{MEDIA_SSRC, RECEIVER_SSRC};
 use crate::line::push_line;
 use crate::sink::Sink;
 use crate::word::Word;
 use fbwire::{pack, write_nack};
 use places::Place;
+use world::{MEDIA_SSRC, RECEIVER_SSRC};
 
 /// Pushes the lines of NACKs that ask for these places, in the session of every script: as few as there can be, one
 /// line each in hexadecimal digits. No places are no lines.

@@ -8,7 +8,6 @@ ghost use Rattle.lines.specs.ShowText.{IsFeedback, Shows, ShowsPacket, header_wo
 ghost use Rattle.lines.specs.Sink.{Pushes};
 ghost use Rattle.lines.specs.WordText.{word_text};
 
-use crate::config_line::REPAIR_TYPE;
 use crate::content_text::source_octets;
 use crate::line::{push_more, push_refused};
 use crate::nack_text::push_nacks;
@@ -17,6 +16,7 @@ use crate::word::Word;
 use arrayvec::ArrayVec;
 use fbwire::Compound;
 use rtpwire::{RtpView, RtxView};
+use world::REPAIR_TYPE;
 
 /// Pushes the line of a datagram of a trace, with its line feed: what its octets spell, or the number of the check for
 /// which they are refused. Octets of any length are shown.

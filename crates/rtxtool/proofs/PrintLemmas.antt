@@ -8,16 +8,18 @@ use Rattle.std.proofs.KnownBytes.{Appends-kept}
 use Rattle.std.proofs.lemmas.List.{take_all}
 use Rattle.rtpwire.specs.Framing.{frame}
 use Rattle.rtpwire.specs.declared.fault.FrameFault.TheVariants.{Truncated, FrameTooLong}
+use Rattle.world.specs.declared.event.Event.{Event}
+use Rattle.world.specs.Config.{Config}
 use Rattle.lines.specs.Sink.{AppendsFront, Pushes}
 use Rattle.commands.specs.declared.fault.SimFault.{SimFault}
 use Rattle.commands.specs.declared.show.ShowFault.{ShowFault}
 use Rattle.commands.specs.declared.show.ShowFault.TheVariants as showing
+use Rattle.commands.specs.IsScript.{IsScript}
 use Rattle.commands.specs.Reading.{IfBoth}
 use Rattle.commands.specs.Script.{script_config, script_events}
 use Rattle.commands.specs.Show.{IsCut, IsShown, IsTooLong, StopsIn, Wrote, WroteAllRead, WroteFront, WroteSomeRead}
 use Rattle.commands.specs.Showing.{ShowedSome}
 use Rattle.commands.specs.Sim.{IsDone, PrintsAny, WroteBefore, WroteOfRead, WroteSome}
-use Rattle.commands.proofs.IsScriptLemmas.{read_config, read_events}
 use Rattle.rtxtool.specs.Printing.{CameOut, ComesOut, PrintedSome, RefusesTrace}
 
 -- ---- a beginning of a text
@@ -42,30 +44,34 @@ some_before text a b w =
       wrote = subst (Appends a b) (sym (take_all (length w.printed) w.printed (omega arith))) w.wrote;
     }
 
-before_done : (count : ℕ) (text : List ℕ) (a b : Option (List ℕ)) → IsDone count text a b → WroteBefore text a b
-before_done count text a b d =
-    record {
-      printed = d.printed;
-      prints = rw (read_config text d.config d.events d.script, read_events text d.config d.events d.script) d.prints;
-      wrote = d.wrote;
-    }
+-- By the law on scripts, `scripts_are_read`.
+module _
+    (config_is : (text : List ℕ) (c : Config) (events : List Event) → IsScript text c events → script_config text ≡ Some c)
+    (events_are : (text : List ℕ) (c : Config) (events : List Event) → IsScript text c events → script_events text ≡ events) where
+  before_done : (count : ℕ) (text : List ℕ) (a b : Option (List ℕ)) → IsDone count text a b → WroteBefore text a b
+  before_done count text a b d =
+      record {
+        printed = d.printed;
+        prints = rw (config_is text d.config d.events d.script, events_are text d.config d.events d.script) d.prints;
+        wrote = d.wrote;
+      }
 
-some_done : (count : ℕ) (text : List ℕ) (a b : Option (List ℕ)) → IsDone count text a b → PrintedSome text a b
-some_done count text a b d = ([], (text, sym (append-nil text), some_before text a b (before_done count text a b d)))
+  some_done : (count : ℕ) (text : List ℕ) (a b : Option (List ℕ)) → IsDone count text a b → PrintedSome text a b
+  some_done count text a b d = ([], (text, sym (append-nil text), some_before text a b (before_done count text a b d)))
 
--- what was put in, whatever became of the script
-log_put : (r : Result ℕ SimFault) (text left : Option (List ℕ)) (old total : Option (List ℕ)) → IfOk r (λ count. IfSome text (λ text. IsDone count text old total))
-    → OnErr r (IfBoth text left (WroteOfRead old total)) → IfSome text (λ text. PrintedSome text old total)
-log_put r None left old total done begun = tt
-log_put (Ok count) (Some x) left old total done begun = some_done count x old total done
-log_put (Err fault) (Some x) None old total done begun = absurd begun
-log_put (Err fault) (Some x) (Some y) old total done begun = (y, begun)
+  -- what was put in, whatever became of the script
+  log_put : (r : Result ℕ SimFault) (text left : Option (List ℕ)) (old total : Option (List ℕ)) → IfOk r (λ count. IfSome text (λ text. IsDone count text old total))
+      → OnErr r (IfBoth text left (WroteOfRead old total)) → IfSome text (λ text. PrintedSome text old total)
+  log_put r None left old total done begun = tt
+  log_put (Ok count) (Some x) left old total done begun = some_done count x old total done
+  log_put (Err fault) (Some x) None old total done begun = absurd begun
+  log_put (Err fault) (Some x) (Some y) old total done begun = (y, begun)
 
--- it could not be brought out
-pub log_held : (r : Result ℕ SimFault) (text left : Option (List ℕ)) (old total new : Option (List ℕ)) → IfOk r (λ count. IfSome text (λ text. IsDone count text old total))
-    → OnErr r (IfBoth text left (WroteOfRead old total)) → CameOut total new → IfSome text (λ text. ComesOut (λ total. PrintedSome text old total) new)
-log_held r None left old total new done begun came = tt
-log_held r (Some x) left old total new done begun came = (total, log_put r (Some x) left old total done begun, came)
+  -- it could not be brought out
+  pub log_held : (r : Result ℕ SimFault) (text left : Option (List ℕ)) (old total new : Option (List ℕ)) → IfOk r (λ count. IfSome text (λ text. IsDone count text old total))
+      → OnErr r (IfBoth text left (WroteOfRead old total)) → CameOut total new → IfSome text (λ text. ComesOut (λ total. PrintedSome text old total) new)
+  log_held r None left old total new done begun came = tt
+  log_held r (Some x) left old total new done begun came = (total, log_put r (Some x) left old total done begun, came)
 
 -- ---- the lines of a trace
 

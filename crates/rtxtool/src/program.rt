@@ -14,7 +14,7 @@ use crate::command_line::{Choice, ChooseFault, choose};
 use crate::tell::{ToolFault, tell};
 use commands::{
     PackFault, ShowFault, SimFault, Stream, WriteFailed, drop_list, loopback, pack_text,
-    push_tally, show_trace, sim_text,
+    push_tally, scripts_are_read, show_trace, sim_text,
 };
 use places::Place;
 use runs::{Link, Tally, soak_seed};
@@ -131,6 +131,7 @@ fn sim<R: Read, W: Write + Drop>(
     ensures ok { OnOk result (IfSome (R.remaining input.old) (λ text. PrintedAll text (writer_contents W.contents output.old.writer) (W.contents (writer_inner output.new.writer)))) }
     ensures err { IfErr result (λ fault. IfSome (R.remaining input.old) (λ text. PrintedBefore fault text (writer_contents W.contents output.old.writer) (W.contents (writer_inner output.new.writer)))) }
 {
+    scripts_are_read();
     let outcome = sim_text(alloc, input, &mut output.writer);
     match (bring_out(output), outcome) {
         (Ok(()), Ok(_)) => Ok(()),

@@ -3,23 +3,17 @@ ghost use Rattle.std.specs.Prelude.{◌≡◌, IfOk};
 ghost use Rattle.world.specs.World.{empty};
 
 use crate::memory::MemoryLink;
-use rtpwire::Session;
-use runs::{DriveFault, Link, Tally, Transfer, drive};
+use runs::{DriveFault, Link, Tally, Transfer, drive, run_config};
 use std::alloc::Global;
 use std::test::Fail;
 use stores::{History, ListHistory, ListWindow, RingHistory, RingWindow, Window};
-use world::{Config, End, Entry, World};
+use world::{End, Entry, World};
 
 /// A new world. One whose growth is refused is made again.
 pub fn new_world<H: History, W: Window>(alloc: Global) -> Result<World<H, W>, Fail>
     ensures { IfOk result (λ world. world ≡ empty world.config) }
 {
-    let session = Session::new(0x1111_1111, 96, 0x2222_2222, 97, 0x3333_3333).map_err(
-        |_| "the session is within its limits",
-    )?;
-    let config = Config::new(session, 65000, 0, 1024, 1024, 1_000_000, 1, 3, 3).map_err(
-        |_| "the configuration is within its limits",
-    )?;
+    let config = run_config(65000);
     if let Ok(made) = World::new(alloc, &config) {
         return Ok(made);
     }

@@ -1,13 +1,14 @@
--- The session of a run, and the configuration of one that is drawn.
-use Rattle.rtpwire.specs.Session.{Streams, streams}
+-- The configurations of runs.
+use Rattle.std.specs.Prelude.{ℕ}
 use Rattle.receiver.specs.Config.{config as receiving}
 use Rattle.world.specs.Config.{Config, config}
+use Rattle.world.specs.Session.{trial_session}
 
--- the media's SSRC and payload type, the retransmissions', the receiver's SSRC
-abbrev pub session : Streams
-session = streams 0x11111111 96 0x22222222 97 0x33333333
+-- First retransmission 0, history and window of 1024; a patience of 1000000 milliseconds, asks at least 1 millisecond apart,
+-- at most 3 for a place, and at most 3 retransmissions.
+abbrev pub run_config : (first : ℕ) → Config
+run_config first = config (receiving trial_session 1000000 1 3) first 0 1024 1024 3
 
--- First sequence number 60000, first retransmission 0, history and window of 1024; a patience of 1000000 milliseconds,
--- asks at least 1 millisecond apart, at most 3 for a place, and at most 3 retransmissions.
+-- of a drawn run
 abbrev pub soak_config : Config
-soak_config = config (receiving session 1000000 1 3) 60000 0 1024 1024 3
+soak_config = run_config 60000

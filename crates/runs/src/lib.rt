@@ -16,6 +16,6 @@ pub use driving::drive;
 pub use fault::{DriveFault, LinkFault};
 pub use laws::runs_are_logged;
 pub use link::{Link, Transfer};
-pub use session::soak_config;
+pub use session::{run_config, soak_config};
 pub use soaking::{soak, soak_seed, soak_world};
 pub use tally::Tally;

@@ -80,13 +80,8 @@ due_missing c now (Some m) due = (m, refl)
 
 module _ (c : Config) (met : IsConfig c) (now shift p q top : ℕ) where
   -- An ask, and its pairs at the sender.
-<<<<<<< HEAD
   module _ (v v' : ReceiverState) (s s' : SenderState) (due : List ℕ) (each : (k : ℕ) → is_among due k ≡ is_due now c.receiver.retry c.receiver.asks (v.missing k)) (pairs : List Pair) (r' : Option ReceiverState) (by : AsksBy v due now pairs r')
-      (asking : Asks v (take by.count (take 1088 due)) now v') (count : ℕ) (marking : Marks c.repeats (Names pairs) s count s') (decided : (n : ℕ) → Names pairs n ⊎ (Names pairs n → ⊥)) (r : Ready c shift p q top v s) where
-=======
-  module _ (v v' : ReceiverState) (s s' : SenderState) (due : List ℕ) (each : (k : ℕ) → is_among due k ≡ is_due c.receiver.retry c.receiver.asks now (v.missing k)) (pairs : List Pair) (r' : Option ReceiverState) (by : AsksBy v due now pairs r')
       (asking : Asks v (take by.count (take longest_ask due)) now v') (count : ℕ) (marking : Marks c.repeats (Names pairs) s count s') (decided : (n : ℕ) → Names pairs n ⊎ (Names pairs n → ⊥)) (r : Ready c shift p q top v s) where
->>>>>>> ec70b43 (stores: the most places of one ask have one name, LONGEST_ASK in code and longest_ask in definitions; receiver and world cite it)
     abbrev covered : List ℕ
     covered = take by.count (take longest_ask due)
 

@@ -13,3 +13,4 @@ pub mod Good
 pub mod World
 pub mod Round
 pub mod Schedule
+pub mod Session

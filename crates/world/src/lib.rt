@@ -7,6 +7,7 @@ mod ends;
 mod event;
 mod laws;
 mod scheduling;
+mod session;
 mod settling;
 mod world;
 
@@ -18,4 +19,5 @@ pub use laws::{
     wires_are_faithful,
 };
 pub use scheduling::{numbered_content, schedule};
+pub use session::{MEDIA_SSRC, MEDIA_TYPE, RECEIVER_SSRC, REPAIR_SSRC, REPAIR_TYPE, trial_session};
 pub use world::{World, run};
