@@ -81,15 +81,16 @@ PrintedSomeLoop packets drops old new = (tally : Tally) × CountsLoop packets dr
 
 -- ---- what is known of where the program runs
 
--- What stands in each file that can be opened, whether there is an output, and whether a link can be had.
+-- What stands in each file that can be opened, which files can be, whether there is an output, and whether a link can be had.
 pub record Known : Type 0 where
   pub files : List ℕ → Option (List ℕ)
+  pub opens : List ℕ → Option Bool
   pub output : Option Bool
   pub link : Option Bool
 
 -- where nothing is known
 abbrev pub unknown : Known
-unknown = record { files = λ file. None; output = None; link = None }
+unknown = record { files = λ file. None; opens = λ file. None; output = None; link = None }
 
 -- nothing tells that it is not there
 abbrev pub MayBe : Option Bool → Type 0

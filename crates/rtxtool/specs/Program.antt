@@ -1,5 +1,5 @@
 -- What a run of the program did, and what it means that it did not.
-use Rattle.std.specs.Prelude.{◌≡◌, ℕ, ◌⊎◌, false, List, [], Option, Some, None}
+use Rattle.std.specs.Prelude.{◌≡◌, ℕ, ◌⊎◌, Bool, false, List, [], Option, Some, None}
 use Rattle.std.specs.Option.{IfSome}
 use Rattle.std.specs.Io.KnownBytes.{Appends}
 use Rattle.clap.specs.Words.{IsAmong, Text, fault_of, kind_of, takes}
@@ -34,11 +34,15 @@ Refuses (Packs places) known old new = WroteNone places old new
 Refuses (Soaks seed packets loss) known old new = ⊥
 Refuses (Loops packets drops) known old new = (drops_of drops packets ≡ None) × Appends old new []
 
+-- of a file that can't be opened nothing has come out
+abbrev pub NoneOut : (opens : Option Bool) → (old new : Option (List ℕ)) → Type 0
+NoneOut opens old new = IfSome opens (λ there. there ≡ false → CameOut old new)
+
 -- A file or a socket failed: what has come out is a beginning of what would be printed, and of a file a beginning was read.
 -- Where the places don't rise, or no run over a link came to its end, nothing has come out.
 abbrev pub Breaks : Asked → Known → (old new : Option (List ℕ)) → Type 0
-Breaks (Sims file) known old new = IfSome (known.files file) (λ text. ComesOut (λ total. PrintedSome text old total) new)
-Breaks (Shows file) known old new = IfSome (known.files file) (λ trace. ComesOut (λ total. ShowedSome trace old total) new)
+Breaks (Sims file) known old new = NoneOut (known.opens file) old new × IfSome (known.files file) (λ text. ComesOut (λ total. PrintedSome text old total) new)
+Breaks (Shows file) known old new = NoneOut (known.opens file) old new × IfSome (known.files file) (λ trace. ComesOut (λ total. ShowedSome trace old total) new)
 Breaks (Packs places) known old new = CameOut old new ⊎ ComesOut (λ total. PackedSome places old total) new
 Breaks (Soaks seed packets loss) known old new = ComesOut (λ total. PrintedSomeTally seed packets loss old total) new
 Breaks (Loops packets drops) known old new =

@@ -35,7 +35,8 @@ pub trait Outside {
     /// Opens a file. None: it can't be opened, so nobody knows what stands in it.
     fn open(&self, path: &str) -> Option<Self::Input>
         ensures octets { IfSome result (λ input. Self.Input.remaining input ≡ (known self.now).files path.now) }
-        ensures there { IfSome ((known self.now).files path.now) (λ _. is_some result ≡ true) };
+        ensures there { IfSome ((known self.now).files path.now) (λ _. is_some result ≡ true) }
+        ensures opens { IfSome ((known self.now).opens path.now) (λ opens. is_some result ≡ opens) };
 
     /// Whether there is an output. Where the program was started with none, the next file or socket that it opens would
     /// be taken for it.
