@@ -1,10 +1,11 @@
 //! Reading and writing a generic NACK.
-ghost use Rattle.std.specs.Prelude.{◌≡◌, ◌<◌, ◌≤◌, ◌+◌, ◌*◌, ◌++◌, All, ◌↔◌, ℕ, List, Contains, None, length, IfOk, IfErr, MatchResult};
+ghost use Rattle.std.specs.Prelude.{◌≡◌, ◌<◌, ◌≤◌, ◌+◌, ◌*◌, ◌++◌, All, ◌↔◌, ℕ, List, [], Contains, None, length, take, IfOk, IfErr, MatchResult};
 ghost use Rattle.std.specs.List.{flat_map};
 ghost use Rattle.std.specs.Option.{option_map};
 ghost use Rattle.std.specs.Result.{result_err};
+ghost use Rattle.rtpwire.specs.Buffer.{in_front};
 ghost use Rattle.rtpwire.specs.FirstOf.{FirstOf};
-ghost use Rattle.fbwire.specs.Nack.{IsPair, Nack, NackSpells, Names, numbers_of, pair_octets};
+ghost use Rattle.fbwire.specs.Nack.{IsPair, Nack, NackSpells, Names, numbers_of, nack_octets, pair_octets};
 ghost use Rattle.fbwire.specs.Fault.{feedback_number};
 ghost use Rattle.fbwire.specs.Order.{nack_order};
 ghost use Rattle.fbwire.specs.NackChecks.{nack_fault};
@@ -15,11 +16,14 @@ use crate::header::{FirstOctet, GENERIC_NACK, RTPFB, length_of};
 use crate::numbers::{Numbers, Pairs};
 use arrayvec::ArrayVec;
 use byteorder::{ByteOrder, NetworkEndian};
-use rtpwire::{Datagram, push_octets, push_u16, push_u32};
+use rtpwire::{Datagram, fill_front, push_octets, push_u16, push_u32};
 use std::marker::Model;
 
 /// How many octets come before the pairs.
 pub(crate) const HEADER: usize = 12;
+
+/// How many octets a NACK of 64 pairs has.
+const MAX_WRITTEN: usize = HEADER + 4 * 64;
 
 /// A packet identifier and a bitmask of the lost packets that follow it (RFC 4585, section 6.2.1).
 ///
@@ -148,19 +152,48 @@ pub fn write_nack(reporter: u32, media: u32, pairs: &[Pair]) -> Datagram
     requires room { length pairs.now ≤ 64 }
     ensures { NackSpells (record { reporter = reporter; media = media; pairs = pairs.now }) result.items }
 {
-    let mut out = ArrayVec::new();
-    push_octets(&mut out, &[FirstOctet::new(GENERIC_NACK).0, RTPFB]);
-    push_u16(&mut out, 2 + pairs.len() as u16);
-    push_u32(&mut out, reporter);
-    push_u32(&mut out, media);
-    push_pairs(&mut out, pairs);
+    let mut out = Datagram::new();
+    push_nack(&mut out, reporter, media, pairs);
     out
 }
 
+/// The same spelling at the front of a slice that has room for it: twelve octets, and four for each pair. What lies
+/// behind stays. It returns how many octets the NACK has.
+pub fn write_nack_into(out: &mut [u8], reporter: u32, media: u32, pairs: &[Pair]) -> usize
+    requires some { 0 < length pairs.now }
+    requires count { length pairs.now ≤ 64 }
+    requires room { 12 + 4 * length pairs.now ≤ length out.old }
+    ensures written { out.new ≡ in_front (nack_octets (record { reporter = reporter; media = media; pairs = pairs.now })) out.old }
+    ensures len { result ≡ 12 + 4 * length pairs.now }
+    ensures spells { NackSpells (record { reporter = reporter; media = media; pairs = pairs.now }) (take result out.new) }
+{
+    let mut octets = ArrayVec::<u8, MAX_WRITTEN>::new();
+    push_nack(&mut octets, reporter, media, pairs);
+    fill_front(out, &octets);
+    octets.len()
+}
+
+/// Writes a NACK of one to 64 pairs, for which there is room.
+fn push_nack<const N: usize>(out: &mut ArrayVec<u8, N>, reporter: u32, media: u32, pairs: &[Pair])
+    requires empty { out.old.items ≡ [] }
+    requires some { 0 < length pairs.now }
+    requires count { length pairs.now ≤ 64 }
+    requires room { 12 + 4 * length pairs.now ≤ N }
+    ensures spells { NackSpells (record { reporter = reporter; media = media; pairs = pairs.now }) out.new.items }
+    ensures len { length out.new.items ≡ 12 + 4 * length pairs.now }
+{
+    push_octets(out, &[FirstOctet::new(GENERIC_NACK).0, RTPFB]);
+    push_u16(out, 2 + pairs.len() as u16);
+    push_u32(out, reporter);
+    push_u32(out, media);
+    push_pairs(out, pairs);
+}
+
 /// Appends pairs, for which there is room: four octets each.
-fn push_pairs(out: &mut Datagram, pairs: &[Pair])
-    requires { length out.old.items + 4 * length pairs.now ≤ 1600 }
+fn push_pairs<const N: usize>(out: &mut ArrayVec<u8, N>, pairs: &[Pair])
+    requires { length out.old.items + 4 * length pairs.now ≤ N }
     ensures written { out.new.items ≡ out.old.items ++ flat_map pair_octets pairs.now }
+    ensures len { length out.new.items ≡ length out.old.items + 4 * length pairs.now }
     ensures fit { All IsPair pairs.now }
 {
     for pair in pairs {
@@ -169,8 +202,8 @@ fn push_pairs(out: &mut Datagram, pairs: &[Pair])
 }
 
 /// Appends a pair, for which there is room.
-fn push_pair(out: &mut Datagram, pair: Pair)
-    requires { length out.old.items + 4 ≤ 1600 }
+fn push_pair<const N: usize>(out: &mut ArrayVec<u8, N>, pair: Pair)
+    requires { length out.old.items + 4 ≤ N }
     ensures written { out.new.items ≡ out.old.items ++ pair_octets pair }
     ensures fits { IsPair pair }
 {

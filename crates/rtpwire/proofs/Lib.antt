@@ -1,11 +1,12 @@
 pub mod Numbers
-pub mod Words
+pub mod WordsIn
 pub mod OctetsIn
-pub mod Carried
+pub mod Carries
 pub mod Checks
 pub mod Spelled
 pub mod Seen
 pub mod Written
+pub mod Lengths
 pub mod Repairs
 pub mod Frames
 pub mod InOrder

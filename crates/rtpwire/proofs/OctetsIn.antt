@@ -67,3 +67,7 @@ spelled_octets p octets s =
 pub zeros_and : (zeros count : ℕ) → count < 256 → AreOctets (replicate zeros 0 ++ count ∷ [])
 zeros_and zeros count fits =
     both (replicate zeros 0) (count ∷ []) (All-replicate IsOctet zeros 0 (omega arith)) (one count [] fits (All-nil IsOctet))
+
+-- a number of 16 bits, and octets
+pub number_and : (x : ℕ) (octets : List ℕ) → AreOctets octets → AreOctets (big_bytes 2 x ++ octets)
+number_and x octets all = both (big_bytes 2 x) octets (two_octets x) all

@@ -11,7 +11,7 @@ use Rattle.rtpwire.specs.RtpChecks.{is_padded, is_extended, source_count, source
 use Rattle.rtpwire.specs.RtpReading.{words_at, extension_in, packet_in}
 use Rattle.rtpwire.proofs.Numbers.{EachOctet, EachOctet-drop, number-fits, bytes-again_2, bytes-again_4}
 use Rattle.rtpwire.proofs.OctetsIn.{from_each}
-use Rattle.rtpwire.proofs.Words.{length-words_at, words_at-words, word_octets-words_at}
+use Rattle.rtpwire.proofs.WordsIn.{length_words_at, words_at-words, word_octets-words_at}
 use Rattle.rtpwire.proofs.Checks.{Passes, passed}
 use Rattle.rtpwire.proofs.Spelled.{regrouped}
 
@@ -46,7 +46,7 @@ first_seen : (octets : List ℕ) → Passes octets → first_octet (packet_in oc
 first_seen octets ok =
     let p = padded_bit octets ok in
     let x = extended_bit octets in
-    let n = length-words_at (source_count octets) (drop 12 octets) in
+    let n = length_words_at (source_count octets) (drop 12 octets) in
     let v = ok.version in
     omega (arith, p, x, n, v)
 
@@ -99,7 +99,7 @@ extension_spelled octets start words all counted fits =
     let profile : big_bytes 2 (big_number 2 (drop start octets)) ≡ take 2 (drop start octets) =
     bytes-again_2 (drop start octets) (omega (arith, left start)) (EachOctet-drop start octets all) in
     let count : big_bytes 2 (length (words_at words (drop (start + 4) octets))) ≡ take 2 (drop 2 (drop start octets)) =
-    ap (big_bytes 2) (length-words_at words (drop (start + 4) octets) ∙ counted)
+    ap (big_bytes 2) (length_words_at words (drop (start + 4) octets) ∙ counted)
     ∙ bytes-again_2 (drop (start + 2) octets) (omega (arith, left (start + 2))) (EachOctet-drop (start + 2) octets all)
     ∙ ap (take 2) (sym (drop-drop 2 start octets)) in
     let list : word_octets (words_at words (drop (start + 4) octets)) ≡ take (4 * words) (drop 4 (drop start octets)) =
@@ -160,12 +160,12 @@ packet_fits octets all ok =
       sequence = number-fits 2 (drop 2 octets) (EachOctet-drop 2 octets all);
       timestamp = number-fits 4 (drop 4 octets) (EachOctet-drop 4 octets all);
       ssrc = number-fits 4 (drop 8 octets) (EachOctet-drop 8 octets all);
-      source_count = omega (arith, length-words_at (source_count octets) (drop 12 octets));
+      source_count = omega (arith, length_words_at (source_count octets) (drop 12 octets));
       sources = words_at-words (source_count octets) (drop 12 octets) (EachOctet-drop 12 octets all);
       extension = cond_both (is_extended octets) (Some (extension_at octets)) None (λ e. IfSome e IsExtension)
           (λ _. record {
             profile = number-fits 2 (drop (sources_end octets) octets) (EachOctet-drop (sources_end octets) octets all);
-            count = omega (arith, length-words_at (word_count octets) (drop (sources_end octets + 4) octets), number-fits 2 (drop (sources_end octets + 2) octets) (EachOctet-drop (sources_end octets + 2) octets all));
+            count = omega (arith, length_words_at (word_count octets) (drop (sources_end octets + 4) octets), number-fits 2 (drop (sources_end octets + 2) octets) (EachOctet-drop (sources_end octets + 2) octets all));
             words = words_at-words (word_count octets) (drop (sources_end octets + 4) octets) (EachOctet-drop (sources_end octets + 4) octets all);
           })
           (λ _. tt);

@@ -7,7 +7,7 @@ use Rattle.rtpwire.specs.Rtp.{RtpPacket, RtpSpells, IsPadding, IsExtension, bit,
 use Rattle.rtpwire.specs.RtpChecks.{version_of, is_padded, is_extended, source_count, sources_end, word_count, header_end, padding_count}
 use Rattle.rtpwire.specs.RtpReading.{words_at, extension_in, packet_in}
 use Rattle.rtpwire.proofs.Numbers.{number-again}
-use Rattle.rtpwire.proofs.Words.{length-word_octets, words_at-word_octets}
+use Rattle.rtpwire.proofs.WordsIn.{length-word_octets, words_at-word_octets}
 use Rattle.rtpwire.proofs.Checks.{Passes, first-version, first-count, first-padded, first-extended, bit-again}
 
 -- the second octet

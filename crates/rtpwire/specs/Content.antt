@@ -1,5 +1,5 @@
 -- Contents, and the packets that carry them.
-use Rattle.std.specs.Prelude.{ℕ, ◌<◌, ◌≤◌, ◌^◌, ◌⊎◌, List, length, IfSome, IsSomeAnd}
+use Rattle.std.specs.Prelude.{ℕ, ◌<◌, ◌≤◌, ◌^◌, ◌⊎◌, List, [], length, None, false, IfSome, IsSomeAnd}
 use Rattle.std.specs.Option.{option_map}
 use Rattle.rtpwire.specs.declared.content.Content.{Content}
 use Rattle.rtpwire.specs.declared.content.Extension.{Extension}
@@ -23,6 +23,17 @@ packet_of content padding sequence payload_type ssrc =
       extension = option_map extension_of content.extension;
       payload = content.payload.items;
       padding = padding;
+    }
+
+-- what carries nothing
+abbrev pub blank_content : Content
+blank_content =
+    record {
+      payload = record { items = [] };
+      timestamp = 0;
+      marker = false;
+      sources = record { items = [] };
+      extension = None;
     }
 
 -- No content holds what the packet carries. (That it has more sources than a content holds can't be: see

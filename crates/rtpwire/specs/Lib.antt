@@ -2,6 +2,7 @@ pub mod Rtp
 pub mod RtpChecks
 pub mod RtpReading
 pub mod Content
+pub mod Carried
 pub mod Retransmission
 pub mod Framing
 pub mod Session
@@ -9,3 +10,4 @@ pub mod Fault
 pub mod FirstOf
 pub mod RtpOrder
 pub mod InFront
+pub mod Buffer

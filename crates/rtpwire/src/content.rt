@@ -1,12 +1,13 @@
 //! What a packet carries from one end to the other.
-ghost use Rattle.std.specs.Prelude.{◌≡◌, ◌↔◌, ◌/◌, ◌<◌, length, IfOk, IsErr, IsSomeAnd};
-ghost use Rattle.std.specs.Option.{option_map};
-ghost use Rattle.rtpwire.specs.Content.{packet_of, extension_of, IsTooLong};
+ghost use Rattle.std.specs.Prelude.{◌≡◌, ◌↔◌, ◌+◌, ◌/◌, ◌≤◌, ◌++◌, length, IfOk, IsErr};
+ghost use Rattle.rtpwire.specs.Carried.{words_of};
+ghost use Rattle.rtpwire.specs.Content.{packet_of, blank_content, IsTooLong};
 ghost use Rattle.rtpwire.specs.RtpReading.{words_at};
 
+use crate::carried::{Carried, Words};
 use crate::fault::ContentFault;
 use crate::limits::{MAX_DATAGRAM, MAX_PAYLOAD, MAX_SOURCES, MAX_WORDS};
-use crate::octets::{push_octets, u32_at};
+use crate::octets::u32_at;
 use crate::retransmission::RtxView;
 use crate::rtp::RtpView;
 use arrayvec::ArrayVec;
@@ -83,39 +84,56 @@ impl Content {
             ≡ record view.now { payload = payload.now }) }
         ensures too_long { IsErr result ↔ IsTooLong (record view.now { payload = payload.now }) }
     {
-        if payload.len() > MAX_PAYLOAD {
-            return Err(ContentFault::TooLong);
-        }
-        let extension = extension_in(view)?;
-        // The payload goes straight to where it stays: a vector of it would be moved there, whole.
-        let mut content = Content {
+        Ok(Content::of(&Carried::with_payload(view, payload)?))
+    }
+
+    /// A content that carries nothing: no payload, sources or extension, the timestamp 0 and no marker.
+    pub fn blank() -> Content
+        ensures { result ≡ blank_content }
+    {
+        Content {
             payload: ArrayVec::new(),
-            timestamp: view.timestamp(),
-            marker: view.marker(),
-            sources: sources_in(view),
-            extension,
+            timestamp: 0,
+            marker: false,
+            sources: ArrayVec::new(),
+            extension: None,
+        }
+    }
+
+    /// A content of what lies elsewhere.
+    pub fn of(from: &Carried<'_>) -> Content
+        ensures { result ≡ from.now }
+    {
+        let mut content = Content::blank();
+        content.fill(from);
+        content
+    }
+
+    /// Fills it with what lies elsewhere, in place of all that it held. Each octet of the payload is written
+    /// once, and none is blanked but those that an older and longer payload leaves behind.
+    pub fn fill(&mut self, from: &Carried<'_>)
+        ensures { self.new ≡ from.now }
+    {
+        from.is_bounded();
+        refill(&mut self.payload, from.payload());
+        self.timestamp = from.timestamp();
+        self.marker = from.marker();
+        refill_words(&mut self.sources, from.sources());
+        self.extension = match from.extension() {
+            Some((profile, from)) => {
+                let mut words = ArrayVec::new();
+                refill_words(&mut words, from);
+                Some(Extension { profile, words })
+            }
+            None => None,
         };
-        push_octets(&mut content.payload, payload);
-        Ok(content)
     }
 
     /// The same content once more. It takes no memory.
     pub fn copy(&self) -> Content
         ensures { result ≡ self.now }
     {
-        // The payload goes straight to where it stays, as in `with_payload`.
-        let mut copy = Content {
-            payload: ArrayVec::new(),
-            timestamp: self.timestamp,
-            marker: self.marker,
-            sources: copy_items(&self.sources),
-            extension: match &self.extension {
-                Some(extension) => Some(extension.copy()),
-                None => None,
-            },
-        };
-        push_octets(&mut copy.payload, &self.payload);
-        copy
+        Content::of(&Carried::of_content(self))
     }
 }
 
@@ -127,43 +145,38 @@ fn copy_items<T: Copy + Default + Drop, const N: usize>(items: &ArrayVec<T, N>) 
     copy
 }
 
-/// The CSRC list of a packet that was read.
-fn sources_in(view: &RtpView<'_>) -> ArrayVec<u32, MAX_SOURCES>
-    ensures { result.items ≡ view.now.sources }
+/// Puts items in the place of those that a vector holds. Where it held as many, nothing is blanked.
+fn refill<T: Copy + Default + Drop, const N: usize>(to: &mut ArrayVec<T, N>, items: &[T])
+    requires { length items.now ≤ N }
+    ensures { to.new.items ≡ items.now }
 {
-    let mut sources = ArrayVec::new();
-    for index in 0..view.source_count() {
-        sources.push(view.source(index));
-    }
-    sources
+    to.truncate(items.len());
+    let (over, behind) = items.split_at(to.len());
+    to.as_mut_slice().copy_from_slice(over);
+    to.try_extend_from_slice(behind).unwrap();
 }
 
-/// The header extension of a packet that was read.
-fn extension_in(view: &RtpView<'_>) -> Result<Option<Extension>, ContentFault>
-    ensures ok { IfOk result (λ extension. option_map extension_of extension ≡ view.now.extension) }
-    ensures err { IsErr result ↔ IsSomeAnd view.now.extension (λ e. MAX_WORDS < length e.1) }
+/// Puts words in the place of those that a vector holds.
+#[tactic(auto, using(crate::proofs::WordsIn::length_words_at))]
+fn refill_words<const N: usize>(to: &mut ArrayVec<u32, N>, words: Words<'_>)
+    requires { length (words_of words) ≤ N }
+    ensures { to.new.items ≡ words_of words.entry }
 {
-    match view.extension() {
-        Some((profile, octets)) => {
-            let words = words_in(octets)?;
-            Ok(Some(Extension { profile, words }))
+    match words {
+        Words::Numbers(numbers) => refill(to, numbers),
+        Words::Octets(octets) => {
+            to.clear();
+            push_words_in(to, octets);
         }
-        None => Ok(None),
     }
 }
 
-/// The words of 32 bits of a header extension, of which there are at most 16.
-fn words_in(octets: &[u8]) -> Result<ArrayVec<u32, MAX_WORDS>, ContentFault>
-    ensures ok { IfOk result (λ words. words.items ≡ words_at (length octets.now / 4) octets.now) }
-    ensures err { IsErr result ↔ (MAX_WORDS < length octets.now / 4) }
+/// Appends the words that octets spell.
+fn push_words_in<const N: usize>(to: &mut ArrayVec<u32, N>, octets: &[u8])
+    requires { length to.old.items + length octets.now / 4 ≤ N }
+    ensures { to.new.items ≡ to.old.items ++ words_at (length octets.now / 4) octets.now }
 {
-    let count = octets.len() / 4;
-    if count > MAX_WORDS {
-        return Err(ContentFault::TooLong);
+    for index in 0..octets.len() / 4 {
+        to.push(u32_at(octets, 4 * index));
     }
-    let mut words = ArrayVec::new();
-    for index in 0..count {
-        words.push(u32_at(octets, 4 * index));
-    }
-    Ok(words)
 }

@@ -14,6 +14,10 @@ pub const MAX_WORDS: usize = 16;
 /// and four and the words of a header extension.
 pub const MAX_HEADER: usize = 140;
 
+/// How many octets all that stands before the original payload of a retransmission has at most: with the two of the
+/// original's number.
+pub(crate) const MAX_REPAIR_HEADER: usize = MAX_HEADER + 2;
+
 /// How many octets a datagram has at most.
 pub const MAX_DATAGRAM: usize = 1600;
 

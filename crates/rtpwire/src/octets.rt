@@ -1,8 +1,10 @@
 //! Numbers in network order, as they are read and written.
 ghost use Rattle.std.specs.Prelude.{◌≡◌, ◌+◌, ◌*◌, ◌<◌, ◌≤◌, ◌^◌, ◌++◌, length, drop};
 ghost use Rattle.byteorder.specs.Endian.{big_bytes, big_number};
+ghost use Rattle.rtpwire.specs.Carried.{words_of};
 ghost use Rattle.rtpwire.specs.Rtp.{AreOctets, AreWords, word_octets};
 
+use crate::carried::Words;
 use arrayvec::ArrayVec;
 use byteorder::{ByteOrder, NetworkEndian};
 
@@ -51,14 +53,28 @@ pub fn push_u32<const N: usize>(out: &mut ArrayVec<u8, N>, number: u32)
 }
 
 /// Appends words of 32 bits in network order. There is room for four octets each.
-pub(crate) fn push_words<const N: usize>(out: &mut ArrayVec<u8, N>, words: &[u32])
-    requires { length out.old.items + 4 * length words.now ≤ N }
-    ensures items { out.new.items ≡ out.old.items ++ word_octets words.now }
-    ensures len { length out.new.items ≡ length out.old.items + 4 * length words.now }
-    ensures are_words { AreWords words.now }
+pub(crate) fn push_words<const N: usize>(out: &mut ArrayVec<u8, N>, words: Words<'_>)
+    requires { length out.old.items + 4 * length (words_of words) ≤ N }
+    ensures items { out.new.items ≡ out.old.items ++ word_octets (words_of words.entry) }
+    ensures len { length out.new.items ≡ length out.old.items + 4 * length (words_of words.entry) }
 {
-    for word in words {
-        push_u32(out, *word);
+    match words {
+        Words::Numbers(numbers) => push_numbers(out, numbers),
+        // They are in network order as they are.
+        Words::Octets(octets) => {
+            are_octets(octets);
+            push_octets(out, &octets[..octets.len() / 4 * 4]);
+        }
+    }
+}
+
+fn push_numbers<const N: usize>(out: &mut ArrayVec<u8, N>, numbers: &[u32])
+    requires { length out.old.items + 4 * length numbers.now ≤ N }
+    ensures items { out.new.items ≡ out.old.items ++ word_octets numbers.now }
+    ensures len { length out.new.items ≡ length out.old.items + 4 * length numbers.now }
+{
+    for number in numbers {
+        push_u32(out, *number);
     }
 }
 

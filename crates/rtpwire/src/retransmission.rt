@@ -1,14 +1,20 @@
 //! Retransmissions: a packet that repeats an earlier one (RFC 4588, section 4).
-ghost use Rattle.std.specs.Prelude.{◌≡◌, ◌↔◌, ◌^◌, ◌<◌, ◌≤◌, ◌+◌, ◌++◌, length, IfSome, IsNone, IfOk, IfErr, IsErr};
+ghost use Rattle.std.specs.Prelude.{◌≡◌, ◌↔◌, ℕ, ◌^◌, ◌<◌, ◌≤◌, ◌+◌, ◌++◌, [], length, take, IfSome, IsNone, IfOk, IfErr, IsErr};
 ghost use Rattle.byteorder.specs.Endian.{big_bytes};
-ghost use Rattle.rtpwire.specs.Retransmission.{Repair, IsRepair, RepairSpells};
+ghost use Rattle.rtpwire.specs.Buffer.{in_front};
+ghost use Rattle.rtpwire.specs.Content.{packet_of};
+ghost use Rattle.rtpwire.specs.Retransmission.{Repair, IsRepair, RepairSpells, repair_of, repair_packet};
+ghost use Rattle.rtpwire.specs.Rtp.{IsPacket, header, written};
 
+use crate::carried::Carried;
 use crate::content::{Content, Datagram};
 use crate::fault::RtpFault;
-use crate::limits::{MAX_HEADER, MAX_PAYLOAD};
+use crate::fill::fill_packet;
+use crate::limits::{MAX_HEADER, MAX_PAYLOAD, MAX_REPAIR_HEADER};
 use crate::octets::{push_octets, push_u16, u16_at};
 use crate::rtp::RtpView;
-use crate::write::push_header;
+use crate::write::{header_len, push_header};
+use arrayvec::ArrayVec;
 use std::marker::Model;
 
 /// A retransmission in the octets that spell it, which it borrows. Nothing is copied.
@@ -120,8 +126,63 @@ pub fn write_repair_to(
     ensures spells { RepairSpells content.now original sequence payload_type ssrc out.new.items }
     ensures fits { length out.new.items ≤ MAX_HEADER + 2 + MAX_PAYLOAD }
 {
+    let content = Carried::of_content(content);
+    content.is_bounded();
     out.clear();
+    push_repair_header(out, &content, original, sequence, payload_type, ssrc);
+    push_octets(out, content.payload());
+}
+
+/// The same retransmission at the front of a slice that has room for it, as [`repair_len`] says. What lies behind
+/// stays. It returns how many octets the retransmission has.
+pub fn write_repair_into(
+    out: &mut [u8],
+    content: &Carried<'_>,
+    original: u16,
+    sequence: u16,
+    payload_type: u8,
+    ssrc: u32,
+) -> usize
+    requires payload_type { payload_type < 128 }
+    requires room { length (written (repair_packet (repair_of content.now original sequence payload_type ssrc))) ≤ length out.old }
+    ensures written { out.new ≡ in_front (written (repair_packet (repair_of content.now original sequence payload_type ssrc))) out.old }
+    ensures len { result ≡ length (written (repair_packet (repair_of content.now original sequence payload_type ssrc))) }
+    ensures spells { RepairSpells content.now original sequence payload_type ssrc (take result out.new) }
+    ensures fits { result ≤ MAX_HEADER + 2 + MAX_PAYLOAD }
+{
+    content.is_bounded();
+    let mut header = ArrayVec::<u8, MAX_REPAIR_HEADER>::new();
+    push_repair_header(&mut header, content, original, sequence, payload_type, ssrc);
+    fill_packet(out, &header, content.payload(), 0)
+}
+
+/// How many octets the retransmission of a content has: at most 1342.
+pub fn repair_len(content: &Carried<'_>) -> usize
+    ensures len { (original sequence payload_type ssrc : ℕ)
+        → result ≡ length (written (repair_packet (repair_of content.now original sequence payload_type ssrc))) }
+    ensures fits { result ≤ MAX_HEADER + 2 + MAX_PAYLOAD }
+{
+    content.is_bounded();
+    header_len(content) + 2 + content.payload().len()
+}
+
+/// Writes all that stands before the original payload: the header, and the original's number.
+fn push_repair_header<const N: usize>(
+    out: &mut ArrayVec<u8, N>,
+    content: &Carried<'_>,
+    original: u16,
+    sequence: u16,
+    payload_type: u8,
+    ssrc: u32,
+)
+    requires empty { out.old.items ≡ [] }
+    requires room { MAX_REPAIR_HEADER ≤ N }
+    requires payload_type { payload_type < 128 }
+    ensures items { out.new.items ≡ header (packet_of content.now 0 sequence payload_type ssrc) ++ big_bytes 2 original }
+    ensures fits { length out.new.items ≤ MAX_REPAIR_HEADER }
+    ensures packet { IsPacket (packet_of content.now 0 sequence payload_type ssrc) }
+    ensures number { original < 2 ^ 16 }
+{
     push_header(out, content, 0, sequence, payload_type, ssrc);
     push_u16(out, original);
-    push_octets(out, &content.payload);
 }

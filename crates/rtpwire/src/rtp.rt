@@ -8,10 +8,11 @@ ghost use Rattle.rtpwire.specs.RtpChecks.{rtp_fault};
 ghost use Rattle.rtpwire.specs.Fault.{rtp_number};
 ghost use Rattle.rtpwire.specs.FirstOf.{FirstOf};
 ghost use Rattle.rtpwire.specs.RtpOrder.{rtp_order};
-ghost use Rattle.rtpwire.specs.RtpReading.{packet_in};
+ghost use Rattle.rtpwire.specs.RtpReading.{words_at, packet_in};
 
 use crate::fault::RtpFault;
 use crate::first_octet::FirstOctet;
+use crate::limits::MAX_SOURCES;
 use crate::octets::{u16_at, u32_at};
 use std::marker::Model;
 
@@ -111,6 +112,15 @@ impl<'a> RtpView<'a> {
         ensures { slice_get self.now.sources index ≡ Some result }
     {
         u32_at(self.octets, FIXED_HEADER + 4 * index)
+    }
+
+    /// The CSRC identifiers in the octets that spell them, four each.
+    pub(crate) fn source_octets(&self) -> &'a [u8]
+        ensures words { words_at (length result.now / 4) result.now ≡ self.now.sources }
+        ensures few { length self.now.sources ≤ MAX_SOURCES }
+    {
+        let end = FIXED_HEADER + 4 * self.source_count();
+        &self.octets[FIXED_HEADER..end]
     }
 
     /// The header extension, if there is one: the 16 bits that the profile defines, and the octets of

@@ -1,16 +1,20 @@
 //! Writing an RTP packet.
-ghost use Rattle.std.specs.Prelude.{◌≡◌, ◌+◌, ◌^◌, ◌<◌, ◌≤◌, ◌++◌, [], length};
+ghost use Rattle.std.specs.Prelude.{◌≡◌, ℕ, ◌+◌, ◌*◌, ◌^◌, ◌<◌, ◌≤◌, ◌++◌, [], length, take};
+ghost use Rattle.rtpwire.specs.Buffer.{in_front};
+ghost use Rattle.rtpwire.specs.Carried.{words_of};
 ghost use Rattle.rtpwire.specs.Rtp.{RtpSpells, IsPacket, written, written_padding, fixed_header, header, extension_octets};
-ghost use Rattle.rtpwire.specs.Content.{packet_of, extension_of};
+ghost use Rattle.rtpwire.specs.Content.{packet_of};
 
-use crate::content::{Content, Datagram, Extension};
+use crate::carried::{Carried, Words};
+use crate::content::{Content, Datagram};
+use crate::fill::fill_packet;
 use crate::first_octet::FirstOctet;
-use crate::laws::content_is_bounded;
 use crate::limits::{MAX_DATAGRAM, MAX_HEADER, MAX_PAYLOAD};
 use crate::octets::{push_octets, push_u16, push_u32, push_words};
+use arrayvec::ArrayVec;
 
 /// A padding's octets before its count.
-const ZEROS: [u8; 254] = [0; 254];
+pub(crate) const ZEROS: [u8; 254] = [0; 254];
 
 /// The media packet that carries a content, with so many octets of padding (0 for none).
 ///
@@ -49,65 +53,119 @@ pub fn write_media_to(
     ensures written { out.new.items ≡ written (packet_of content.now padding sequence payload_type ssrc) }
     ensures fits { length out.new.items ≤ MAX_HEADER + MAX_PAYLOAD + 255 }
 {
+    let content = Carried::of_content(content);
+    content.is_bounded();
     out.clear();
-    push_header(out, content, padding, sequence, payload_type, ssrc);
-    push_octets(out, &content.payload);
+    push_header(out, &content, padding, sequence, payload_type, ssrc);
+    push_octets(out, content.payload());
     push_padding(out, padding);
 }
 
+/// The same packet at the front of a slice that has room for it, as [`media_len`] says. What lies behind stays. It
+/// returns how many octets the packet has.
+pub fn write_media_into(
+    out: &mut [u8],
+    content: &Carried<'_>,
+    padding: u8,
+    sequence: u16,
+    payload_type: u8,
+    ssrc: u32,
+) -> usize
+    requires payload_type { payload_type < 128 }
+    requires padding { 0 < padding → 0 < length content.now.payload.items }
+    requires room { length (written (packet_of content.now padding sequence payload_type ssrc)) ≤ length out.old }
+    ensures written { out.new ≡ in_front (written (packet_of content.now padding sequence payload_type ssrc)) out.old }
+    ensures len { result ≡ length (written (packet_of content.now padding sequence payload_type ssrc)) }
+    ensures spells { RtpSpells (packet_of content.now padding sequence payload_type ssrc) (take result out.new) }
+    ensures fits { result ≤ MAX_HEADER + MAX_PAYLOAD + 255 }
+{
+    content.is_bounded();
+    let mut header = ArrayVec::<u8, MAX_HEADER>::new();
+    push_header(&mut header, content, padding, sequence, payload_type, ssrc);
+    fill_packet(out, &header, content.payload(), padding)
+}
+
+/// How many octets the media packet that carries a content has, with so many octets of padding: at most 1595.
+pub fn media_len(content: &Carried<'_>, padding: u8) -> usize
+    ensures len { (sequence payload_type ssrc : ℕ)
+        → result ≡ length (written (packet_of content.now padding sequence payload_type ssrc)) }
+    ensures fits { result ≤ MAX_HEADER + MAX_PAYLOAD + padding }
+{
+    content.is_bounded();
+    header_len(content) + content.payload().len() + usize::from(padding)
+}
+
+/// How many octets stand before a payload.
+pub(crate) fn header_len(content: &Carried<'_>) -> usize
+    ensures len { (padding sequence payload_type ssrc : ℕ)
+        → result ≡ length (header (packet_of content.now padding sequence payload_type ssrc)) }
+    ensures fits { result ≤ MAX_HEADER }
+{
+    content.is_bounded();
+    let extension = match content.extension() {
+        Some((_, words)) => 4 + 4 * words.len(),
+        None => 0,
+    };
+    12 + 4 * content.sources().len() + extension
+}
+
 /// Writes all that stands before a payload. Of the padding it only matters whether there is any.
-pub(crate) fn push_header(
-    out: &mut Datagram,
-    content: &Content,
+pub(crate) fn push_header<const N: usize>(
+    out: &mut ArrayVec<u8, N>,
+    content: &Carried<'_>,
     padding: u8,
     sequence: u16,
     payload_type: u8,
     ssrc: u32,
 )
     requires empty { out.old.items ≡ [] }
+    requires room { MAX_HEADER ≤ N }
     requires payload_type { payload_type < 128 }
     ensures items { out.new.items ≡ header (packet_of content.now padding sequence payload_type ssrc) }
     ensures fits { length out.new.items ≤ MAX_HEADER }
     ensures packet { (0 < padding → 0 < length content.now.payload.items)
         → IsPacket (packet_of content.now padding sequence payload_type ssrc) }
 {
-    content_is_bounded(content);
+    content.is_bounded();
     push_fixed_header(out, content, padding, sequence, payload_type, ssrc);
-    push_words(out, &content.sources);
-    if let Some(extension) = &content.extension {
-        push_extension(out, extension);
+    push_words(out, content.sources());
+    if let Some((profile, words)) = content.extension() {
+        push_extension(out, profile, words);
     }
 }
 
-fn push_fixed_header(
-    out: &mut Datagram,
-    content: &Content,
+fn push_fixed_header<const N: usize>(
+    out: &mut ArrayVec<u8, N>,
+    content: &Carried<'_>,
     padding: u8,
     sequence: u16,
     payload_type: u8,
     ssrc: u32,
 )
     requires empty { out.old.items ≡ [] }
+    requires room { 12 ≤ N }
     requires payload_type { payload_type < 128 }
     ensures items { out.new.items ≡ fixed_header (packet_of content.now padding sequence payload_type ssrc) }
 {
-    let is_extended = content.extension.is_some();
-    let first = FirstOctet::new(padding > 0, is_extended, content.sources.len() as u8);
-    let second = (u8::from(content.marker) << 7) + payload_type;
+    content.is_bounded();
+    let is_extended = content.extension().is_some();
+    let first = FirstOctet::new(padding > 0, is_extended, content.sources().len() as u8);
+    let second = (u8::from(content.marker()) << 7) + payload_type;
     push_octets(out, &[first.0, second]);
     push_u16(out, sequence);
-    push_u32(out, content.timestamp);
+    push_u32(out, content.timestamp());
     push_u32(out, ssrc);
 }
 
-fn push_extension(out: &mut Datagram, extension: &Extension)
-    requires { length out.old.items + 68 ≤ MAX_DATAGRAM }
-    ensures items { out.new.items ≡ out.old.items ++ extension_octets (Some (extension_of extension.now)) }
-    ensures fits { length out.new.items ≤ length out.old.items + 68 }
+fn push_extension<const N: usize>(out: &mut ArrayVec<u8, N>, profile: u16, words: Words<'_>)
+    requires room { length out.old.items + 4 + 4 * length (words_of words) ≤ N }
+    requires count { length (words_of words) < 2 ^ 16 }
+    ensures items { out.new.items ≡ out.old.items ++ extension_octets (Some (profile, words_of words.entry)) }
+    ensures len { length out.new.items ≡ length out.old.items + 4 + 4 * length (words_of words.entry) }
 {
-    push_u16(out, extension.profile);
-    push_u16(out, extension.words.len() as u16);
-    push_words(out, &extension.words);
+    push_u16(out, profile);
+    push_u16(out, words.len() as u16);
+    push_words(out, words);
 }
 
 fn push_padding(out: &mut Datagram, padding: u8)

@@ -1,6 +1,6 @@
 use Rattle.std.proofs.Common.{ap}
 use Rattle.rtpwire.specs.Rtp.{RtpPacket}
-use Rattle.rtpwire.proofs.Carried.{carries, not_too_long}
+use Rattle.rtpwire.proofs.Carries.{carries, not_too_long}
 use Rattle.rtpwire.proofs.Repairs.{one_content}
 use Rattle.rtpwire.proofs.laws.content_is_determined.Goals as goal
 

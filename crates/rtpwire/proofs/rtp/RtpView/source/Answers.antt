@@ -4,14 +4,14 @@ use Rattle.byteorder.specs.Endian.{big_number}
 use Rattle.rtpwire.specs.Rtp.{RtpPacket}
 use Rattle.rtpwire.specs.RtpChecks.{source_count}
 use Rattle.rtpwire.specs.RtpReading.{packet_in}
-use Rattle.rtpwire.proofs.Words.{length-words_at, slice_get-words_at}
+use Rattle.rtpwire.proofs.WordsIn.{length_words_at, slice_get-words_at}
 use Rattle.rtpwire.proofs.Checks.{passed}
 use Rattle.rtpwire.proofs.rtp.RtpView.source.Goals as goal
 
 -- the index is below the count in the octets
 counted : (octets : List ℕ) (p : RtpPacket) (index : ℕ) → packet_in octets ≡ p → index < length p.sources → index < source_count octets
 counted octets p index is within =
-    let n = length-words_at (source_count octets) (drop 12 octets) in
+    let n = length_words_at (source_count octets) (drop 12 octets) in
     let same : length (packet_in octets).sources ≡ length p.sources = ap (λ (q : RtpPacket). length q.sources) is in
     omega (arith, n, same, within)
 

@@ -15,9 +15,9 @@ pub length-word_octets : (words : List ℕ) → length (word_octets words) ≡ 4
 length-word_octets [] = refl
 length-word_octets (w ∷ words) = omega (arith, length-word_octets words)
 
-pub length-words_at : (n : ℕ) (octets : List ℕ) → length (words_at n octets) ≡ n
-length-words_at zero octets = refl
-length-words_at (suc n) octets = ap suc (length-words_at n (drop 4 octets))
+pub length_words_at : (n : ℕ) (octets : List ℕ) → length (words_at n octets) ≡ n
+length_words_at zero octets = refl
+length_words_at (suc n) octets = ap suc (length_words_at n (drop 4 octets))
 
 pub words_at-words : (n : ℕ) (octets : List ℕ) → EachOctet octets → AreWords (words_at n octets)
 words_at-words zero octets all = All-nil (λ w. w < 2 ^ 32)
@@ -73,3 +73,8 @@ words_at-all words octets fit is =
     ∙ ap (λ k. words_at k (word_octets words)) count
     ∙ ap (words_at (length words)) (sym (append-nil (word_octets words)))
     ∙ words_at-word_octets words [] fit
+
+-- the first words of octets need none behind them
+pub words_at-front : (n : ℕ) (octets : List ℕ) → 4 * n ≤ length octets → EachOctet octets → words_at (length (take (4 * n) octets) / 4) (take (4 * n) octets) ≡ words_at n octets
+words_at-front n octets long all =
+    words_at-all (words_at n octets) (take (4 * n) octets) (words_at-words n octets all) (sym (word_octets-words_at n octets long all))

@@ -1,5 +1,0 @@
-use Rattle.std.proofs.Common.{◌≡◌, length, take}
-use Rattle.rtpwire.proofs.content.sources_in.Given as goal
-
-abbrev pub invariant-loop-index : goal.invariant-loop-index
-invariant-loop-index l = (l.sources.items ≡ take l.index l.view.sources) × (length l.sources.items ≡ l.index)
