@@ -16,12 +16,21 @@ fn both_ask<A: Window, B: Window>(a: &mut A, b: &mut B, at: u64, now: u64) -> Re
     Ok(answer == asked(b, place(at)?, now) && a.slot(place(at)?) == b.slot(place(at)?))
 }
 
-/// Takes so many fronts out of both, as far as there are, and tells whether they are the same.
+/// Drops the front of the window, if there is one.
+fn drop_front<W: Window>(window: &mut W) {
+    if window.front().is_some() {
+        window.drop_front();
+    }
+}
+
+/// Takes so many fronts out of both, as far as there are, and drops one behind each; tells whether they are the same.
 fn both_take<A: Window, B: Window>(a: &mut A, b: &mut B, count: u64) -> bool {
     for _ in 0..count {
-        if taken(a) != taken(b) {
+        if taken(a) != taken(b) || a.front() != b.front() {
             return false;
         }
+        drop_front(a);
+        drop_front(b);
     }
     true
 }
@@ -97,7 +106,7 @@ fn list_and_ring_answer_the_same(rt: HostRuntime) -> Result<(), Fail> {
     Ok(())
 }
 
-/// With memory, `new` answers a window. Without the first or the second piece of it, it answers `OutOfMemory`, and
+/// With memory, `new` answers a window. Without a piece of it, it answers `OutOfMemory`, and
 /// a window once there is memory again: `rt try --test --fail-alloc N` runs these sides.
 #[test]
 fn a_refused_growth_of_a_ring(rt: HostRuntime) -> Result<(), Fail> {

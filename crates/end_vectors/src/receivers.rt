@@ -292,3 +292,37 @@ fn what_the_pairs_do_not_cover_stays_due(rt: HostRuntime) -> Result<(), Fail> {
     assert_eq!(rt; lengths, [12 + 4 * 64, 12 + 4 * 2, 0]);
     Ok(())
 }
+
+/// What a receiver lends, as it would be played.
+fn lent<W: Window>(receiver: &Receiver<W>, now: u64) -> Played {
+    match receiver.peek(now) {
+        Peeked::Packet(place, content) => Played::Packet(place, content.copy()),
+        Peeked::Gap(place) => Played::Gap(place),
+        Peeked::Wait => Played::Wait,
+    }
+}
+
+/// Hears packets with one missing at both, and plays at one what the other lends and passes.
+#[test]
+fn a_pass_is_a_play(rt: HostRuntime) -> Result<(), Fail> {
+    let config = config(3)?;
+    let (Ok(list), Ok(ring)) = (
+        ListWindow::new(rt.alloc(), 4),
+        RingWindow::new(rt.alloc(), 4),
+    ) else {
+        return Err(Fail::from("memory is ample"));
+    };
+    let mut plays = Receiver::new(config, list);
+    let mut passes = Receiver::new(config, ring);
+    for low in [1, 2, 4] {
+        make(&mut plays, Call::Hear(0x60, MEDIA, low));
+        make(&mut passes, Call::Hear(0x60, MEDIA, low));
+    }
+    for now in [0, 0, 0, 99, 100, 100, 100] {
+        assert_eq!(rt; lent(&passes, now), plays.play(now));
+        passes.pass(now);
+        assert_eq!(rt; passes.window().cursor(), plays.window().cursor());
+    }
+    assert_eq!(rt; plays.window().cursor(), Some(65541));
+    Ok(())
+}

@@ -62,7 +62,7 @@ fn due<W: Window>(window: &W, now: u64, retry: u64, asks: u8) -> ArrayVec<u64, 8
 /// Counts an ask for the place, if the window takes one.
 pub fn asked<W: Window>(window: &mut W, place: Place, now: u64) -> bool {
     let takes = match window.slot(place) {
-        Some(Slot::Missing { asks, .. }) => *asks < 255,
+        Some(SlotRef::Missing { asks, .. }) => asks < 255,
         _ => false,
     };
     if takes {
@@ -98,15 +98,12 @@ enum Row {
 
 /// Whether the slot of this place is missing so.
 fn is_asked<W: Window>(window: &W, place: Place, noticed: u64, asks: u8, last: u64) -> bool {
-    let wanted = Slot::Missing {
+    let wanted = SlotRef::Missing {
         noticed,
         asks,
         last,
     };
-    match window.slot(place) {
-        Some(slot) => *slot == wanted,
-        None => false,
-    }
+    window.slot(place) == Some(wanted)
 }
 
 /// Whether the window answers the call so.

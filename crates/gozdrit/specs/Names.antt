@@ -1,7 +1,7 @@
 -- The names of what calls answer.
 use Rattle.std.specs.Prelude.{◌≡◌, ℕ, ◌<◌, ◌≤◌, ℤ, pos, negsuc, ◌==◌, List, [], ◌∷◌, ◌++◌, length, codes, if◌then◌else◌}
 use Rattle.gozdrit.specs.Codes.{ok, no_room}
-use Rattle.gozdrit.specs.Packet.{in_front}
+use Rattle.rtpwire.specs.Buffer.{in_front}
 
 -- the name of a number, and nothing where it has none
 abbrev pub name_at : ℕ → List ℕ

@@ -1,8 +1,9 @@
 -- A content as C says it and is told it: a header, and the payload in a buffer.
-use Rattle.std.specs.Prelude.{◌≡◌, ◌≢◌, ℕ, ◌≤◌, ◌==◌, ◌++◌, not, List, length, take, drop, Option, Some, None, if◌then◌else◌}
+use Rattle.std.specs.Prelude.{◌≡◌, ◌≢◌, ℕ, ◌≤◌, ◌==◌, not, List, length, take, Option, Some, None, if◌then◌else◌}
 use Rattle.std.specs.Option.{option_map}
 use Rattle.rtpwire.specs.declared.content.Content.{Content}
 use Rattle.rtpwire.specs.declared.content.Extension.{Extension}
+use Rattle.rtpwire.specs.Buffer.{in_front}
 use Rattle.rtpwire.specs.Content.{extension_of}
 use Rattle.gozdrit.specs.declared.header.Header.{Header}
 
@@ -28,10 +29,6 @@ pub record IsContent (header : Header) (payload : List ℕ) (content : Content) 
   pub marker : content.marker ≡ not (header.marker == 0)
   pub sources : content.sources.items ≡ take header.source_count header.sources
   pub extension : option_map extension_of content.extension ≡ extension_in header
-
--- items at the front of a buffer, and behind them what was there
-abbrev pub in_front : {A : Type 0} → List A → List A → List A
-in_front items buffer = items ++ drop (length items) buffer
 
 -- where there is no extension, its profile and words stay as they were
 abbrev pub TellsExtension : Header → Option Extension → Header → Type 0

@@ -19,7 +19,7 @@ use Rattle.gozdrit.specs.declared.answers.PlayedPlace.{PlayedPlace}
 use Rattle.gozdrit.specs.Codes.{ok, no_end, is_held, out_of_memory, no_room}
 use Rattle.gozdrit.specs.Told.{TellsPlayed}
 use Rattle.gozdrit.specs.Config.{IsSession, HasReceiverLimits, Fails, streams_of, receiver_config}
-use Rattle.gozdrit.specs.Packet.{in_front}
+use Rattle.rtpwire.specs.Buffer.{in_front}
 
 -- A configuration is refused for the first check that it fails; else there is a receiver that took nothing, or no
 -- memory for it.

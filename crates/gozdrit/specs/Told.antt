@@ -7,7 +7,8 @@ use Rattle.gozdrit.specs.declared.answers.KnownPlace.{KnownPlace}
 use Rattle.gozdrit.specs.declared.answers.KnownSource.{KnownSource}
 use Rattle.gozdrit.specs.declared.answers.PlayedPlace.{PlayedPlace}
 use Rattle.gozdrit.specs.declared.answers.SentPacket.{SentPacket}
-use Rattle.gozdrit.specs.Packet.{TellsHeader, in_front}
+use Rattle.rtpwire.specs.Buffer.{in_front}
+use Rattle.gozdrit.specs.Packet.{TellsHeader}
 
 -- a packet is told: its place and length, and its octets at the front of the buffer
 pub record TellsPacket (place : ℕ) (octets : List ℕ) (out : List ℕ) (sent' : SentPacket) (out' : List ℕ) : Type 0 where
@@ -26,11 +27,6 @@ abbrev pub TellsPlayed : Played → (old : PlayedPlace) → (payload : List ℕ)
 TellsPlayed Wait old payload new payload' = (new ≡ record old { kind = 0 }) × (payload' ≡ payload)
 TellsPlayed (Packet place content) old payload new payload' = (new.kind ≡ 1) × (new.place ≡ place) × TellsContent content old payload new payload'
 TellsPlayed (Gap place) old payload new payload' = (new ≡ record old { kind = 2; place = place }) × (payload' ≡ payload)
-
--- where there is a content it is told, and no more; else nothing changes
-abbrev pub TellsHeld : Option Content → (old : PlayedPlace) → (payload : List ℕ) → (new : PlayedPlace) → (payload' : List ℕ) → Type 0
-TellsHeld (Some content) old payload new payload' = (new.kind ≡ old.kind) × (new.place ≡ old.place) × TellsContent content old payload new payload'
-TellsHeld None old payload new payload' = (new ≡ old) × (payload' ≡ payload)
 
 -- a number that may be unknown is told; where it is, its field stays
 abbrev pub TellsPlace : Option ℕ → KnownPlace → KnownPlace → Type 0

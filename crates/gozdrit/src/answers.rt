@@ -2,10 +2,9 @@
 ghost use Rattle.std.specs.Prelude.{◌≤◌, length};
 ghost use Rattle.gozdrit.specs.Told.{TellsPacket, TellsPlace, TellsSource};
 
-use crate::front::fill_front;
 use crate::header::Header;
 use places::Place;
-use rtpwire::Datagram;
+use rtpwire::{Datagram, fill_front};
 
 /// A packet that was written to a buffer: its place, and how many octets it has.
 #[repr(C)]

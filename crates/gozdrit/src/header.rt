@@ -4,9 +4,8 @@ ghost use Rattle.std.specs.Option.{option_map};
 ghost use Rattle.rtpwire.specs.Content.{extension_of};
 ghost use Rattle.gozdrit.specs.Packet.{Fits, HasWords, IsContent, TellsHeader, extension_in};
 
-use crate::front::fill_front;
 use arrayvec::ArrayVec;
-use rtpwire::{Content, Extension, MAX_PAYLOAD, MAX_SOURCES, MAX_WORDS, push_octets};
+use rtpwire::{Content, Extension, MAX_PAYLOAD, MAX_SOURCES, MAX_WORDS, fill_front, push_octets};
 
 /// What a packet carries beside its payload.
 #[repr(C)]

@@ -4,7 +4,6 @@
 mod answers;
 mod code;
 mod config;
-mod front;
 mod handle;
 mod header;
 mod lent;

@@ -3,7 +3,7 @@ ghost use Rattle.std.specs.Prelude.{◌≡◌, ◌-◌, ◌≤◌, length};
 ghost use Rattle.gozdrit.specs.Names.{AnswersName, name_of, terminated};
 
 use crate::code::{NO_ROOM, OK};
-use crate::front::fill_front;
+use rtpwire::fill_front;
 
 /// How many octets a name has at most, with the zero behind it.
 const MAX_NAME: usize = 16;

@@ -1,20 +1,16 @@
 //! What a play gives to C.
 ghost use Rattle.std.specs.Prelude.{◌≤◌, length};
 ghost use Rattle.receiver.specs.declared.answer.Played.{Played};
-ghost use Rattle.receiver.specs.Window.{held_in};
-ghost use Rattle.stores.specs.Span.{front_of};
+ghost use Rattle.receiver.specs.Peeking.{played_of};
 ghost use Rattle.gozdrit.specs.Receiving.{PlaysAs};
-ghost use Rattle.gozdrit.specs.Told.{TellsHeld, TellsPlayed};
+ghost use Rattle.gozdrit.specs.Told.{TellsPlayed};
 
 use crate::answers::PlayedPlace;
-use crate::front::fill_front;
-use receiver::{Played, Receiver};
-use stores::{Slot, Window, window_by_place};
+use receiver::{Peeked, Receiver};
+use stores::Window;
+use rtpwire::fill_front;
 
-/// Plays, and tells what came.
-///
-/// A content is told where it lies, before it is played: a play moves it out, and who copies it after that pays for two
-/// moves more (docs/DECISIONS.md, "Costs").
+/// Plays, and tells what came. A content is copied once, from where the window keeps it.
 pub(crate) fn play_to<W: Window>(
     receiver: &mut Receiver<W>,
     now: u64,
@@ -24,29 +20,27 @@ pub(crate) fn play_to<W: Window>(
     requires { 1200 ≤ length payload.old }
     ensures { (answer : Played) × PlaysAs receiver.old now answer receiver.new × TellsPlayed answer played.old payload.old played.new payload.new }
 {
-    window_by_place();
-    tell_held(receiver.window(), played, payload);
-    match receiver.play(now) {
-        Played::Wait => played.kind = 0,
-        Played::Packet(place, _content) => {
+    tell_peeked(receiver.peek(now), played, payload);
+    receiver.pass(now);
+}
+
+/// Tells what a play would give.
+fn tell_peeked(peeked: Peeked<'_>, played: &mut PlayedPlace, payload: &mut [u8])
+    requires { 1200 ≤ length payload.old }
+    ensures { TellsPlayed (played_of peeked.entry) played.old payload.old played.new payload.new }
+{
+    match peeked {
+        Peeked::Wait => played.kind = 0,
+        Peeked::Packet(place, content) => {
             played.kind = 1;
             played.place = place.value();
+            played.length = content.payload.len();
+            played.header.tell(content);
+            fill_front(payload, content.payload.as_slice());
         }
-        Played::Gap(place) => {
+        Peeked::Gap(place) => {
             played.kind = 2;
             played.place = place.value();
         }
-    }
-}
-
-/// Tells the content that a window holds at its front, if it holds one there.
-fn tell_held<W: Window>(window: &W, played: &mut PlayedPlace, payload: &mut [u8])
-    requires { 1200 ≤ length payload.old }
-    ensures { TellsHeld (held_in (front_of (W.meaning window.now))) played.old payload.old played.new payload.new }
-{
-    if let Some(Slot::Held(content)) = window.front() {
-        played.length = content.payload.len();
-        played.header.tell(content);
-        fill_front(payload, content.payload.as_slice());
     }
 }

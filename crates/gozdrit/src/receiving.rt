@@ -6,11 +6,10 @@ ghost use Rattle.gozdrit.specs.Receiving.{AnswersReceiverNew, AnswersMedia, Answ
 use crate::answers::{PlayedPlace, TakenPlace};
 use crate::code::{HELD, NO_END, NO_ROOM, OK, OUT_OF_MEMORY};
 use crate::config::ReceiverFields;
-use crate::front::fill_front;
 use crate::playing::play_to;
 use crate::receiver_handle::ReceiverHandle;
 use receiver::Receiver;
-use rtpwire::{MAX_DATAGRAM, MAX_PAYLOAD};
+use rtpwire::{MAX_DATAGRAM, MAX_PAYLOAD, fill_front};
 use std::alloc::Global;
 use stores::{RingWindow, Window};
 

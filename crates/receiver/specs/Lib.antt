@@ -8,3 +8,4 @@ pub mod Receiver
 pub mod Fault
 pub mod Finding
 pub mod Order
+pub mod Peeking

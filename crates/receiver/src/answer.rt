@@ -21,3 +21,14 @@ pub enum Played {
     /// Nothing so far: the next place is missing and its patience has not passed, or nothing is kept.
     Wait,
 }
+
+/// What a play would give now, lent: [`Receiver::peek`](crate::Receiver::peek) answers it.
+#[derive(Clone, Copy)]
+pub enum Peeked<'a> {
+    /// The next place, and its content where the window keeps it.
+    Packet(Place, &'a Content),
+    /// The next place, which is missing and to be given up.
+    Gap(Place),
+    /// Nothing so far.
+    Wait,
+}

@@ -8,7 +8,7 @@ mod laws;
 mod receiver;
 mod stream;
 
-pub use answer::{Played, Taken};
+pub use answer::{Peeked, Played, Taken};
 pub use config::ReceiverConfig;
 pub use fault::ReceiveFault;
 pub use laws::{

@@ -14,17 +14,19 @@ ghost use Rattle.receiver.specs.Fault.{receive_number};
 ghost use Rattle.receiver.specs.Order.{hearing_order};
 ghost use Rattle.receiver.specs.Finding.{FindsPlace};
 ghost use Rattle.receiver.specs.Receiver.{state_of, IsUnlearnt, Stays};
+ghost use Rattle.receiver.specs.Peeking.{played_of, is_ready, play_of, passed, receiver_passed};
+ghost use Rattle.stores.specs.Lent.{slot_of};
 
-use crate::answer::{Played, Taken};
+use crate::answer::{Peeked, Played, Taken};
 use crate::config::ReceiverConfig;
 use crate::fault::ReceiveFault;
 use crate::laws::hearing_is_in_order;
 use crate::stream::{Stream, carried_in, known_source, stream_of};
 use fbwire::{pack, write_nack};
 use places::{Place, near};
-use rtpwire::{Content, Datagram, RtpView};
+use rtpwire::{Carried, Datagram, RtpView};
 use std::marker::Model;
-use stores::{Slot, Window, window_by_place};
+use stores::{Slot, SlotRef, Window, window_by_place};
 
 /// The receiving end of a session, over any window: it takes packets in any order, asks for those that are
 /// missing, and plays their contents in the order of their places. No call takes memory: the window has it from the start.
@@ -125,6 +127,25 @@ impl<W: Window> Receiver<W> {
         play_from(&mut self.window, patience, now)
     }
 
+    /// What [`play`](Receiver::play) would give at the moment `now`, lent, so that a caller copies a content from where it
+    /// lies. The receiver stays as it is: [`pass`](Receiver::pass) at the same moment is the second step of the play.
+    pub fn peek(&self, now: u64) -> Peeked<'_>
+        ensures answer { played_of result ≡ play_of self.now.config.patience now self.now.span }
+    {
+        peek_at(&self.window, self.config.patience(), now)
+    }
+
+    /// Passes what [`peek`](Receiver::peek) lends at the moment `now`, in milliseconds: it leaves the receiver as
+    /// [`play`](Receiver::play) at that moment would, and moves no content.
+    pub fn pass(&mut self, now: u64)
+        ensures passes { self.new ≡ receiver_passed (play_of self.old.config.patience now self.old.span) self.old }
+        ensures plays { PlaysAny self.old.config.patience (state_of self.old) now (play_of self.old.config.patience now self.old.span) (state_of self.new) }
+        ensures stays { Stays self.old self.new }
+    {
+        let patience = self.config.patience();
+        pass_from(&mut self.window, patience, now);
+    }
+
     /// Asks for missing places at the moment `now`, in milliseconds. It may be called at any time, and
     /// moments need not rise. The answer is the datagram of a generic NACK (RFC 4585, section 6.2.1), from
     /// the session's receiver to its media source, and None where no place is due: nothing changes then.
@@ -179,11 +200,10 @@ fn hear<W: Window>(
     let view = RtpView::read(octets)?;
     let stream = stream_of(config, *learnt, &view)?;
     let (seq, payload) = carried_in(stream, &view)?;
-    // One call reads the content of every stream, and one puts it: a second of either would move it once more
-    // (docs/DECISIONS.md, "Costs").
-    let content = Content::with_payload(&view, payload)?;
+    // What is carried is copied by the window alone, once the place is taken.
+    let content = Carried::with_payload(&view, payload)?;
     let place = place_for(window, stream, seq)?;
-    let overrun = window.put(place, content, now)?;
+    let overrun = window.put_from(place, &content, now)?;
     if let Stream::Candidate(ssrc) = stream {
         *learnt = Some(ssrc);
     }
@@ -211,7 +231,7 @@ fn place_for<W: Window>(window: &W, stream: Stream, seq: u16) -> Result<Place, R
 fn was_asked<W: Window>(window: &W, place: Place) -> bool
     ensures { IsTrue result ↔ WasAsked (missed_in (slot_at (W.meaning window.now) place)) }
 {
-    matches!(window.slot(place), Some(Slot::Missing { asks, .. }) if *asks > 0)
+    matches!(window.slot(place), Some(SlotRef::Missing { asks, .. }) if asks > 0)
 }
 
 /// Plays from a window.
@@ -224,18 +244,62 @@ fn play_from<W: Window>(window: &mut W, patience: u64, now: u64) -> Played
     let Some(cursor) = window.cursor() else {
         return Played::Wait;
     };
-    let is_ready = match window.front() {
-        None => false,
-        Some(Slot::Held(_)) => true,
-        Some(Slot::Missing { noticed, .. }) => now >= *noticed && now - *noticed >= patience,
-    };
-    if !is_ready {
+    if !is_ready(window.front(), patience, now) {
         return Played::Wait;
     }
     let place = Place::new(cursor).unwrap();
     match window.take_front() {
         Slot::Held(content) => Played::Packet(place, content),
         Slot::Missing { .. } => Played::Gap(place),
+    }
+}
+
+/// Whether the slot at the front is to be passed: it is held, or its patience has passed.
+fn is_ready(front: Option<SlotRef<'_>>, patience: u64, now: u64) -> bool
+    ensures { result ≡ is_ready patience now (option_map slot_of front.entry) }
+{
+    match front {
+        None => false,
+        Some(SlotRef::Held(_)) => true,
+        Some(SlotRef::Missing { noticed, .. }) => now >= noticed && now - noticed >= patience,
+    }
+}
+
+/// What a play of a window would give, lent.
+fn peek_at<W: Window>(window: &W, patience: u64, now: u64) -> Peeked<'_>
+    ensures answer { played_of result ≡ play_of patience now (W.meaning window.now) }
+{
+    let Some(cursor) = window.cursor() else {
+        return Peeked::Wait;
+    };
+    let front = window.front();
+    if !is_ready(front, patience, now) {
+        return Peeked::Wait;
+    }
+    let place = Place::new(cursor).unwrap();
+    match front {
+        Some(SlotRef::Held(content)) => Peeked::Packet(place, content),
+        _ => Peeked::Gap(place),
+    }
+}
+
+/// Passes what a play of a window would give.
+fn pass_from<W: Window>(window: &mut W, patience: u64, now: u64)
+    ensures passes { W.meaning window.new ≡ passed (play_of patience now (W.meaning window.old)) (W.meaning window.old) }
+    ensures plays { (learnt : Option ℕ) → PlaysAny patience (window_of learnt (W.meaning window.old)) now (play_of patience now (W.meaning window.old)) (window_of learnt (W.meaning window.new)) }
+    ensures started { (W.meaning window.new).cursor ≡ None → (W.meaning window.old).cursor ≡ None }
+    ensures capacity { (W.meaning window.new).capacity ≡ (W.meaning window.old).capacity }
+{
+    let (Some(_cursor), Some(front)) = (window.cursor(), window.front()) else {
+        return;
+    };
+    match front {
+        SlotRef::Held(_) => window.drop_front(),
+        SlotRef::Missing { noticed, .. } => {
+            if now >= noticed && now - noticed >= patience {
+                window.drop_front();
+            }
+        }
     }
 }
 
@@ -247,6 +311,10 @@ fn ask_from<W: Window>(window: &mut W, config: &ReceiverConfig, now: u64) -> Opt
     ensures capacity { (W.meaning window.new).capacity ≡ (W.meaning window.old).capacity }
 {
     window_by_place();
+    // Most asks find nothing missing.
+    if window.missing() == 0 {
+        return None;
+    }
     let due = window.due(now, config.retry(), config.asks());
     if due.is_empty() {
         return None;

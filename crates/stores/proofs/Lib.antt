@@ -16,4 +16,7 @@ pub mod BitWords
 pub mod SetOfItems
 pub mod EntryIndex
 pub mod MissingIndex
+pub mod Pooled
+pub mod Filling
+pub mod CellSteps
 pub mod Determined

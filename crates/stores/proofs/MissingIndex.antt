@@ -1,10 +1,10 @@
 -- The index of the missing slots, when slots come, go and change.
-use Rattle.std.proofs.Common.{◌≡◌, ℕ, zero, suc, ◌+◌, ◌<◌, ◌==◌, ◌++◌, Bool, true, false, List, [], ◌∷◌, length, drop, slice_get, slice_set, Some, ap, sym, ◌∙◌, refl, arith}
-use Rattle.std.specs.Prelude.{if◌then◌else◌}
+use Rattle.std.proofs.Common.{◌≡◌, ℕ, zero, suc, ◌+◌, ◌<◌, ◌==◌, ◌++◌, Bool, true, false, List, [], ◌∷◌, length, drop, slice_get, slice_set, Option, Some, None, ap, sym, ◌∙◌, refl, arith}
+use Rattle.std.specs.Prelude.{if◌then◌else◌, IsSomeAnd}
 use Rattle.std.proofs.lemmas.Option.{same_Some, slice_get_past, slice_get_within}
 use Rattle.stores.specs.declared.slot.Slot.{Slot}
 use Rattle.stores.specs.declared.slot.Slot.TheVariants.{Held, Missing}
-use Rattle.stores.specs.Asking.{is_missing}
+use Rattle.stores.specs.Asking.{is_missing, CanBeAsked, asked_at}
 use Rattle.stores.specs.Bits.{bits_of, is_member, size_of}
 use Rattle.stores.specs.Index.{count_missing, IsIndex}
 use Rattle.stores.proofs.SetOfItems.{set_after_change, set_after_same, set_after_drop, set_after_push, set_after_add}
@@ -90,12 +90,11 @@ index_push words front slots x held is =
     let count = is.1 in
     (set_after_push is_missing words front slots x held refl is.0, omega arith)
 
--- a missing slot came to be held
-pub index_hold : (old new : List ℕ) (front after : ℕ) (slots : List Slot) (i : ℕ) (x y : Slot) → length new ≡ length old → slice_get slots i ≡ Some y → is_missing (Some y) ≡ true → is_missing (Some x) ≡ false →
+hold_of : (old new : List ℕ) (front after : ℕ) (slots : List Slot) (i : ℕ) (x y : Slot) → length new ≡ length old → slice_get slots i ≡ Some y → is_missing (Some y) ≡ true → is_missing (Some x) ≡ false →
     i < bits_of old →
     ((p : ℕ) → p < bits_of old → is_member new after p ≡ (if p == i then false else is_member old front p)) →
     size_of new + (if is_member old front i then 1 else 0) ≡ size_of old → IsIndex old front slots → IsIndex new after (slice_set slots i x)
-index_hold old new front after slots i x y long at missing held below members size is =
+hold_of old new front after slots i x y long at missing held below members size is =
     let on = is.0 i below ∙ ap is_missing at ∙ missing in
     let less = if_member (size_of new) (size_of old) _ true on size in
     let counted = counted_set slots i x y at in
@@ -105,6 +104,20 @@ index_hold old new front after slots i x y long at missing held below members si
     let count = is.1 in
     (set_after_change is_missing old new front after slots i x false (slice_get_within slots i y at) long members held is.0, omega arith)
 
+hold_at : (old new : List ℕ) (front after : ℕ) (slots : List Slot) (i : ℕ) (x : Slot) (o : Option Slot) → slice_get slots i ≡ o → length new ≡ length old → is_missing o ≡ true → is_missing (Some x) ≡ false →
+    i < bits_of old →
+    ((p : ℕ) → p < bits_of old → is_member new after p ≡ (if p == i then false else is_member old front p)) →
+    size_of new + (if is_member old front i then 1 else 0) ≡ size_of old → IsIndex old front slots → IsIndex new after (slice_set slots i x)
+hold_at old new front after slots i x None at long missing held below members size is = absurd cc
+hold_at old new front after slots i x (Some y) at long missing held below members size is = hold_of old new front after slots i x y long at missing held below members size is
+
+-- a missing slot came to be held
+pub index_hold : (old new : List ℕ) (front after : ℕ) (slots : List Slot) (i : ℕ) (x : Slot) → length new ≡ length old → is_missing (slice_get slots i) ≡ true → is_missing (Some x) ≡ false →
+    i < bits_of old →
+    ((p : ℕ) → p < bits_of old → is_member new after p ≡ (if p == i then false else is_member old front p)) →
+    size_of new + (if is_member old front i then 1 else 0) ≡ size_of old → IsIndex old front slots → IsIndex new after (slice_set slots i x)
+index_hold old new front after slots i x long missing held below members size is = hold_at old new front after slots i x (slice_get slots i) refl long missing held below members size is
+
 -- a slot changed that stays missing, or stays held
 pub index_same : (words : List ℕ) (front : ℕ) (slots : List Slot) (i : ℕ) (x y : Slot) → slice_get slots i ≡ Some y → is_missing (Some x) ≡ is_missing (Some y) →
     IsIndex words front slots → IsIndex words front (slice_set slots i x)
@@ -113,3 +126,13 @@ index_same words front slots i x y at same is =
     let equal = ap weight same in
     let count = is.1 in
     (set_after_same is_missing words front slots i x (slice_get_within slots i y at) (same ∙ ap is_missing (sym at)) is.0, omega arith)
+
+asked_of : (words : List ℕ) (front : ℕ) (slots : List Slot) (i now : ℕ) (o : Option Slot) → slice_get slots i ≡ o → IsSomeAnd o CanBeAsked → IsIndex words front slots → IsIndex words front (asked_at slots i now o)
+asked_of words front slots i now None at can is = absurd can
+asked_of words front slots i now (Some (Held content)) at can is = absurd can
+asked_of words front slots i now (Some (Missing noticed asks last)) at can is =
+    index_same words front slots i (Missing noticed (asks + 1) now) (Missing noticed asks last) at refl is
+
+-- a slot was asked for
+pub index_asked : (words : List ℕ) (front : ℕ) (slots : List Slot) (i now : ℕ) → IsSomeAnd (slice_get slots i) CanBeAsked → IsIndex words front slots → IsIndex words front (asked_at slots i now (slice_get slots i))
+index_asked words front slots i now can is = asked_of words front slots i now (slice_get slots i) refl can is

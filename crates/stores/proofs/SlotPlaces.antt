@@ -7,7 +7,7 @@ use Rattle.std.proofs.lemmas.List.{nil_from_length}
 use Rattle.std.proofs.lemmas.Bool.{cond_both}
 use Rattle.std.proofs.lemmas.Option.{gets, slice_get_read, slice_get_past}
 use Rattle.std.specs.Option.{ForSome}
-use Rattle.stores.specs.Asking.{is_missing}
+use Rattle.stores.specs.Asking.{is_missing, asked_slot, asked_at}
 use Rattle.stores.specs.declared.slot.Slot.{Slot}
 use Rattle.stores.specs.Span.{Span, IsSpan, highest_of, front_of, without_front}
 use Rattle.stores.specs.ByPlace.{slot_from, slot_at, slot_at_cursor, is_above, IsInside, LosesFront}
@@ -61,10 +61,19 @@ front_is_at_cursor s k started = grind (arith, common_steps)
 pub take_front_by_place : (old new : Span) (slot : Slot) → IsSpan old → front_of old ≡ Some slot → new ≡ without_front old → IsSomeAnd old.cursor (LosesFront old slot new)
 take_front_by_place old new slot is front rest = grind (arith, common_steps)
 
+asked_long : (slots : List Slot) (i now : ℕ) (o : Option Slot) → length (asked_at slots i now o) ≡ length slots
+asked_long slots i now None = refl
+asked_long slots i now (Some slot) = length-set slots i (asked_slot now slot)
+
 -- a started window keeps its ends when a slot is replaced
 pub started_set : (cursor : Option ℕ) (slots : List Slot) (i : ℕ) (slot : Slot) → ForSome cursor (λ k. (0 < k + length slots) × (k + length slots ≤ 2 ^ 48)) →
     ForSome cursor (λ k. (0 < k + length (slice_set slots i slot)) × (k + length (slice_set slots i slot) ≤ 2 ^ 48))
 started_set cursor slots i slot started k e = let at = started k e in let same = length-set slots i slot in (omega arith, omega arith)
+
+-- and when one is asked for
+pub started_asked : (cursor : Option ℕ) (slots : List Slot) (i now : ℕ) → ForSome cursor (λ k. (0 < k + length slots) × (k + length slots ≤ 2 ^ 48)) →
+    ForSome cursor (λ k. (0 < k + length (asked_at slots i now (slice_get slots i))) × (k + length (asked_at slots i now (slice_get slots i)) ≤ 2 ^ 48))
+started_asked cursor slots i now started k e = let at = started k e in let same = asked_long slots i now (slice_get slots i) in (omega arith, omega arith)
 
 -- a missing slot is one of the slots
 pub missing_within : (slots : List Slot) (i : ℕ) → is_missing (slice_get slots i) ≡ true → i < length slots

@@ -9,3 +9,5 @@ pub mod RunIsPast
 pub mod PastByPlace
 pub mod Bits
 pub mod Index
+pub mod Lent
+pub mod Pool

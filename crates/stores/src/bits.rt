@@ -1,5 +1,5 @@
 //! A set of positions below a bound, in words of 64 bits.
-ghost use Rattle.std.specs.Prelude.{◌≡◌, ℕ, ◌+◌, ◌*◌, ◌/◌, ◌<◌, ◌≤◌, ◌==◌, true, false, length, MatchOption, IfOk, if◌then◌else◌};
+ghost use Rattle.std.specs.Prelude.{◌≡◌, ℕ, ◌+◌, ◌*◌, ◌/◌, ◌<◌, ◌≤◌, ◌==◌, true, false, length, replicate, MatchOption, IfOk, if◌then◌else◌};
 ghost use Rattle.stores.specs.Bits.{is_set, bits_of, turned, is_member, size_of};
 
 use crate::memory::OutOfMemory;
@@ -111,6 +111,16 @@ impl Bits {
         Some(above + bit)
     }
 
+    /// Takes every position out of the set.
+    pub fn clear_all(&mut self)
+        ensures empty { (p : ℕ) → is_member self.new.words.items self.new.front p ≡ false }
+        ensures count { size_of self.new.words.items ≡ 0 }
+        ensures words { length self.new.words.items ≡ length self.old.words.items }
+    {
+        clear_words(&mut self.words);
+        self.count = 0;
+    }
+
     /// Takes position 0 out of the set, and moves every other position down by one.
     pub fn shift(&mut self)
         ensures members { (p : ℕ) → p < bits_of self.old.words.items →
@@ -168,6 +178,13 @@ fn clear_bit(words: &mut Vec<u64>, bit: usize)
     ensures words { length words.new.items ≡ length words.old.items }
 {
     words[bit / 64] &= !(1 << (bit % 64));
+}
+
+/// Clears every bit.
+fn clear_words(words: &mut Vec<u64>)
+    ensures { words.new.items ≡ replicate (length words.old.items) 0 }
+{
+    words.as_mut_slice().fill(0);
 }
 
 /// The number of the first bit that is set, from one up to below an end.

@@ -5,7 +5,7 @@ ghost use Rattle.stores.specs.Past.{Past, IsPast, empty_past, next_of, entry_at,
 use crate::entry::HistoryEntry;
 use crate::memory::OutOfMemory;
 use places::Place;
-use rtpwire::Content;
+use rtpwire::{Carried, Content};
 use std::alloc::Global;
 
 /// A sender's history: the latest packets that were sent, one for each place, up to so many.
@@ -27,11 +27,19 @@ pub trait History: Drop {
         requires limit { capacity ≤ 8192 }
         ensures { IfOk result (λ history. meaning history ≡ empty_past capacity) };
 
-    /// Adds the content that was sent at this place, neither repeated nor marked. A full history drops its
+    /// Adds what was sent at this place, neither repeated nor marked. A full history drops its
     /// oldest entry, with its mark. The place must be the one after the last entry's, unless there is none.
+    fn push_from(&mut self, place: Place, carried: &Carried<'_>)
+        requires { ForSome (next_of (meaning self.old)) (λ next. place ≡ next) }
+        ensures { meaning self.new ≡ pushed (meaning self.old) place carried.now };
+
+    /// The same with a content of the caller's own.
     fn push(&mut self, place: Place, content: Content)
         requires { ForSome (next_of (meaning self.old)) (λ next. place ≡ next) }
-        ensures { meaning self.new ≡ pushed (meaning self.old) place content };
+        ensures { meaning self.new ≡ pushed (meaning self.old) place content }
+    {
+        self.push_from(place, &Carried::of_content(&content));
+    }
 
     /// The place of the entry with this sequence number, if there is one. No two entries have the same.
     fn find(&self, number: u16) -> Option<Place>

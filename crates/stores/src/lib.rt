@@ -4,16 +4,19 @@
 
 mod bits;
 mod by_place;
+mod cell;
 mod entry;
 mod history;
 mod laws;
 mod list_history;
 mod list_window;
 mod memory;
+mod pool;
 mod ring;
 mod ring_history;
 mod ring_window;
 mod slot;
+mod slots;
 mod spot;
 mod window;
 
@@ -26,5 +29,5 @@ pub use list_window::ListWindow;
 pub use memory::OutOfMemory;
 pub use ring_history::RingHistory;
 pub use ring_window::RingWindow;
-pub use slot::{PutFault, Slot};
+pub use slot::{PutFault, Slot, SlotRef};
 pub use window::{LONGEST_ASK, Window};

@@ -6,7 +6,7 @@ use crate::entry::HistoryEntry;
 use crate::history::History;
 use crate::memory::OutOfMemory;
 use places::Place;
-use rtpwire::Content;
+use rtpwire::{Carried, Content};
 use std::alloc::Global;
 
 /// A history in a plain list, whose memory is reserved once.
@@ -57,12 +57,12 @@ impl History for ListHistory {
         })
     }
 
-    fn push(&mut self, place: Place, content: Content) {
+    fn push_from(&mut self, place: Place, carried: &Carried<'_>) {
         make_room(&mut self.entries, self.capacity);
         self.first = place.value() - self.entries.len() as u64;
         self.entries.push_reserved(HistoryEntry {
             place,
-            content,
+            content: Content::of(carried),
             repeats: 0,
             marked: false,
         });

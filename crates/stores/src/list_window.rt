@@ -7,12 +7,12 @@ ghost use Rattle.stores.specs.ByPlace.{slot_from};
 ghost use Rattle.stores.specs.Asking.{longest_ask, is_due, is_missing};
 
 use crate::memory::OutOfMemory;
-use crate::slot::{PutFault, Slot};
+use crate::slot::{PutFault, Slot, SlotRef};
 use crate::spot::{Spot, spot_of};
 use crate::window::{LONGEST_ASK, Window};
 use arrayvec::ArrayVec;
 use places::Place;
-use rtpwire::Content;
+use rtpwire::{Carried, Content};
 use std::alloc::Global;
 
 /// A window in a plain list, whose memory is reserved once.
@@ -57,11 +57,11 @@ impl Window for ListWindow {
         Place::new(end - 1)
     }
 
-    fn put(&mut self, place: Place, content: Content, now: u64) -> Result<u64, PutFault> {
+    fn put_from(&mut self, place: Place, carried: &Carried<'_>, now: u64) -> Result<u64, PutFault> {
         let place = place.value();
         let Some(cursor) = self.cursor else {
             self.cursor = Some(place);
-            self.slots.push_reserved(Slot::Held(content));
+            self.slots.push_reserved(Slot::Held(Content::of(carried)));
             return Ok(0);
         };
         match spot_of(cursor, self.slots.len(), self.capacity, place) {
@@ -71,7 +71,7 @@ impl Window for ListWindow {
                 match slot {
                     Slot::Held(_) => Err(PutFault::Duplicate),
                     Slot::Missing { .. } => {
-                        *slot = Slot::Held(content);
+                        *slot = Slot::Held(Content::of(carried));
                         Ok(0)
                     }
                 }
@@ -79,15 +79,15 @@ impl Window for ListWindow {
             Spot::Above { overrun, unseen } => {
                 drop_front(&mut self.slots, overrun);
                 add_missing(&mut self.slots, unseen, now);
-                self.slots.push_reserved(Slot::Held(content));
+                self.slots.push_reserved(Slot::Held(Content::of(carried)));
                 self.cursor = Some(cursor + overrun);
                 Ok(overrun)
             }
         }
     }
 
-    fn front(&self) -> Option<&Slot> {
-        self.slots.first()
+    fn front(&self) -> Option<SlotRef<'_>> {
+        Some(SlotRef::of_slot(self.slots.first()?))
     }
 
     fn take_front(&mut self) -> Slot {
@@ -98,9 +98,16 @@ impl Window for ListWindow {
         slot
     }
 
-    fn slot(&self, place: Place) -> Option<&Slot> {
+    fn drop_front(&mut self) {
+        drop_front(&mut self.slots, 1);
+        if let Some(cursor) = self.cursor {
+            self.cursor = Some(cursor + 1);
+        }
+    }
+
+    fn slot(&self, place: Place) -> Option<SlotRef<'_>> {
         let index = place.value().checked_sub(self.cursor?)?;
-        self.slots.get(index as usize)
+        Some(SlotRef::of_slot(self.slots.get(index as usize)?))
     }
 
     fn due(&self, now: u64, retry: u64, asks: u8) -> ArrayVec<Place, LONGEST_ASK> {

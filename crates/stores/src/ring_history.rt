@@ -10,7 +10,7 @@ use crate::memory::OutOfMemory;
 use crate::ring::{append, drop_first};
 use circular_buffer::HeapCircularBuffer;
 use places::Place;
-use rtpwire::Content;
+use rtpwire::{Carried, Content};
 use std::alloc::Global;
 
 /// A history in a ring, whose memory is reserved once.
@@ -65,6 +65,11 @@ impl History for RingHistory {
         })
     }
 
+    fn push_from(&mut self, place: Place, carried: &Carried<'_>) {
+        self.push(place, Content::of(carried));
+    }
+
+    // A content of the caller's own moves in as it is.
     fn push(&mut self, place: Place, content: Content) {
         make_room(&mut self.entries, &mut self.marks);
         self.first = place.value() - self.entries.len() as u64;

@@ -9,14 +9,13 @@ ghost use Rattle.stores.specs.Index.{IsIndex};
 
 use crate::bits::Bits;
 use crate::memory::OutOfMemory;
-use crate::ring::{append, drop_first};
-use crate::slot::{PutFault, Slot};
+use crate::slot::{PutFault, Slot, SlotRef};
+use crate::slots::Slots;
 use crate::spot::{Spot, spot_of};
 use crate::window::{LONGEST_ASK, Window};
 use arrayvec::ArrayVec;
-use circular_buffer::HeapCircularBuffer;
 use places::Place;
-use rtpwire::Content;
+use rtpwire::Carried;
 use std::alloc::Global;
 
 /// A window in a ring, whose memory is reserved once.
@@ -26,7 +25,7 @@ use std::alloc::Global;
 #[derive(Debug, Drop)]
 pub struct RingWindow {
     cursor: Option<u64>,
-    slots: HeapCircularBuffer<Slot>,
+    slots: Slots,
     // The missing places, by how far they are from the cursor.
     missing: Bits,
     ghost room: { length slots.items ≤ slots.capacity },
@@ -48,7 +47,7 @@ impl Window for RingWindow {
     ghost is_span = { λ w. record { room = w.room; nonzero = w.nonzero; limit = w.limit; unstarted = w.unstarted; started = w.started } };
 
     fn new(alloc: Global, capacity: usize) -> Result<Self, OutOfMemory> {
-        let slots = HeapCircularBuffer::with_capacity(alloc, capacity)?;
+        let slots = Slots::new(alloc, capacity)?;
         let missing = Bits::new(alloc, capacity)?;
         Ok(RingWindow {
             cursor: None,
@@ -66,11 +65,11 @@ impl Window for RingWindow {
         Place::new(end - 1)
     }
 
-    fn put(&mut self, place: Place, content: Content, now: u64) -> Result<u64, PutFault> {
+    fn put_from(&mut self, place: Place, carried: &Carried<'_>, now: u64) -> Result<u64, PutFault> {
         let place = place.value();
         let Some(cursor) = self.cursor else {
             self.cursor = Some(place);
-            append(&mut self.slots, Slot::Held(content));
+            self.slots.append_held(carried);
             return Ok(0);
         };
         match spot_of(cursor, self.slots.len(), self.slots.capacity(), place) {
@@ -79,26 +78,26 @@ impl Window for RingWindow {
                 if !self.missing.contains(index) {
                     return Err(PutFault::Duplicate);
                 }
-                *self.slots.get_mut(index).unwrap() = Slot::Held(content);
+                self.slots.hold(index, carried);
                 self.missing.clear(index);
                 Ok(0)
             }
             Spot::Above { overrun, unseen } => {
                 drop_front(&mut self.slots, &mut self.missing, overrun);
                 add_missing(&mut self.slots, &mut self.missing, unseen, now);
-                append(&mut self.slots, Slot::Held(content));
+                self.slots.append_held(carried);
                 self.cursor = Some(cursor + overrun);
                 Ok(overrun)
             }
         }
     }
 
-    fn front(&self) -> Option<&Slot> {
-        self.slots.front()
+    fn front(&self) -> Option<SlotRef<'_>> {
+        self.slots.get(0)
     }
 
     fn take_front(&mut self) -> Slot {
-        let slot = self.slots.pop_front().unwrap();
+        let slot = self.slots.take_first();
         self.missing.shift();
         if let Some(cursor) = self.cursor {
             self.cursor = Some(cursor + 1);
@@ -106,7 +105,15 @@ impl Window for RingWindow {
         slot
     }
 
-    fn slot(&self, place: Place) -> Option<&Slot> {
+    fn drop_front(&mut self) {
+        self.slots.drop_first();
+        self.missing.shift();
+        if let Some(cursor) = self.cursor {
+            self.cursor = Some(cursor + 1);
+        }
+    }
+
+    fn slot(&self, place: Place) -> Option<SlotRef<'_>> {
         let index = place.value().checked_sub(self.cursor?)?;
         self.slots.get(index as usize)
     }
@@ -123,10 +130,7 @@ impl Window for RingWindow {
             return;
         };
         let index = (place.value() - cursor) as usize;
-        if let Slot::Missing { asks, last, .. } = self.slots.get_mut(index).unwrap() {
-            *asks += 1;
-            *last = now;
-        }
+        self.slots.count_ask(index, now);
     }
 
     fn missing(&self) -> usize {
@@ -135,7 +139,7 @@ impl Window for RingWindow {
 }
 
 /// Drops the first slots, as many as there are of so many.
-fn drop_front(slots: &mut HeapCircularBuffer<Slot>, missing: &mut Bits, count: u64)
+fn drop_front(slots: &mut Slots, missing: &mut Bits, count: u64)
     requires room { length slots.old.items < bits_of missing.old.words.items }
     requires index { IsIndex missing.old.words.items missing.old.front slots.old.items }
     ensures items { slots.new.items ≡ drop count slots.old.items }
@@ -143,17 +147,19 @@ fn drop_front(slots: &mut HeapCircularBuffer<Slot>, missing: &mut Bits, count: u
     ensures words { length missing.new.words.items ≡ length missing.old.words.items }
     ensures index { IsIndex missing.new.words.items missing.new.front slots.new.items }
 {
+    if count > 0 && count >= slots.len() as u64 {
+        slots.clear();
+        missing.clear_all();
+        return;
+    }
     'dropped: for _ in 0..count {
-        if slots.is_empty() {
-            return;
-        }
-        drop_first(slots);
+        slots.drop_first();
         missing.shift();
     }
 }
 
 /// Appends so many slots of places that were noticed to be missing now.
-fn add_missing(slots: &mut HeapCircularBuffer<Slot>, missing: &mut Bits, count: u64, now: u64)
+fn add_missing(slots: &mut Slots, missing: &mut Bits, count: u64, now: u64)
     requires room { length slots.old.items + count ≤ slots.old.capacity }
     requires wide { slots.old.capacity < bits_of missing.old.words.items }
     requires index { IsIndex missing.old.words.items missing.old.front slots.old.items }
@@ -164,19 +170,14 @@ fn add_missing(slots: &mut HeapCircularBuffer<Slot>, missing: &mut Bits, count: 
 {
     'added: for _ in 0..count {
         missing.set(slots.len());
-        let slot = Slot::Missing {
-            noticed: now,
-            asks: 0,
-            last: 0,
-        };
-        append(slots, slot);
+        slots.append_missing(now);
     }
 }
 
 /// The first due places of these slots, of which the first is that of the place `first`.
 fn due_among(
     first: u64,
-    slots: &HeapCircularBuffer<Slot>,
+    slots: &Slots,
     missing: &Bits,
     now: u64,
     retry: u64,

@@ -34,11 +34,70 @@ impl Slot {
     pub fn is_due(&self, now: u64, retry: u64, limit: u8) -> bool
         ensures { result ≡ is_due now retry limit (Some self.now) }
     {
+        SlotRef::of_slot(self).is_due(now, retry, limit)
+    }
+}
+
+/// A slot that a window lends: its content by reference, so that a window may keep contents as it likes.
+#[derive(Clone, Copy, Debug, PartialEq, Eq)]
+pub enum SlotRef<'a> {
+    /// The place was taken, with this content.
+    Held(&'a Content),
+    /// The place was not taken so far, and a higher one was: the moment at which that was noticed, how often it was
+    /// asked for, and the moment of the last ask, or 0, as [`Slot::Missing`] has them.
+    Missing { noticed: u64, asks: u8, last: u64 },
+}
+
+impl<'a> SlotRef<'a> {
+    ghost use Rattle.std.specs.Prelude.{◌≡◌, Some};
+    ghost use Rattle.stores.specs.Asking.{is_due};
+    ghost use Rattle.stores.specs.Lent.{slot_of};
+
+    /// The slot, lent.
+    pub fn of_slot(slot: &'a Slot) -> SlotRef<'a>
+        ensures { slot_of result ≡ slot.now }
+    {
+        match slot {
+            Slot::Held(content) => SlotRef::Held(content),
+            Slot::Missing {
+                noticed,
+                asks,
+                last,
+            } => SlotRef::Missing {
+                noticed: *noticed,
+                asks: *asks,
+                last: *last,
+            },
+        }
+    }
+
+    /// Whether its place is to be asked for, as [`Slot::is_due`] says.
+    pub fn is_due(&self, now: u64, retry: u64, limit: u8) -> bool
+        ensures { result ≡ is_due now retry limit (Some (slot_of self.now)) }
+    {
         match self {
-            Slot::Held(_) => false,
-            Slot::Missing { asks, last, .. } => {
+            SlotRef::Held(_) => false,
+            SlotRef::Missing { asks, last, .. } => {
                 *asks < limit && (*asks == 0 || (now >= *last && now - *last >= retry))
             }
+        }
+    }
+
+    /// The slot once more, as one of its own.
+    pub fn to_slot(&self) -> Slot
+        ensures { result ≡ slot_of self.now }
+    {
+        match self {
+            SlotRef::Held(content) => Slot::Held(content.copy()),
+            SlotRef::Missing {
+                noticed,
+                asks,
+                last,
+            } => Slot::Missing {
+                noticed: *noticed,
+                asks: *asks,
+                last: *last,
+            },
         }
     }
 }

@@ -1,15 +1,16 @@
 ghost use Rattle.std.specs.Prelude.{◌≡◌, ◌<◌, ◌≤◌, length, take, IfOk, IsSome, IsSomeAnd, OnOk, OnErr};
-ghost use Rattle.std.specs.Option.{option_copied};
+ghost use Rattle.std.specs.Option.{option_map};
+ghost use Rattle.stores.specs.Lent.{slot_of};
 ghost use Rattle.stores.specs.Span.{Span, IsSpan, empty_span, highest_of, front_of, without_front};
 ghost use Rattle.stores.specs.Put.{put_answer, after_put};
 ghost use Rattle.stores.specs.ByPlace.{slot_at};
 ghost use Rattle.stores.specs.Asking.{longest_ask, due_places, missing_places, CanBeAsked, asked};
 
 use crate::memory::OutOfMemory;
-use crate::slot::{PutFault, Slot};
+use crate::slot::{PutFault, Slot, SlotRef};
 use arrayvec::ArrayVec;
 use places::Place;
-use rtpwire::Content;
+use rtpwire::{Carried, Content};
 use std::alloc::Global;
 
 /// How many places one ask names at most: what 64 pairs of feedback can name, 17 each.
@@ -19,8 +20,8 @@ pub const LONGEST_ASK: usize = 1088;
 /// of them held or missing.
 ///
 /// It takes memory in `new` alone, for all that it will ever keep, so no other call can meet a want of it.
-/// Every call leaves its capacity as it is. Any of them may be called at any time, but three: `new` wants a capacity
-/// that it can keep, `take_front` a slot at the front, and `count_ask` a place that may be asked for once more.
+/// Every call leaves its capacity as it is. Any of them may be called at any time, but four: `new` wants a capacity
+/// that it can keep, `take_front` and `drop_front` a slot at the front, and `count_ask` a place that may be asked for once more.
 ///
 /// The contracts speak of a cursor and a list of slots; [`window_by_place`](crate::window_by_place) says
 /// what they mean for the slot of each place.
@@ -45,7 +46,8 @@ pub trait Window: Drop {
     fn highest(&self) -> Option<Place>
         ensures { result ≡ highest_of (meaning self.now) };
 
-    /// Puts a content at its place, at the moment `now`, in milliseconds. Moments need not rise.
+    /// Puts what is carried at its place, at the moment `now`, in milliseconds. Moments need not rise. Nothing of it
+    /// is copied before the place is taken.
     ///
     /// The first place starts the window there. A place above the highest makes those between missing,
     /// noticed at `now`. If the window has no room for it, the lowest places are dropped for good until it
@@ -53,15 +55,24 @@ pub trait Window: Drop {
     ///
     /// `Late` (35): the place lies below the cursor. `Duplicate` (36): the place is held already. After
     /// either the window is as it was.
+    fn put_from(&mut self, place: Place, carried: &Carried<'_>, now: u64) -> Result<u64, PutFault>
+        ensures answer { result ≡ put_answer (meaning self.old) place }
+        ensures ok { OnOk result (meaning self.new ≡ after_put (meaning self.old) place carried.now now) }
+        ensures err { OnErr result (meaning self.new ≡ meaning self.old) };
+
+    /// The same with a content of the caller's own.
     fn put(&mut self, place: Place, content: Content, now: u64) -> Result<u64, PutFault>
         ensures answer { result ≡ put_answer (meaning self.old) place }
         ensures ok { OnOk result (meaning self.new ≡ after_put (meaning self.old) place content now) }
-        ensures err { OnErr result (meaning self.new ≡ meaning self.old) };
+        ensures err { OnErr result (meaning self.new ≡ meaning self.old) }
+    {
+        self.put_from(place, &Carried::of_content(&content), now)
+    }
 
     /// The slot of the cursor's place. None before the first `put`, and where all places up to the highest
     /// were taken out.
-    fn front(&self) -> Option<&Slot>
-        ensures { option_copied result ≡ front_of (meaning self.now) };
+    fn front(&self) -> Option<SlotRef<'_>>
+        ensures { option_map slot_of result ≡ front_of (meaning self.now) };
 
     /// Takes out the slot of the cursor's place, and moves the cursor up by one. It may be called where
     /// `front` gives a slot.
@@ -70,9 +81,15 @@ pub trait Window: Drop {
         ensures front { front_of (meaning self.old) ≡ Some result }
         ensures rest { meaning self.new ≡ without_front (meaning self.old) };
 
+    /// Drops the slot of the cursor's place, and moves the cursor up by one. It may be called where `front` gives a
+    /// slot.
+    fn drop_front(&mut self)
+        requires { IsSome (front_of (meaning self.old)) }
+        ensures { meaning self.new ≡ without_front (meaning self.old) };
+
     /// The slot of this place. None where the window has none: below the cursor and above the highest place.
-    fn slot(&self, place: Place) -> Option<&Slot>
-        ensures { option_copied result ≡ slot_at (meaning self.now) place };
+    fn slot(&self, place: Place) -> Option<SlotRef<'_>>
+        ensures { option_map slot_of result ≡ slot_at (meaning self.now) place };
 
     /// The first [`LONGEST_ASK`] places, or all, if they are fewer, that are due to be asked for at the moment
     /// `now`, in rising order.

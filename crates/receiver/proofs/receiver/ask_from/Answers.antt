@@ -5,7 +5,7 @@ use Rattle.fbwire.specs.Packing.{IsPacking}
 use Rattle.stores.specs.Asking.{due_places, longest_ask}
 use Rattle.receiver.specs.Counted.{CountsAsks}
 use Rattle.receiver.proofs.Rising.{rising_take}
-use Rattle.receiver.proofs.Asking.{due_narrow, due_askable, asks_some, asks_none, none_due, some_due, positive}
+use Rattle.receiver.proofs.Asking.{due_narrow, due_askable, asks_some, asks_none, none_due, nothing_due, some_due, positive}
 use Rattle.receiver.proofs.receiver.ask_from.Goals as goal
 
 pub pack-pairs-requires : goal.pack-pairs-requires
@@ -31,6 +31,15 @@ count_asks-requires g c =
       rising = rw items (rising_take c.pack-pairs.result.1 _ (rising_take longest_ask (due_places s c.args.now c.retry.result c.asks.result) lists.rises));
       askable = rw items (due_askable s is (λ q some. (law.inside s q is).0 some) c.args.now c.retry.result c.asks.result lists (λ o due. law.askable c.args.now c.retry.result c.asks.result o c.asks.type_inv due) longest_ask c.pack-pairs.result.1);
     }
+
+pub returns-then-missing-eq0-clause-asks : goal.returns-then-missing-eq0-clause-asks
+returns-then-missing-eq0-clause-asks g c =
+    let s = g.W.Window.meaning c.args.window.now in
+    let law = c.window_by_place.ensures in
+    let retry = c.args.config.now.retry in
+    let asks = c.args.config.now.asks in
+    λ learnt. asks_none s.slots s.capacity c.args.config.now c.args.now learnt s.cursor (law.due s c.args.now retry asks)
+    (nothing_due s c.args.now retry asks (sym c.missing.ensures ∙ c.if-missing-eq0.true))
 
 pub returns-then-is_empty-clause-asks : goal.returns-then-is_empty-clause-asks
 returns-then-is_empty-clause-asks g c =

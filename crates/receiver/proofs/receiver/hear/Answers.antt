@@ -23,7 +23,7 @@ returns-in_err-place-clause-hears g c =
 pub returns-clause-hears : goal.returns-clause-hears
 returns-clause-hears g c =
     let s = g.W.Window.meaning c.args.window.now in
-    let t = g.W.Window.meaning c.put.new.self in
+    let t = g.W.Window.meaning c.put_from.new.self in
     let is = g.met.W.Window.is_span c.args.window.now in
     let step = c.window_by_place.ensures.put s t c.in_ok-place.place c.args.now c.in_ok-content.content (Ok c.in_ok-overrun.overrun) is c.in_ok-overrun.ensures.answer c.in_ok-overrun.ensures.ok c.in_ok-overrun.ensures.err in
     let learns : c.match-stream.learnt ≡ learnt_in c.in_ok-stream.stream c.args.learnt.now =
@@ -40,7 +40,7 @@ pub returns-in_err-overrun-clause-hears : goal.returns-in_err-overrun-clause-hea
 returns-in_err-overrun-clause-hears g c =
     let answer = c.from_residual-in_err-overrun.result in
     let s = g.W.Window.meaning c.args.window.now in
-    let t = g.W.Window.meaning c.put.new.self in
+    let t = g.W.Window.meaning c.put_from.new.self in
     let is = g.met.W.Window.is_span c.args.window.now in
     let step = c.window_by_place.ensures.put s t c.in_ok-place.place c.args.now c.in_ok-content.content (Err c.in_err-overrun.field-0.0) is c.in_err-overrun.ensures.answer c.in_err-overrun.ensures.ok c.in_err-overrun.ensures.err in
     hears_number c.args.config.now c.args.learnt.now s c.requires c.in_ok-view.ensures.spelled c.in_ok-stream.ensures c.in_ok-seq.seq c.in_ok-seq.payload.now c.in_ok-seq.ensures.ok c.args.now answer

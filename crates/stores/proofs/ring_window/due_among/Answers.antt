@@ -7,6 +7,7 @@ use Rattle.stores.proofs.DueSlots.{due_left_whole, due_left_yes, due_left_no, du
 use Rattle.stores.proofs.ring_window.due_among.Goals as goal
 use Rattle.stores.proofs.ring_window.due_among.Goals.{then-is_due, else-is_due}
 use Rattle.stores.specs.Asking.{longest_ask}
+use Rattle.stores.specs.Lent.{slot_of}
 
 pub returns-then-is_full : goal.returns-then-is_full
 returns-then-is_full c = found_full longest_ask _ _ _ (c.loop-next.invariant.left ∙ due_left_whole _ _ _ _ _) (search rules)
@@ -27,12 +28,12 @@ loop-next-preserved c =
     let room = c.requires.room in
     let above = found.0 in
     let within = missing_within slots next (sym (c.requires.index next found.1) ∙ found.2) in
-    let got : slice_get slots next ≡ Some c.unwrap.result.now = search rules in
-    let slot = sym (get_or_from_slice_get slots next c.unwrap.result.now c.unwrap.result.now got) in
+    let got : slice_get slots next ≡ Some (slot_of c.unwrap.result) = search rules in
+    let slot = sym (get_or_from_slice_get slots next (slot_of c.unwrap.result) (slot_of c.unwrap.result) got) in
     let skip = due_left_skip c.args.now c.args.retry c.args.asks c.args.first slots c.loop-next.index (next - c.loop-next.index) next (omega arith) (omega arith)
     (λ p l u. sym (c.requires.index p (omega arith)) ∙ found.3 p l u) in
-    let yes = due_left_yes c.args.now c.args.retry c.args.asks c.args.first slots next c.unwrap.result.now within slot in
-    let no = due_left_no c.args.now c.args.retry c.args.asks c.args.first slots next c.unwrap.result.now within slot in
+    let yes = due_left_yes c.args.now c.args.retry c.args.asks c.args.first slots next (slot_of c.unwrap.result) within slot in
+    let no = due_left_no c.args.now c.args.retry c.args.asks c.args.first slots next (slot_of c.unwrap.result) within slot in
     elim c.if-is_due.branch [
       | then-is_due w ↦ grind (arith, common_steps, skip, yes)
       | else-is_due w ↦ grind (arith, common_steps, skip, no)

@@ -12,5 +12,5 @@ invariant_of-self-clause-index c =
     let room = before.room in
     let wide = before.wide in
     let is = index_shift before.missing.words.items after.words.items before.missing.front after.front before.slots.items c.shift.ensures.words (omega arith) c.shift.ensures.members c.shift.ensures.size before.index in
-    let left = ap (λ (b : Buffer Slot). b.items) c.pop_front.ensures.items in
+    let left = ap (λ (b : Buffer Slot). b.items) c.take_first-slot.ensures.rest in
     subst (λ xs. IsIndex after.words.items after.front xs) (sym left) is

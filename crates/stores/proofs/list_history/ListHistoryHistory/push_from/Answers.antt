@@ -1,7 +1,7 @@
 use Rattle.std.proofs.Common.{◌+◌, ◌-◌, length, arith, refl, ap, length-drop}
 use Rattle.stores.specs.Past.{fresh}
 use Rattle.stores.proofs.Runs.{next_place, run_after_push}
-use Rattle.stores.proofs.list_history.ListHistoryHistory.push.Goals as goal
+use Rattle.stores.proofs.list_history.ListHistoryHistory.push_from.Goals as goal
 
 pub overflow_sub-self : goal.overflow_sub-self
 overflow_sub-self c =
@@ -16,5 +16,5 @@ invariant_of-self-clause-run c =
     let before = c.args.self.now.entries.items in
     let n = length before + 1 - c.args.self.now.capacity in
     let next = next_place c.args.self.now.first c.args.place before c.args.self.now.run c.requires in
-    run_after_push c.args.self.now.first n c.args.place _ (fresh c.args.place c.args.content) before c.make_room.new.entries.items _ c.args.self.now.run
+    run_after_push c.args.self.now.first n c.args.place _ (fresh c.args.place c.of.result) before c.make_room.new.entries.items _ c.args.self.now.run
     (omega arith) next refl (omega arith) c.make_room.ensures.items c.push_reserved.ensures.items (omega arith)

@@ -1,0 +1,285 @@
+-- Cells, the buffers of their contents and the free ones, when a buffer is used or freed.
+use Rattle.std.proofs.Common.{◌≡◌, ◌≢◌, ℕ, zero, suc, ◌+◌, ◌<◌, ◌≤◌, ◌==◌, ◌++◌, Bool, true, false, cond, List, [], ◌∷◌, length, map, drop, get_or, slice_get, slice_set, nat_lt, Option, Some, All, ap, sym, ◌∙◌, refl, arith, length-append, length-set, append-nil}
+use Rattle.std.specs.Prelude.{if◌then◌else◌}
+use Rattle.std.proofs.lemmas.Bool.{cond_both}
+use Rattle.std.proofs.lemmas.Bool.Decides.{nat_tests}
+use Rattle.std.proofs.lemmas.List.{map-append, map-set, get_or-set_same, get_or-set_other}
+use Rattle.std.proofs.lemmas.List.Elements.{All-from_get_or}
+use Rattle.std.proofs.lemmas.Option.{same_Some}
+use Rattle.rtpwire.specs.declared.content.Content.{Content}
+use Rattle.rtpwire.specs.Content.{blank_content}
+use Rattle.stores.specs.declared.cell.Cell.{Cell}
+use Rattle.stores.specs.declared.cell.Cell.TheVariants.{Taken, Unseen}
+use Rattle.stores.specs.declared.slot.Slot.{Slot}
+use Rattle.stores.specs.declared.slot.Slot.TheVariants.{Held}
+use Rattle.stores.specs.Pool.{slot_in, slots_in, numbers_of, times, IsPool, grown_contents, grown_free}
+
+-- numbers among others
+
+times_append : (n : ℕ) (xs ys : List ℕ) → times n (xs ++ ys) ≡ times n xs + times n ys
+unfolding times
+times_append n [] ys = omega arith
+times_append n (x ∷ xs) ys = omega (arith, times_append n xs ys)
+
+times_item : (xs : List ℕ) (i : ℕ) → i < length xs → 0 < times (get_or xs i 0) xs
+unfolding times
+times_item [] i within = absurd (omega arith)
+times_item (x ∷ xs) zero within = grind (arith, nat_tests)
+times_item (x ∷ xs) (suc i) within = let rest = times_item xs i (omega arith) in omega arith
+
+times_one : (n m : ℕ) (xs : List ℕ) → times n (m ∷ xs) ≡ (if m == n then 1 else 0) + times n xs
+unfolding times
+times_one n m xs = refl
+
+times_self : (n : ℕ) → times n (n ∷ []) ≡ 1
+unfolding times
+times_self n = grind (arith, nat_tests)
+
+below_some : (n k : ℕ) → 0 < (if nat_lt n k then 1 else 0) → n < k
+below_some n k some = grind (arith, nat_tests)
+
+below_one : (n k : ℕ) → (if nat_lt n k then 1 else 0) ≤ 1
+below_one n k = grind (arith, nat_tests)
+
+below_more : (n k : ℕ) → (if nat_lt n (k + 1) then 1 else 0) ≡ (if nat_lt n k then 1 else 0) + times n (k ∷ [])
+unfolding times
+below_more n k = grind (arith, nat_tests)
+
+-- numbers of cells
+
+numbers_append : (a b : List Cell) → numbers_of (a ++ b) ≡ numbers_of a ++ numbers_of b
+unfolding numbers_of
+numbers_append [] b = refl
+numbers_append (Taken n ∷ a) b = ap (λ (ns : List ℕ). n ∷ ns) (numbers_append a b)
+numbers_append (Unseen noticed asks last ∷ a) b = numbers_append a b
+
+numbers_taken : (n : ℕ) → numbers_of (Taken n ∷ []) ≡ n ∷ []
+unfolding numbers_of
+numbers_taken n = refl
+
+numbers_unseen : (noticed asks last : ℕ) → numbers_of (Unseen noticed asks last ∷ []) ≡ []
+unfolding numbers_of
+numbers_unseen noticed asks last = refl
+
+times_set : (cells : List Cell) (i n m noticed asks last : ℕ) → slice_get cells i ≡ Some (Unseen noticed asks last)
+    → times m (numbers_of (slice_set cells i (Taken n))) ≡ times m (n ∷ []) + times m (numbers_of cells)
+unfolding numbers_of times
+times_set [] i n m noticed asks last found = absurd cc
+times_set (Taken k ∷ cells) zero n m noticed asks last found = absurd cc
+times_set (Unseen a b c ∷ cells) zero n m noticed asks last found = omega arith
+times_set (Taken k ∷ cells) (suc i) n m noticed asks last found = let rest = times_set cells i n m noticed asks last found in omega arith
+times_set (Unseen a b c ∷ cells) (suc i) n m noticed asks last found = times_set cells i n m noticed asks last found
+
+count_set : (cells : List Cell) (i n noticed asks last : ℕ) → slice_get cells i ≡ Some (Unseen noticed asks last)
+    → length (numbers_of (slice_set cells i (Taken n))) ≡ 1 + length (numbers_of cells)
+unfolding numbers_of
+count_set [] i n noticed asks last found = absurd cc
+count_set (Taken k ∷ cells) zero n noticed asks last found = absurd cc
+count_set (Unseen a b c ∷ cells) zero n noticed asks last found = omega arith
+count_set (Taken k ∷ cells) (suc i) n noticed asks last found = let rest = count_set cells i n noticed asks last found in omega arith
+count_set (Unseen a b c ∷ cells) (suc i) n noticed asks last found = count_set cells i n noticed asks last found
+
+pub numbers_asked : (cells : List Cell) (i noticed asks last noticed' asks' last' : ℕ) → slice_get cells i ≡ Some (Unseen noticed asks last)
+    → numbers_of (slice_set cells i (Unseen noticed' asks' last')) ≡ numbers_of cells
+unfolding numbers_of
+numbers_asked [] i noticed asks last noticed' asks' last' found = absurd cc
+numbers_asked (Taken k ∷ cells) zero noticed asks last noticed' asks' last' found = absurd cc
+numbers_asked (Unseen a b c ∷ cells) zero noticed asks last noticed' asks' last' found = refl
+numbers_asked (Taken k ∷ cells) (suc i) noticed asks last noticed' asks' last' found =
+    ap (λ (ns : List ℕ). k ∷ ns) (numbers_asked cells i noticed asks last noticed' asks' last' found)
+numbers_asked (Unseen a b c ∷ cells) (suc i) noticed asks last noticed' asks' last' found = numbers_asked cells i noticed asks last noticed' asks' last' found
+
+-- there are no more numbers than cells, and fewer where a cell has none
+pub held_le : (cells : List Cell) → length (numbers_of cells) ≤ length cells
+unfolding numbers_of
+held_le [] = omega arith
+held_le (Taken n ∷ cells) = let rest = held_le cells in omega arith
+held_le (Unseen a b c ∷ cells) = let rest = held_le cells in omega arith
+
+pub held_lt : (cells : List Cell) (i noticed asks last : ℕ) → slice_get cells i ≡ Some (Unseen noticed asks last) → length (numbers_of cells) < length cells
+unfolding numbers_of
+held_lt [] i noticed asks last found = absurd cc
+held_lt (Taken k ∷ cells) zero noticed asks last found = absurd cc
+held_lt (Unseen a b c ∷ cells) zero noticed asks last found = let rest = held_le cells in omega arith
+held_lt (Taken k ∷ cells) (suc i) noticed asks last found = let rest = held_lt cells i noticed asks last found in omega arith
+held_lt (Unseen a b c ∷ cells) (suc i) noticed asks last found = let rest = held_lt cells i noticed asks last found in omega arith
+
+times_of_cell : (cells : List Cell) (i n : ℕ) → slice_get cells i ≡ Some (Taken n) → 0 < times n (numbers_of cells)
+unfolding numbers_of times
+times_of_cell [] i n found = absurd cc
+times_of_cell (Unseen a b c ∷ cells) zero n found = absurd cc
+times_of_cell (Taken k ∷ cells) zero n found = let same : k ≡ n = cc in grind (arith, nat_tests)
+times_of_cell (Taken k ∷ cells) (suc i) n found = let rest = times_of_cell cells i n found in omega arith
+times_of_cell (Unseen a b c ∷ cells) (suc i) n found = times_of_cell cells i n found
+
+-- the buffers that cells and free numbers name are there
+
+pub cell_known : (cells : List Cell) (contents : List Content) (free : List ℕ) (i n : ℕ) → IsPool cells contents free → slice_get cells i ≡ Some (Taken n) → n < length contents
+cell_known cells contents free i n is found =
+    let some = times_of_cell cells i n found in
+    let once = is.once n in
+    below_some n (length contents) (omega arith)
+
+pub free_known : (cells : List Cell) (contents : List Content) (free : List ℕ) → IsPool cells contents free → All (λ n. n < length contents) free
+free_known cells contents free is = All-from_get_or (λ n. n < length contents) free 0 (λ i within.
+    let some = times_item free i within in
+    let once = is.once (get_or free i 0) in
+    below_some (get_or free i 0) (length contents) (omega arith))
+
+-- a buffer more
+
+get_or_blank : (xs : List Content) (n : ℕ) (d : Content) → get_or (xs ++ d ∷ []) n d ≡ get_or xs n d
+get_or_blank [] zero d = refl
+get_or_blank [] (suc n) d = refl
+get_or_blank (x ∷ xs) zero d = refl
+get_or_blank (x ∷ xs) (suc n) d = get_or_blank xs n d
+
+slots_blank : (contents : List Content) (cells : List Cell) → slots_in (contents ++ blank_content ∷ []) cells ≡ slots_in contents cells
+slots_blank contents [] = refl
+slots_blank contents (Taken n ∷ cells) =
+    ap (λ (c : Content). Held c ∷ slots_in (contents ++ blank_content ∷ []) cells) (get_or_blank contents n blank_content)
+    ∙ ap (λ (s : List Slot). Held (get_or contents n blank_content) ∷ s) (slots_blank contents cells)
+slots_blank contents (Unseen a b c ∷ cells) = ap (λ (s : List Slot). slot_in contents (Unseen a b c) ∷ s) (slots_blank contents cells)
+
+pub slots_grown : (contents : List Content) (free : List ℕ) (cells : List Cell) → slots_in (grown_contents contents free) cells ≡ slots_in contents cells
+slots_grown contents [] cells = slots_blank contents cells
+slots_grown contents (n ∷ free) cells = refl
+
+pub pool_grown : (cells : List Cell) (contents : List Content) (free : List ℕ) → IsPool cells contents free → IsPool cells (grown_contents contents free) (grown_free contents free)
+pool_grown cells contents [] is =
+    let longer : length (contents ++ blank_content ∷ []) ≡ length contents + 1 = length-append contents (blank_content ∷ []) in
+    record {
+      once = λ n. let before = is.once n in
+          let none = times_append n [] [] in
+          let more = below_more n (length contents) in
+          let after : times n (numbers_of cells) + times n (length contents ∷ []) ≡ (if nat_lt n (length contents + 1) then 1 else 0) = omega (arith, before, more, none) in
+          after ∙ ap (λ k. if nat_lt n k then 1 else 0) (sym longer);
+      all = let before = is.all in omega arith;
+    }
+pool_grown cells contents (n ∷ free) is = is
+
+pub grown_some : (contents : List Content) (free : List ℕ) → 0 < length (grown_free contents free)
+grown_some contents [] = omega arith
+grown_some contents (n ∷ free) = omega arith
+
+-- a free buffer is filled
+
+-- no cell has a number that is free
+unused : (cells : List Cell) (contents : List Content) (free : List ℕ) (n : ℕ) → IsPool cells contents (free ++ n ∷ []) → times n (numbers_of cells) ≡ 0
+unused cells contents free n is =
+    let once = is.once n in
+    let apart = times_append n free (n ∷ []) in
+    let self = times_self n in
+    let most = below_one n (length contents) in
+    omega arith
+
+is_there : (cells : List Cell) (contents : List Content) (free : List ℕ) (n : ℕ) → IsPool cells contents (free ++ n ∷ []) → n < length contents
+is_there cells contents free n is =
+    let once = is.once n in
+    let apart = times_append n free (n ∷ []) in
+    let self = times_self n in
+    below_some n (length contents) (omega arith)
+
+-- what a buffer holds that no cell has changes no slot
+slots_filled : (contents : List Content) (n : ℕ) (content : Content) (cells : List Cell) → times n (numbers_of cells) ≡ 0
+    → slots_in (slice_set contents n content) cells ≡ slots_in contents cells
+unfolding numbers_of times
+slots_filled contents n content [] none = refl
+slots_filled contents n content (Taken m ∷ cells) none =
+    let other : m ≢ n = λ same. absurd (let some = times_of_cell (Taken m ∷ cells) 0 n (ap (λ k. Some (Taken k)) same) in omega arith) in
+    let rest : times n (numbers_of cells) ≡ 0 = omega arith in
+    ap (λ (c : Content). Held c ∷ slots_in (slice_set contents n content) cells) (get_or-set_other contents n m content blank_content other)
+    ∙ ap (λ (s : List Slot). Held (get_or contents m blank_content) ∷ s) (slots_filled contents n content cells rest)
+slots_filled contents n content (Unseen a b c ∷ cells) none =
+    ap (λ (s : List Slot). slot_in contents (Unseen a b c) ∷ s) (slots_filled contents n content cells none)
+
+filled_there : (contents : List Content) (n : ℕ) (content : Content) → n < length contents → slot_in (slice_set contents n content) (Taken n) ≡ Held content
+filled_there contents n content there = ap Held (get_or-set_same contents n content blank_content there)
+
+pub pool_append : (cells : List Cell) (contents : List Content) (free : List ℕ) (n : ℕ) (content : Content) → IsPool cells contents (free ++ n ∷ [])
+    → IsPool (cells ++ Taken n ∷ []) (slice_set contents n content) free
+pool_append cells contents free n content is =
+    let numbers : numbers_of (cells ++ Taken n ∷ []) ≡ numbers_of cells ++ n ∷ [] = numbers_append cells (Taken n ∷ []) ∙ ap (λ (ns : List ℕ). numbers_of cells ++ ns) (numbers_taken n) in
+    let size : length (slice_set contents n content) ≡ length contents = length-set contents n content in
+    record {
+      once = λ m.
+          let before = is.once m in
+          let apart = times_append m free (n ∷ []) in
+          let joined = times_append m (numbers_of cells) (n ∷ []) in
+          ap (λ (ns : List ℕ). times m ns + times m free) numbers ∙ omega (arith, before, apart, joined) ∙ ap (λ k. if nat_lt m k then 1 else 0) (sym size);
+      all =
+          let before = is.all in
+          let apart = length-append free (n ∷ []) in
+          let joined = ap length numbers ∙ length-append (numbers_of cells) (n ∷ []) in
+          omega arith;
+    }
+
+pub slots_append : (cells : List Cell) (contents : List Content) (free : List ℕ) (n : ℕ) (content : Content) → IsPool cells contents (free ++ n ∷ [])
+    → slots_in (slice_set contents n content) (cells ++ Taken n ∷ []) ≡ slots_in contents cells ++ Held content ∷ []
+slots_append cells contents free n content is =
+    map-append (slot_in (slice_set contents n content)) cells (Taken n ∷ [])
+    ∙ ap (λ (s : List Slot). s ++ slot_in (slice_set contents n content) (Taken n) ∷ []) (slots_filled contents n content cells (unused cells contents free n is))
+    ∙ ap (λ (s : Slot). slots_in contents cells ++ s ∷ []) (filled_there contents n content (is_there cells contents free n is))
+
+pub pool_set : (cells : List Cell) (contents : List Content) (free : List ℕ) (i n noticed asks last : ℕ) (content : Content) → slice_get cells i ≡ Some (Unseen noticed asks last)
+    → IsPool cells contents (free ++ n ∷ []) → IsPool (slice_set cells i (Taken n)) (slice_set contents n content) free
+pool_set cells contents free i n noticed asks last content found is =
+    let size : length (slice_set contents n content) ≡ length contents = length-set contents n content in
+    record {
+      once = λ m.
+          let before = is.once m in
+          let apart = times_append m free (n ∷ []) in
+          let more = times_set cells i n m noticed asks last found in
+          omega (arith, before, apart, more) ∙ ap (λ k. if nat_lt m k then 1 else 0) (sym size);
+      all =
+          let before = is.all in
+          let apart = length-append free (n ∷ []) in
+          let more = count_set cells i n noticed asks last found in
+          omega arith;
+    }
+
+pub slots_set : (cells : List Cell) (contents : List Content) (free : List ℕ) (i n : ℕ) (content : Content) → IsPool cells contents (free ++ n ∷ [])
+    → slots_in (slice_set contents n content) (slice_set cells i (Taken n)) ≡ slice_set (slots_in contents cells) i (Held content)
+slots_set cells contents free i n content is =
+    map-set (slot_in (slice_set contents n content)) cells i (Taken n)
+    ∙ ap (λ (s : List Slot). slice_set s i (slot_in (slice_set contents n content) (Taken n))) (slots_filled contents n content cells (unused cells contents free n is))
+    ∙ ap (λ (s : Slot). slice_set (slots_in contents cells) i s) (filled_there contents n content (is_there cells contents free n is))
+
+-- the first cell goes
+
+pub pool_freed : (cells : List Cell) (contents : List Content) (free : List ℕ) (n : ℕ) → slice_get cells 0 ≡ Some (Taken n) → IsPool cells contents free
+    → IsPool (drop 1 cells) contents (free ++ n ∷ [])
+unfolding numbers_of times
+pool_freed [] contents free n found is = absurd cc
+pool_freed (Unseen a b c ∷ cells) contents free n found is = absurd cc
+pool_freed (Taken m ∷ cells) contents free n found is =
+    let same : m ≡ n = cc in
+    record {
+      once = λ k.
+          let before = is.once k in
+          let apart = times_append k free (n ∷ []) in
+          let one = ap (λ j. times k (j ∷ [])) same in
+          omega arith;
+      all = let before = is.all in let apart = length-append free (n ∷ []) in omega arith;
+    }
+
+pub pool_passed : (cells : List Cell) (contents : List Content) (free : List ℕ) (noticed asks last : ℕ) → slice_get cells 0 ≡ Some (Unseen noticed asks last) → IsPool cells contents free
+    → IsPool (drop 1 cells) contents free
+unfolding numbers_of
+pool_passed [] contents free noticed asks last found is = absurd cc
+pool_passed (Taken m ∷ cells) contents free noticed asks last found is = absurd cc
+pool_passed (Unseen a b c ∷ cells) contents free noticed asks last found is = record { once = is.once; all = is.all }
+
+-- cells without a number come and change
+
+pub pool_missing : (cells : List Cell) (contents : List Content) (free : List ℕ) (noticed asks last : ℕ) → IsPool cells contents free → IsPool (cells ++ Unseen noticed asks last ∷ []) contents free
+pool_missing cells contents free noticed asks last is =
+    let same : numbers_of (cells ++ Unseen noticed asks last ∷ []) ≡ numbers_of cells =
+    numbers_append cells (Unseen noticed asks last ∷ []) ∙ ap (λ (ns : List ℕ). numbers_of cells ++ ns) (numbers_unseen noticed asks last) ∙ append-nil (numbers_of cells) in
+    record { once = λ n. ap (λ (ns : List ℕ). times n ns + times n free) same ∙ is.once n; all = ap (λ (ns : List ℕ). length ns + length free) same ∙ is.all }
+
+pub pool_asked : (cells : List Cell) (contents : List Content) (free : List ℕ) (i noticed asks last noticed' asks' last' : ℕ) → slice_get cells i ≡ Some (Unseen noticed asks last)
+    → IsPool cells contents free → IsPool (slice_set cells i (Unseen noticed' asks' last')) contents free
+pool_asked cells contents free i noticed asks last noticed' asks' last' found is =
+    let same = numbers_asked cells i noticed asks last noticed' asks' last' found in
+    record { once = λ n. ap (λ (ns : List ℕ). times n ns + times n free) same ∙ is.once n; all = ap (λ (ns : List ℕ). length ns + length free) same ∙ is.all }

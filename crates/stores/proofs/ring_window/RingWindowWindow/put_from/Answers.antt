@@ -1,0 +1,36 @@
+use Rattle.std.proofs.Common.{◌≡◌, ◌+◌, ◌^◌, ◌<◌, ◌≤◌, ◌∙◌, ap, length, List, slice_get, true, rules, refl, sym, subst, arith}
+use Rattle.std.specs.Option.{ForSome}
+use Rattle.circular_buffer.specs.Buffer.{Buffer}
+use Rattle.stores.specs.declared.slot.Slot.{Slot}
+use Rattle.stores.specs.declared.slot.Slot.TheVariants.{Held}
+use Rattle.stores.specs.Asking.{is_missing}
+use Rattle.stores.specs.Bits.{bits_of}
+use Rattle.stores.specs.Index.{IsIndex}
+use Rattle.stores.proofs.SlotPlaces.{started_set}
+use Rattle.stores.proofs.MissingIndex.{index_hold, index_push}
+use Rattle.stores.proofs.ring_window.RingWindowWindow.put_from.Goals as goal
+
+pub invariant_of-self-in-Within-clause-started : goal.invariant_of-self-in-Within-clause-started
+invariant_of-self-in-Within-clause-started c =
+    let before = c.args.self.now in
+    subst (λ (xs : List Slot). ForSome before.cursor (λ k. (0 < k + length xs) × (k + length xs ≤ 2 ^ 48))) (sym (ap (λ (b : Buffer Slot). b.items) c.hold.ensures))
+    (started_set before.cursor before.slots.items c.in-Within.index (Held c.args.carried.now) before.started)
+
+pub invariant_of-self-in-Within-clause-index : goal.invariant_of-self-in-Within-clause-index
+invariant_of-self-in-Within-clause-index c =
+    let before = c.args.self.now in
+    let index = c.in-Within.index in
+    let room = before.room in
+    let wide = before.wide in
+    let within : index < length before.slots.items = search rules in
+    let below : index < bits_of before.missing.words.items = omega arith in
+    let missing : is_missing (slice_get before.slots.items index) ≡ true = sym (before.index.0 index below) ∙ sym c.contains.ensures ∙ c.if-not-contains.false in
+    subst (λ (xs : List Slot). IsIndex c.clear.new.self.words.items c.clear.new.self.front xs) (sym (ap (λ (b : Buffer Slot). b.items) c.hold.ensures))
+    (index_hold before.missing.words.items c.clear.new.self.words.items before.missing.front c.clear.new.self.front before.slots.items index (Held c.args.carried.now)
+    c.clear.ensures.words missing refl below c.clear.ensures.members c.clear.ensures.size before.index)
+
+pub invariant_of-self-in-Above-clause-index : goal.invariant_of-self-in-Above-clause-index
+invariant_of-self-in-Above-clause-index c =
+    let missing = c.add_missing.new.missing in
+    let is = index_push missing.words.items missing.front c.add_missing.new.slots.items (Held c.args.carried.now) refl c.add_missing.ensures.index in
+    subst (λ (xs : List Slot). IsIndex missing.words.items missing.front xs) (sym (ap (λ (b : Buffer Slot). b.items) c.append_held-in-Above.ensures)) is
