@@ -17,6 +17,7 @@ pub mod SetOfItems
 pub mod EntryIndex
 pub mod MissingIndex
 pub mod Pooled
+pub mod Begun
 pub mod Filling
 pub mod CellSteps
 pub mod Determined

@@ -11,3 +11,4 @@ pub mod Bits
 pub mod Index
 pub mod Lent
 pub mod Pool
+pub mod Entries

@@ -5,6 +5,7 @@
 mod bits;
 mod by_place;
 mod cell;
+mod entries;
 mod entry;
 mod history;
 mod laws;
@@ -12,7 +13,6 @@ mod list_history;
 mod list_window;
 mod memory;
 mod pool;
-mod ring;
 mod ring_history;
 mod ring_window;
 mod slot;

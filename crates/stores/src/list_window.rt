@@ -110,10 +110,10 @@ impl Window for ListWindow {
         Some(SlotRef::of_slot(self.slots.get(index as usize)?))
     }
 
-    fn due(&self, now: u64, retry: u64, asks: u8) -> ArrayVec<Place, LONGEST_ASK> {
+    fn due_into(&self, due: &mut ArrayVec<Place, LONGEST_ASK>, now: u64, retry: u64, asks: u8) {
         match self.cursor {
-            None => ArrayVec::new(),
-            Some(cursor) => due_from(cursor, self.slots.as_slice(), now, retry, asks),
+            None => due.clear(),
+            Some(cursor) => due_from(due, cursor, self.slots.as_slice(), now, retry, asks),
         }
     }
 
@@ -133,27 +133,27 @@ impl Window for ListWindow {
     }
 }
 
-/// The first due places of these slots, of which the first is that of the place `first`.
+/// Finds the first due places of these slots, of which the first is that of the place `first`.
 fn due_from(
+    due: &mut ArrayVec<Place, LONGEST_ASK>,
     first: u64,
     slots: &[Slot],
     now: u64,
     retry: u64,
     asks: u8,
-) -> ArrayVec<Place, LONGEST_ASK>
+)
     requires { first + length slots.now ≤ 2 ^ 48 }
-    ensures { result.items ≡ take longest_ask (filter (λ q. is_due now retry asks (slot_from first slots.now q)) (range_with_len first (length slots.now))) }
+    ensures { due.new.items ≡ take longest_ask (filter (λ q. is_due now retry asks (slot_from first slots.now q)) (range_with_len first (length slots.now))) }
 {
-    let mut due = ArrayVec::new();
+    due.clear();
     for (index, slot) in slots.iter().enumerate() {
         if due.is_full() {
-            return due;
+            return;
         }
         if slot.is_due(now, retry, asks) {
             due.push(Place::new(first + index as u64).unwrap());
         }
     }
-    due
 }
 
 /// How many of these slots are missing.

@@ -4,24 +4,23 @@ ghost use Rattle.stores.specs.PastByPlace.{is_marked};
 ghost use Rattle.stores.specs.Bits.{bits_of, IsSetOf};
 
 use crate::bits::Bits;
+use crate::entries::Entries;
 use crate::entry::HistoryEntry;
 use crate::history::History;
 use crate::memory::OutOfMemory;
-use crate::ring::{append, drop_first};
-use circular_buffer::HeapCircularBuffer;
 use places::Place;
-use rtpwire::{Carried, Content};
+use rtpwire::Carried;
 use std::alloc::Global;
 
 /// A history in a ring, whose memory is reserved once.
 ///
-/// Nothing moves when the oldest entry goes. An entry is found by its place or its number without a look at any
+/// No content moves: the newest entry is written over the oldest, where that goes. An entry is found by its place or its number without a look at any
 /// other, and the least mark by a set of bits.
 #[derive(Debug, Drop)]
 pub struct RingHistory {
     // The place of the oldest entry, where there is one.
     first: u64,
-    entries: HeapCircularBuffer<HistoryEntry>,
+    entries: Entries,
     // The marked entries, by how far they are from the oldest one.
     marks: Bits,
     ghost room: { length entries.items ≤ entries.capacity },
@@ -56,7 +55,7 @@ impl History for RingHistory {
     ghost is_past = { λ h. past_of_run h.first h.entries.items h.entries.capacity h.room h.nonzero h.limit h.run h.ends };
 
     fn new(alloc: Global, capacity: usize) -> Result<Self, OutOfMemory> {
-        let entries = HeapCircularBuffer::with_capacity(alloc, capacity)?;
+        let entries = Entries::new(alloc, capacity)?;
         let marks = Bits::new(alloc, capacity)?;
         Ok(RingHistory {
             first: 0,
@@ -66,20 +65,9 @@ impl History for RingHistory {
     }
 
     fn push_from(&mut self, place: Place, carried: &Carried<'_>) {
-        self.push(place, Content::of(carried));
-    }
-
-    // A content of the caller's own moves in as it is.
-    fn push(&mut self, place: Place, content: Content) {
-        make_room(&mut self.entries, &mut self.marks);
-        self.first = place.value() - self.entries.len() as u64;
-        let entry = HistoryEntry {
-            place,
-            content,
-            repeats: 0,
-            marked: false,
-        };
-        append(&mut self.entries, entry);
+        make_room(&self.entries, &mut self.marks);
+        self.entries.push(place, carried);
+        self.first = place.value() + 1 - self.entries.len() as u64;
     }
 
     fn find(&self, number: u16) -> Option<Place> {
@@ -92,12 +80,12 @@ impl History for RingHistory {
     }
 
     fn get(&self, place: Place) -> &HistoryEntry {
-        self.entries.get(self.index_of(place)).unwrap()
+        self.entries.get(self.index_of(place))
     }
 
     fn mark(&mut self, place: Place) {
         let index = self.index_of(place);
-        self.entries.get_mut(index).unwrap().marked = true;
+        self.entries.mark(index);
         self.marks.set(index);
     }
 
@@ -108,26 +96,21 @@ impl History for RingHistory {
 
     fn count_repeat(&mut self, place: Place) {
         let index = self.index_of(place);
-        let entry = self.entries.get_mut(index).unwrap();
-        entry.repeats += 1;
-        entry.marked = false;
+        self.entries.count_repeat(index);
         self.marks.clear(index);
     }
 }
 
-/// Drops the oldest entry with its mark, if the ring is full.
-fn make_room(entries: &mut HeapCircularBuffer<HistoryEntry>, marks: &mut Bits)
-    requires nonzero { 0 < entries.old.capacity }
-    requires room { length entries.old.items ≤ entries.old.capacity }
-    requires wide { entries.old.capacity < bits_of marks.old.words.items }
-    requires agree { IsSetOf is_marked marks.old.words.items marks.old.front entries.old.items }
-    ensures items { entries.new.items ≡ drop (length entries.old.items + 1 - entries.old.capacity) entries.old.items }
-    ensures capacity { entries.new.capacity ≡ entries.old.capacity }
+/// Takes the oldest entry's mark away, where a push drops that entry.
+fn make_room(entries: &Entries, marks: &mut Bits)
+    requires nonzero { 0 < entries.now.capacity }
+    requires room { length entries.now.items ≤ entries.now.capacity }
+    requires wide { entries.now.capacity < bits_of marks.old.words.items }
+    requires agree { IsSetOf is_marked marks.old.words.items marks.old.front entries.now.items }
     ensures wide { length marks.new.words.items ≡ length marks.old.words.items }
-    ensures agree { IsSetOf is_marked marks.new.words.items marks.new.front entries.new.items }
+    ensures agree { IsSetOf is_marked marks.new.words.items marks.new.front (drop (length entries.now.items + 1 - entries.now.capacity) entries.now.items) }
 {
-    if entries.is_full() {
+    if entries.len() == entries.capacity() {
         marks.shift();
-        drop_first(entries);
     }
 }

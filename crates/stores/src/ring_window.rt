@@ -118,10 +118,10 @@ impl Window for RingWindow {
         self.slots.get(index as usize)
     }
 
-    fn due(&self, now: u64, retry: u64, asks: u8) -> ArrayVec<Place, LONGEST_ASK> {
+    fn due_into(&self, due: &mut ArrayVec<Place, LONGEST_ASK>, now: u64, retry: u64, asks: u8) {
         match self.cursor {
-            None => ArrayVec::new(),
-            Some(cursor) => due_among(cursor, &self.slots, &self.missing, now, retry, asks),
+            None => due.clear(),
+            Some(cursor) => due_among(due, cursor, &self.slots, &self.missing, now, retry, asks),
         }
     }
 
@@ -174,30 +174,30 @@ fn add_missing(slots: &mut Slots, missing: &mut Bits, count: u64, now: u64)
     }
 }
 
-/// The first due places of these slots, of which the first is that of the place `first`.
+/// Finds the first due places of these slots, of which the first is that of the place `first`.
 fn due_among(
+    due: &mut ArrayVec<Place, LONGEST_ASK>,
     first: u64,
     slots: &Slots,
     missing: &Bits,
     now: u64,
     retry: u64,
     asks: u8,
-) -> ArrayVec<Place, LONGEST_ASK>
+)
     requires places { first + length slots.now.items ≤ 2 ^ 48 }
     requires room { length slots.now.items < bits_of missing.now.words.items }
     requires index { IsSetOf is_missing missing.now.words.items missing.now.front slots.now.items }
-    ensures { result.items ≡ take longest_ask (filter (λ q. is_due now retry asks (slot_from first slots.now.items q)) (range_with_len first (length slots.now.items))) }
+    ensures { due.new.items ≡ take longest_ask (filter (λ q. is_due now retry asks (slot_from first slots.now.items q)) (range_with_len first (length slots.now.items))) }
 {
-    let mut due = ArrayVec::new();
+    due.clear();
     let mut index = 0;
     while let Some(next) = missing.first(index) {
         if due.is_full() {
-            return due;
+            return;
         }
         if slots.get(next).unwrap().is_due(now, retry, asks) {
             due.push(Place::new(first + next as u64).unwrap());
         }
         index = next + 1;
     }
-    due
 }

@@ -13,7 +13,6 @@ ghost use Rattle.stores.specs.Pool.{freed, CanCellBeAsked, asked_cell};
 use crate::cell::Cell;
 use crate::memory::OutOfMemory;
 use crate::pool::{fill_free, grow};
-use crate::ring::{append, drop_first};
 use crate::slot::{Slot, SlotRef};
 use circular_buffer::HeapCircularBuffer;
 use rtpwire::{Carried, Content};
@@ -186,4 +185,22 @@ fn ask_cell(cell: &mut Cell, now: u64)
         *asks += 1;
         *last = now;
     }
+}
+
+/// Appends a cell to a ring that is not full.
+fn append(ring: &mut HeapCircularBuffer<Cell>, cell: Cell)
+    requires { length ring.old.items < ring.old.capacity }
+    ensures items { ring.new.items ≡ ring.old.items ++ cell ∷ [] }
+    ensures capacity { ring.new.capacity ≡ ring.old.capacity }
+{
+    ring.push_back(cell);
+}
+
+/// Drops the first cell of a ring that is not empty. It stays where it was in memory.
+fn drop_first(ring: &mut HeapCircularBuffer<Cell>)
+    requires { 0 < length ring.old.items }
+    ensures items { ring.new.items ≡ drop 1 ring.old.items }
+    ensures capacity { ring.new.capacity ≡ ring.old.capacity }
+{
+    ring.truncate_front(ring.len() - 1);
 }

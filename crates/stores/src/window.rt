@@ -97,7 +97,16 @@ pub trait Window: Drop {
     /// A place is due that is missing, was asked for fewer than `asks` times, and either was never asked for
     /// or last at least `retry` milliseconds before `now`.
     fn due(&self, now: u64, retry: u64, asks: u8) -> ArrayVec<Place, LONGEST_ASK>
-        ensures { result.items ≡ take longest_ask (due_places (meaning self.now) now retry asks) };
+        ensures { result.items ≡ take longest_ask (due_places (meaning self.now) now retry asks) }
+    {
+        let mut due = ArrayVec::new();
+        self.due_into(&mut due, now, retry, asks);
+        due
+    }
+
+    /// The same places in a vector that the caller lends, in the place of what it held.
+    fn due_into(&self, due: &mut ArrayVec<Place, LONGEST_ASK>, now: u64, retry: u64, asks: u8)
+        ensures { due.new.items ≡ take longest_ask (due_places (meaning self.now) now retry asks) };
 
     /// Counts one more ask for this place, made at the moment `now`. The place must be missing, and asked for
     /// fewer than 255 times so far.

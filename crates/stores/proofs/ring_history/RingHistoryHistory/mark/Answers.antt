@@ -1,7 +1,10 @@
-use Rattle.std.proofs.Common.{◌≡◌, Some, slice_get, List, ap, refl, rules}
+use Rattle.std.proofs.Common.{◌≡◌, ◌+◌, ◌≤◌, ◌^◌, length, ap, sym, subst, ◌∙◌, refl}
+use Rattle.circular_buffer.specs.Buffer.{Buffer}
 use Rattle.stores.specs.declared.entry.HistoryEntry.{HistoryEntry}
-use Rattle.stores.specs.Past.{marked}
+use Rattle.stores.specs.Bits.{IsSetOf}
+use Rattle.stores.specs.Past.{Past, IsRun, marked}
 use Rattle.stores.specs.PastByPlace.{is_marked}
+use Rattle.stores.proofs.Begun.{entry_changed}
 use Rattle.stores.proofs.Runs.{set_is_change, run_set, ends_set}
 use Rattle.stores.proofs.SetOfItems.{set_after_change}
 use Rattle.stores.proofs.ring_history.RingHistoryHistory.mark.Goals as goal
@@ -9,22 +12,30 @@ use Rattle.stores.proofs.ring_history.RingHistoryHistory.mark.Goals as goal
 pub invariant_of-self-clause-run : goal.invariant_of-self-clause-run
 invariant_of-self-clause-run c =
     let before = c.args.self.now in
-    let found : slice_get before.entries.items c.index_of-index.result ≡ Some c.unwrap.result.now = search rules in
-    let at = before.run c.index_of-index.result c.unwrap.result.now found in
-    run_set before.first c.index_of-index.result (marked c.unwrap.result.now) before.entries.items before.run c.index_of-index.ensures.within at.0 at.1
+    let changed = entry_changed marked c.index_of-index.result before.entries c.mark.new.self c.mark.ensures in
+    let at = before.run c.index_of-index.result changed.0 changed.1 in
+    subst (λ (b : Buffer HistoryEntry). IsRun before.first b.items) (sym changed.2)
+    (run_set before.first c.index_of-index.result (marked changed.0) before.entries.items before.run c.index_of-index.ensures.within at.0 at.1)
 
 pub invariant_of-self-clause-ends : goal.invariant_of-self-clause-ends
-invariant_of-self-clause-ends c = let before = c.args.self.now in ends_set before.first c.index_of-index.result (marked c.unwrap.result.now) before.entries.items before.ends
+invariant_of-self-clause-ends c =
+    let before = c.args.self.now in
+    let changed = entry_changed marked c.index_of-index.result before.entries c.mark.new.self c.mark.ensures in
+    subst (λ (b : Buffer HistoryEntry). before.first + length b.items ≤ 2 ^ 48) (sym changed.2)
+    (ends_set before.first c.index_of-index.result (marked changed.0) before.entries.items before.ends)
 
 pub invariant_of-self-clause-agree : goal.invariant_of-self-clause-agree
 invariant_of-self-clause-agree c =
     let before = c.args.self.now in
-    set_after_change is_marked before.marks.words.items c.set.new.self.words.items before.marks.front c.set.new.self.front before.entries.items c.index_of-index.result (marked c.unwrap.result.now) _
-    c.index_of-index.ensures.within c.set.ensures.words c.set.ensures.members refl before.agree
+    let changed = entry_changed marked c.index_of-index.result before.entries c.mark.new.self c.mark.ensures in
+    subst (λ (b : Buffer HistoryEntry). IsSetOf is_marked c.set.new.self.words.items c.set.new.self.front b.items) (sym changed.2)
+    (set_after_change is_marked before.marks.words.items c.set.new.self.words.items before.marks.front c.set.new.self.front before.entries.items c.index_of-index.result (marked changed.0) _
+    c.index_of-index.ensures.within c.set.ensures.words c.set.ensures.members refl before.agree)
 
 pub returns : goal.returns
 returns c =
     let before = c.args.self.now in
-    let found : slice_get before.entries.items c.index_of-index.result ≡ Some c.unwrap.result.now = search rules in
-    let e = set_is_change marked before.first c.index_of-index.result c.args.place c.unwrap.result.now before.entries.items before.run c.index_of-index.ensures.place found in
-    ap (λ (xs : List HistoryEntry). record { entries = xs; capacity = before.entries.capacity }) e
+    let changed = entry_changed marked c.index_of-index.result before.entries c.mark.new.self c.mark.ensures in
+    ap (λ (b : Buffer HistoryEntry). record { entries = b.items; capacity = b.capacity }) changed.2
+    ∙ ap (λ xs. record { entries = xs; capacity = before.entries.capacity })
+    (set_is_change marked before.first c.index_of-index.result c.args.place changed.0 before.entries.items before.run c.index_of-index.ensures.place changed.1)

@@ -1,0 +1,156 @@
+//! The entries of a ring history, which stay where they were first written.
+ghost use Rattle.std.specs.Prelude.{◌≡◌, ◌+◌, ◌-◌, ◌<◌, ◌≤◌, [], ◌∷◌, ◌++◌, length, drop, slice_get, slice_set, IfOk, Some, IsSomeAnd};
+ghost use Rattle.std.specs.Vec.{vec_capacity};
+ghost use Rattle.circular_buffer.specs.Buffer.{buffer};
+ghost use Rattle.stores.specs.Bits.{turned};
+ghost use Rattle.stores.specs.Past.{fresh, marked, repeated, CanBeRepeated};
+
+use crate::entry::HistoryEntry;
+use crate::memory::OutOfMemory;
+use places::Place;
+use rtpwire::{Carried, Content};
+use std::alloc::Global;
+use std::marker::Model;
+
+/// Entries in a ring, whose memory is reserved once. Where there are as many as there may be, a new one is written over
+/// the oldest. A contract sees them as a list, the oldest first.
+#[derive(Debug, Drop)]
+pub struct Entries {
+    list: Vec<HistoryEntry>,
+    // Where in the list the oldest one lies. The last one of the list is followed by the first.
+    start: usize,
+    capacity: usize,
+}
+
+impl Model for Entries {
+    ghost use Rattle.std.specs.Vec.{vec_capacity};
+    ghost use Rattle.circular_buffer.specs.Buffer.{Buffer, buffer};
+    ghost use Rattle.stores.specs.declared.entry.HistoryEntry.{HistoryEntry};
+    ghost use Rattle.stores.specs.Entries.{AreEntries, begun_at};
+
+    ghost Value = { Buffer HistoryEntry };
+
+    ghost view = { λ s. buffer (begun_at s.start s.list.items) s.capacity };
+
+    ghost invariant = { λ s. AreEntries s.list.items s.start s.capacity (vec_capacity s.list) };
+}
+
+impl Entries {
+    /// No entries, and memory for so many.
+    ///
+    /// `OutOfMemory`: the allocator refused the memory.
+    pub fn new(alloc: Global, capacity: usize) -> Result<Entries, OutOfMemory>
+        requires nonzero { 0 < capacity }
+        requires limit { capacity ≤ 8192 }
+        ensures { IfOk result (λ entries. entries ≡ buffer [] capacity) }
+    {
+        let list = Vec::with_capacity(alloc, capacity)?;
+        Ok(Entries {
+            list,
+            start: 0,
+            capacity,
+        })
+    }
+
+    /// How many entries there are.
+    pub fn len(&self) -> usize
+        ensures len { result ≡ length self.now.items }
+        ensures within { result ≤ self.now.capacity }
+    {
+        self.list.len()
+    }
+
+    /// How many there may be.
+    pub fn capacity(&self) -> usize
+        ensures { result ≡ self.now.capacity }
+    {
+        self.capacity
+    }
+
+    /// The entry at this index, counted from the oldest.
+    pub fn get(&self, index: usize) -> &HistoryEntry
+        requires { index < length self.now.items }
+        ensures { slice_get self.now.items index ≡ Some result.now }
+    {
+        let at = turned(self.start, self.list.len(), index);
+        &self.list[at]
+    }
+
+    /// Marks the entry at this index.
+    pub fn mark(&mut self, index: usize)
+        requires { index < length self.old.items }
+        ensures { IsSomeAnd (slice_get self.old.items index)
+            (λ entry. self.new ≡ buffer (slice_set self.old.items index (marked entry)) self.old.capacity) }
+    {
+        let at = turned(self.start, self.list.len(), index);
+        self.list[at].marked = true;
+    }
+
+    /// Counts a retransmission of the entry at this index, and takes its mark away.
+    pub fn count_repeat(&mut self, index: usize)
+        requires within { index < length self.old.items }
+        requires few { IsSomeAnd (slice_get self.old.items index) CanBeRepeated }
+        ensures { IsSomeAnd (slice_get self.old.items index)
+            (λ entry. self.new ≡ buffer (slice_set self.old.items index (repeated entry)) self.old.capacity) }
+    {
+        let at = turned(self.start, self.list.len(), index);
+        let entry = &mut self.list[at];
+        entry.repeats += 1;
+        entry.marked = false;
+    }
+
+    /// Adds the entry of a packet that was just sent. Where there are as many as there may be, it takes the place of the
+    /// oldest in memory.
+    pub fn push(&mut self, place: Place, carried: &Carried<'_>)
+        ensures { self.new ≡ buffer (drop (length self.old.items + 1 - self.old.capacity) self.old.items ++ fresh place carried.now ∷ []) self.old.capacity }
+    {
+        if self.list.len() < self.capacity {
+            add(&mut self.list, place, carried);
+        } else {
+            renew(&mut self.list[self.start], place, carried);
+            self.start = turned(self.start, self.list.len(), 1);
+        }
+    }
+}
+
+/// The index in a list of so many of what is `index` ahead of the one at `start`, where the last is followed by the
+/// first.
+fn turned(start: usize, len: usize, index: usize) -> usize
+    requires start { start < len }
+    requires index { index ≤ len }
+    requires limit { len ≤ 8192 }
+    ensures at { result ≡ turned len start index }
+    ensures within { result < len }
+{
+    if start + index < len {
+        start + index
+    } else {
+        start + index - len
+    }
+}
+
+/// Adds an entry to a list that has room. Its content is blanked here, when it is first used, and never again.
+fn add(list: &mut Vec<HistoryEntry>, place: Place, carried: &Carried<'_>)
+    requires { length list.old.items < vec_capacity list.old }
+    ensures items { list.new.items ≡ list.old.items ++ fresh place carried.now ∷ [] }
+    ensures capacity { vec_capacity list.new ≡ vec_capacity list.old }
+{
+    let at = list.len();
+    list.push_reserved(HistoryEntry {
+        place,
+        content: Content::blank(),
+        repeats: 0,
+        marked: false,
+    });
+    renew(&mut list[at], place, carried);
+}
+
+/// Makes it the entry of a packet that was just sent.
+fn renew(entry: &mut HistoryEntry, place: Place, carried: &Carried<'_>)
+    ensures { entry.new ≡ fresh place carried.now }
+{
+    entry.place = place;
+    entry.content.fill(carried);
+    entry.repeats = 0;
+    entry.marked = false;
+}
