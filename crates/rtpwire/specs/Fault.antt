@@ -28,3 +28,7 @@ abbrev pub config_number : ConfigFault → ℕ
 config_number config.BadType = 51
 config_number config.SameSsrc = 52
 config_number config.BadLimit = 53
+
+-- of a slice that is too short for a datagram
+abbrev pub room_number : ℕ
+room_number = 75

@@ -105,3 +105,21 @@ impl ConfigFault {
         }
     }
 }
+
+/// Why a datagram is not written to the front of a slice: it is shorter than the datagram.
+#[derive(Clone, Copy, Debug, PartialEq, Eq, Hash)]
+pub struct TooShort {
+    /// How many octets the datagram has.
+    pub needed: usize,
+}
+
+impl TooShort {
+    ghost use Rattle.rtpwire.specs.Fault.{room_number};
+
+    /// Its refusal number.
+    pub fn number(&self) -> u8
+        ensures { result ≡ room_number }
+    {
+        75
+    }
+}

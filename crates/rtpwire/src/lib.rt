@@ -18,7 +18,7 @@ mod write;
 
 pub use carried::{Carried, Words};
 pub use content::{Content, Datagram, Extension};
-pub use fault::{ConfigFault, ContentFault, FrameFault, RtpFault};
+pub use fault::{ConfigFault, ContentFault, FrameFault, RtpFault, TooShort};
 pub use fill::fill_front;
 pub use framing::{Deframer, write_frame};
 pub use laws::{

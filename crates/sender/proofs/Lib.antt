@@ -1,4 +1,5 @@
 pub mod Keeping
+pub mod Front
 pub mod Stepping
 pub mod Listed
 pub mod MarkedNumbers

@@ -69,6 +69,12 @@ pub record Repairs (old : SenderState) (place : ℕ) (entry : HistoryEntry) (new
   pub counted : new.entries place ≡ Some (once_more entry)
   pub others : (q : ℕ) → q ≢ place → new.entries q ≡ old.entries q
 
+-- the entry is that of the least marked place
+pub record IsLeastMarked (old : SenderState) (place : ℕ) (entry : HistoryEntry) : Type 0 where
+  pub was : old.entries place ≡ Some entry
+  pub marked : entry.marked ≡ true
+  pub least : (q : ℕ) → q < place → is_marked (old.entries q) ≡ false
+
 -- no place is marked
 abbrev pub NoneMarked : SenderState → Type 0
 NoneMarked h = (q : ℕ) → is_marked (h.entries q) ≡ false

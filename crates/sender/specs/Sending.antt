@@ -1,8 +1,10 @@
 -- What a send answers, and the octets that it writes.
-use Rattle.std.specs.Prelude.{◌≡◌, ℕ, ◌^◌, ◌<◌, ◌≤◌, List, length, Result, Ok, Err}
+use Rattle.std.specs.Prelude.{◌≡◌, ℕ, ◌^◌, ◌<◌, ◌≤◌, List, length, take, Result, Ok, Err}
 use Rattle.arrayvec.specs.ArrayVec.{ArrayVec}
 use Rattle.places.specs.Place.{number}
 use Rattle.rtpwire.specs.declared.content.Content.{Content}
+use Rattle.rtpwire.specs.declared.fault.TooShort.{TooShort}
+use Rattle.rtpwire.specs.Buffer.{in_front}
 use Rattle.rtpwire.specs.Rtp.{RtpPacket, RtpSpells, written}
 use Rattle.rtpwire.specs.Content.{packet_of, IsTooLong}
 use Rattle.rtpwire.specs.Session.{Streams}
@@ -39,3 +41,25 @@ abbrev pub SendsAny : Streams → (room : ℕ) → SenderState → Content → (
 SendsAny s room old content padding (Ok sent) new = SendsAt s room old content padding sent.0 sent.1.items new
 SendsAny s room old content padding (Err PaddedEmpty) new = (CanBePadded content padding → ⊥) × (new ≡ old)
 SendsAny s room old content padding (Err Exhausted) new = CanBePadded content padding × (2 ^ 48 ≤ old.next) × (new ≡ old)
+
+-- the answer of a send to the front of a slice, with the octets there as its datagram
+abbrev pub sent_into : List ℕ → Result (ℕ × ℕ) SendFault → Result (ℕ × ArrayVec ℕ) SendFault
+sent_into out (Ok sent) = Ok (sent.0, record { items = take sent.1 out })
+sent_into out (Err fault) = Err fault
+
+-- of a slice only the datagram's octets are written, and of a refusal none
+abbrev pub WritesFront : List ℕ → Result (ℕ × ℕ) SendFault → List ℕ → Type 0
+WritesFront out (Ok sent) out' = out' ≡ in_front (take sent.1 out') out
+WritesFront out (Err fault) out' = out' ≡ out
+
+-- how many octets the packet of a content has
+abbrev pub packet_length : Streams → SenderState → Content → (padding : ℕ) → ℕ
+packet_length s old content padding = length (written (media_packet s content padding old.next))
+
+-- What a send to the front of a slice answers: a send as any other, where the slice has room for the packet, and else
+-- how many octets the packet has; then nothing changes.
+abbrev pub SendsInto : Streams → (room : ℕ) → SenderState → Content → (padding : ℕ) → List ℕ → Result (Result (ℕ × ℕ) SendFault) TooShort → List ℕ → SenderState → Type 0
+SendsInto s room old content padding out (Ok answer) out' new =
+    (packet_length s old content padding ≤ length out) × SendsAny s room old content padding (sent_into out' answer) new × WritesFront out answer out'
+SendsInto s room old content padding out (Err short) out' new =
+    (short.needed ≡ packet_length s old content padding) × (length out < short.needed) × (out' ≡ out) × (new ≡ old)

@@ -1,10 +1,12 @@
 //! The sending end.
-ghost use Rattle.std.specs.Prelude.{◌≡◌, [], None, OnErr};
-ghost use Rattle.sender.specs.History.{new_history};
+ghost use Rattle.std.specs.Prelude.{◌≡◌, ℕ, ◌^◌, ◌<◌, [], None, IfOk, OnErr, MatchOption, MatchResult};
+ghost use Rattle.rtpwire.specs.Session.{Streams};
+ghost use Rattle.stores.specs.declared.entry.HistoryEntry.{HistoryEntry};
+ghost use Rattle.sender.specs.History.{Sends, Repairs, IsLeastMarked, NoneMarked, new_history};
 ghost use Rattle.sender.specs.Sender.{Sending, IsSending, Stays, new_sending, state_of};
-ghost use Rattle.sender.specs.Sending.{SendsAny, sent_in};
+ghost use Rattle.sender.specs.Sending.{CanBePadded, SendsAny, SendsInto, sent_in};
 ghost use Rattle.sender.specs.Feedback.{HearsFeedback};
-ghost use Rattle.sender.specs.Repairing.{RepairsAny, repaired_in};
+ghost use Rattle.sender.specs.Repairing.{RepairsAny, RepairsInto, repaired_in};
 
 use crate::answer::Marked;
 use crate::config::SenderConfig;
@@ -13,10 +15,11 @@ use crate::marking::{are_of_session, mark_nacks};
 use fbwire::{Compound, FeedbackFault, nack_is_determined};
 use places::Place;
 use rtpwire::{
-    Content, Datagram, content_is_bounded, content_is_determined, write_media_to, write_repair_to,
+    Carried, Content, Datagram, TooShort, content_is_bounded, content_is_determined, media_len,
+    repair_len, write_media_into, write_media_to, write_repair_into, write_repair_to,
 };
 use std::marker::Model;
-use stores::{History, history_by_place};
+use stores::{History, HistoryEntry, history_by_place};
 
 /// The sending end of a session, over any history: it gives each content the next place, writes its packet and
 /// keeps it, and retransmits what feedback asks for. No call takes memory: the history has it from the start.
@@ -93,16 +96,14 @@ impl<H: History> Sender<H> {
         ensures err { OnErr result (self.new ≡ self.old) }
         ensures stays { Stays self.old self.new }
     {
-        let session = self.config.session();
-        if padding > 0 && content.payload.is_empty() {
-            return Err(SendFault::PaddedEmpty);
-        }
-        let Some(place) = Place::new(self.next) else {
-            return Err(SendFault::Exhausted);
+        let carried = Carried::of_content(&content);
+        let place = match self.place_for(&carried, padding) {
+            Ok(place) => place,
+            Err(fault) => return Err(fault),
         };
         content_is_bounded(&content);
         content_is_determined();
-        history_by_place();
+        let session = self.config.session();
         write_media_to(
             out,
             &content,
@@ -111,9 +112,74 @@ impl<H: History> Sender<H> {
             session.media_type(),
             session.media_ssrc(),
         );
-        self.next += 1;
-        self.history.push(place, content);
+        self.keep(place, &carried);
         Ok(place)
+    }
+
+    /// The same of what is carried, with the packet at the front of a slice, whose rest stays. The answer is the place
+    /// and how many octets the packet has. Nothing is copied but to the slice and to the history.
+    ///
+    /// `TooShort` (75): the slice is shorter than this packet, as [`media_len`] says. It comes before the other
+    /// refusals. After each the slice and the sender are as they were.
+    pub fn send_into(
+        &mut self,
+        out: &mut [u8],
+        carried: &Carried<'_>,
+        padding: u8,
+    ) -> Result<Result<(Place, usize), SendFault>, TooShort>
+        ensures sends { SendsInto self.old.config.session self.old.past.capacity (state_of self.old) carried.now padding out.old result out.new (state_of self.new) }
+        ensures err { OnErr result (self.new ≡ self.old) }
+        ensures refused { IfOk result (λ answer. OnErr answer (self.new ≡ self.old)) }
+        ensures stays { Stays self.old self.new }
+    {
+        let session = self.config.session();
+        let needed = media_len(carried, padding);
+        if out.len() < needed {
+            return Err(TooShort { needed });
+        }
+        let place = match self.place_for(carried, padding) {
+            Ok(place) => place,
+            Err(fault) => return Ok(Err(fault)),
+        };
+        carried.is_bounded();
+        content_is_determined();
+        let len = write_media_into(
+            out,
+            carried,
+            padding,
+            place.number(),
+            session.media_type(),
+            session.media_ssrc(),
+        );
+        self.keep(place, carried);
+        Ok(Ok((place, len)))
+    }
+
+    /// The place that a content gets, or why it is not sent.
+    fn place_for(&self, carried: &Carried<'_>, padding: u8) -> Result<Place, SendFault>
+        ensures { MatchResult result
+            (λ place. (place ≡ self.now.next) × (place < 2 ^ 48) × CanBePadded carried.now padding)
+            (λ fault. (s : Streams) (room : ℕ) → SendsAny s room (state_of self.now) carried.now padding (Err fault) (state_of self.now)) }
+    {
+        if padding > 0 && carried.payload().is_empty() {
+            return Err(SendFault::PaddedEmpty);
+        }
+        match Place::new(self.next) {
+            Some(place) => Ok(place),
+            None => Err(SendFault::Exhausted),
+        }
+    }
+
+    /// Keeps what was sent at the next place.
+    fn keep(&mut self, place: Place, carried: &Carried<'_>)
+        requires next { place ≡ self.old.next }
+        requires fits { place < 2 ^ 48 }
+        ensures sends { Sends self.old.past.capacity (state_of self.old) carried.now (state_of self.new) }
+        ensures stays { Stays self.old self.new }
+    {
+        history_by_place();
+        self.next += 1;
+        self.history.push_from(place, carried);
     }
 
     /// Takes a feedback datagram. It may be called at any time, with any octets. The answer is how many packets
@@ -166,22 +232,73 @@ impl<H: History> Sender<H> {
         ensures none { result ≡ None → self.new ≡ self.old }
         ensures stays { Stays self.old self.new }
     {
-        history_by_place();
-        let place = self.history.least_marked()?;
+        let Some((place, entry)) = self.next_marked() else {
+            return None;
+        };
         let session = self.config.session();
-        let original = place.number();
-        let entry = self.history.get(place);
         write_repair_to(
             out,
             &entry.content,
-            original,
+            place.number(),
             self.repair,
             session.repair_type(),
             session.repair_ssrc(),
         );
+        self.count_repair(place);
+        Some(place)
+    }
+
+    /// The same with the retransmission at the front of a slice, whose rest stays. The answer is its place and how many
+    /// octets it has.
+    ///
+    /// `TooShort` (75): the slice is shorter than this retransmission, as [`repair_len`] says. The slice and the sender
+    /// are then as they were.
+    pub fn next_repair_into(&mut self, out: &mut [u8]) -> Result<Option<(Place, usize)>, TooShort>
+        ensures repairs { RepairsInto self.old.config.session (state_of self.old) out.old result out.new (state_of self.new) }
+        ensures err { OnErr result (self.new ≡ self.old) }
+        ensures none { result ≡ Ok None → self.new ≡ self.old }
+        ensures stays { Stays self.old self.new }
+    {
+        let Some((place, entry)) = self.next_marked() else {
+            return Ok(None);
+        };
+        let session = self.config.session();
+        let content = Carried::of_content(&entry.content);
+        let needed = repair_len(&content);
+        if out.len() < needed {
+            return Err(TooShort { needed });
+        }
+        let (original, ssrc) = (place.number(), session.repair_ssrc());
+        let len = write_repair_into(
+            out,
+            &content,
+            original,
+            self.repair,
+            session.repair_type(),
+            ssrc,
+        );
+        self.count_repair(place);
+        Ok(Some((place, len)))
+    }
+
+    /// The least marked place, and its entry.
+    fn next_marked(&self) -> Option<(Place, &HistoryEntry)>
+        ensures { MatchOption result (NoneMarked (state_of self.now)) (λ it. IsLeastMarked (state_of self.now) it.0 it.1.now) }
+    {
+        history_by_place();
+        let place = self.history.least_marked()?;
+        Some((place, self.history.get(place)))
+    }
+
+    /// Counts a retransmission of the least marked place, and takes its mark away.
+    fn count_repair(&mut self, place: Place)
+        requires { (entry : HistoryEntry) × IsLeastMarked (state_of self.old) place entry }
+        ensures repairs { (entry : HistoryEntry) → IsLeastMarked (state_of self.old) place entry → Repairs (state_of self.old) place entry (state_of self.new) }
+        ensures stays { Stays self.old self.new }
+    {
+        history_by_place();
         self.history.count_repeat(place);
         self.repair = self.repair.wrapping_add(1);
-        Some(place)
     }
 
     /// Its history, to see what it keeps and is to retransmit.
