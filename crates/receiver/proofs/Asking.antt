@@ -1,5 +1,5 @@
 -- Asks that a window counts are asks of the receiver.
-use Rattle.std.proofs.Common.{◌≡◌, ◌≢◌, ℕ, ◌+◌, ◌-◌, ◌<◌, ◌==◌, ◌||◌, Bool, true, false, cond, List, [], ◌∷◌, length, take, get_or, Option, Some, None, IsSomeAnd, IsSome, option_map, refl, sym, ap, subst, ◌∙◌, arith, inl, inr, eqb-true, eq-eqb, ne_eqb, true≢false}
+use Rattle.std.proofs.Common.{◌≡◌, ◌≢◌, ℕ, ◌+◌, ◌-◌, ◌*◌, ◌<◌, ◌==◌, ◌||◌, Bool, true, false, cond, List, [], ◌∷◌, length, take, get_or, Option, Some, None, IsSomeAnd, IsSome, option_map, refl, sym, ap, subst, ◌∙◌, arith, inl, inr, eqb-true, eq-eqb, ne_eqb, true≢false}
 use Rattle.std.specs.List.{All, filter}
 use Rattle.std.proofs.lemmas.Grind.{common_steps}
 use Rattle.std.specs.List.Sorted.{IsStrictlyIncreasing}
@@ -21,7 +21,7 @@ use Rattle.stores.specs.Asking.{CanBeAsked, asked_slot, places_of, due_places, m
 use Rattle.stores.specs.Asking.{is_due as is_due_slot, is_missing as is_missing_slot}
 use Rattle.receiver.specs.Config.{Config}
 use Rattle.receiver.specs.Window.{held_in, missed_in, window_at, window_of}
-use Rattle.receiver.specs.Asks.{is_due, is_missed, asked_once, Asks, AsksAny, CountsMissing}
+use Rattle.receiver.specs.Asks.{is_due, is_missed, asked_once, Asks, AsksAny, AnyNeedsRoom, CountsMissing}
 use Rattle.receiver.specs.Counted.{CanAllBeAsked, CountsAsks}
 use Rattle.receiver.proofs.Rising.{members, not_before}
 
@@ -183,6 +183,20 @@ module _ (slots : List Slot) (room : ℕ) (c : Config) (now : ℕ) (learnt : Opt
           λ none. some (ap (take longest_ask) none),
           record { pairs = pairs; asked = record { count = count; covers = covers; narrow = narrow; packing = packs; asks = asks_at learnt k slots room new _ now counts }; spells = spells },
         );
+      }
+
+  pub needs_room : (cursor : Option ℕ) (pairs : List Pair) (count : ℕ) → Lists (due cursor) (λ q. is_due_slot now c.retry c.asks (slot_at (at cursor) q)) →
+      take longest_ask (due cursor) ≢ [] → IsPacking (take longest_ask (due cursor)) pairs count → AnyNeedsRoom c (window_of learnt (at cursor)) now (12 + 4 * length pairs)
+  needs_room None pairs count lists some packs = absurd (some refl)
+  needs_room (Some k) pairs count lists some packs =
+      record {
+        due = due (Some k);
+        each = lists_same _ _ _ (λ q. same_due now c.retry c.asks (slot_at (at (Some k)) q)) lists;
+        some = λ none. some (ap (take longest_ask) none);
+        pairs = pairs;
+        count = count;
+        packing = packs;
+        octets = refl;
       }
 
   pub asks_none : (cursor : Option ℕ) → Lists (due cursor) (λ q. is_due_slot now c.retry c.asks (slot_at (at cursor) q)) → due cursor ≡ [] →

@@ -5,6 +5,7 @@ use Rattle.std.proofs.lemmas.Bool.Decides.{nat_tests}
 use Rattle.arrayvec.specs.ArrayVec.{ArrayVec}
 use Rattle.places.specs.Among.{is_among}
 use Rattle.rtpwire.specs.declared.content.Content.{Content}
+use Rattle.rtpwire.specs.declared.fault.TooShort.{TooShort}
 use Rattle.receiver.specs.declared.answer.Taken.{Taken}
 use Rattle.receiver.specs.declared.answer.Played.{Played}
 use Rattle.receiver.specs.declared.answer.Played.TheVariants.{Packet, Gap, Wait}
@@ -13,7 +14,7 @@ use Rattle.receiver.specs.declared.stream.Stream.{Stream}
 use Rattle.receiver.specs.declared.stream.Stream.TheVariants.{Media, Repair, Candidate}
 use Rattle.receiver.specs.Config.{Config}
 use Rattle.receiver.specs.Window.{Missed, ReceiverState, Takes, Passes, AnswersPlace, Plays, PlaysAny}
-use Rattle.receiver.specs.Asks.{is_due, asked_once, Asks, AsksAny, AsksWithin}
+use Rattle.receiver.specs.Asks.{is_due, asked_once, asked_into, Asks, AsksAny, AsksInto, AsksWithin}
 use Rattle.receiver.specs.Heard.{AnswersIn, TakesNumber, Hears, TakesOrRefuses}
 use Rattle.receiver.proofs.Rising.{among_take}
 use Rattle.receiver.proofs.Whichever.{whichever}
@@ -38,6 +39,11 @@ pub asks_keep : (c : Config) (now : ℕ) (old : Option ReceiverState) (answer : 
 asks_keep c now None answer new (none, is) keeps = subst (λ (s : Option ReceiverState). AsksWithin c.asks s) (sym is) keeps
 asks_keep c now (Some old) None new a keeps = subst (λ (s : Option ReceiverState). AsksWithin c.asks s) (sym a.answers.1) keeps
 asks_keep c now (Some old) (Some datagram) new a keeps = keeps_at c now old a.due a.answers.1.asked.count new a.each.each a.answers.1.asked.asks keeps
+
+pub asks_into_keep : (c : Config) (now : ℕ) (old : Option ReceiverState) (out : List ℕ) (answer : Result (Option ℕ) TooShort) (out' : List ℕ) (new : Option ReceiverState)
+    → AsksInto c old now out answer out' new → AsksWithin c.asks old → AsksWithin c.asks new
+asks_into_keep c now old out (Ok answer) out' new asks keeps = asks_keep c now old (asked_into out' answer) new asks.0 keeps
+asks_into_keep c now old out (Err short) out' new asks keeps = subst (λ (s : Option ReceiverState). AsksWithin c.asks s) (sym asks.3) keeps
 
 -- one place keeps the limit: it isn't missing, or is as it was, or was only noticed
 abbrev Within : (limit : ℕ) → Option Missed → Type 0

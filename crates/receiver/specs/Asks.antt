@@ -1,9 +1,11 @@
 -- What a receiver asks for: which missing places are due, how they are packed into a generic NACK (RFC 4585,
 -- section 6.2.1), and what an ask leaves. When to ask is a choice of this project.
-use Rattle.std.specs.Prelude.{◌≡◌, ◌≢◌, ℕ, ◌+◌, ◌-◌, ◌<◌, ◌≤◌, ◌==◌, ◌||◌, ◌&&◌, Bool, true, false, List, [], length, take, Option, Some, None, IsSomeAnd, IfSome, if◌then◌else◌, nat_lt, nat_le}
+use Rattle.std.specs.Prelude.{◌≡◌, ◌≢◌, ℕ, ◌+◌, ◌-◌, ◌*◌, ◌<◌, ◌≤◌, ◌==◌, ◌||◌, ◌&&◌, Bool, true, false, List, [], length, take, Option, Some, None, Result, Ok, Err, IsSomeAnd, IfSome, if◌then◌else◌, nat_lt, nat_le}
 use Rattle.std.specs.Option.{option_map}
 use Rattle.arrayvec.specs.ArrayVec.{ArrayVec}
 use Rattle.places.specs.Among.{is_among}
+use Rattle.rtpwire.specs.declared.fault.TooShort.{TooShort}
+use Rattle.rtpwire.specs.Buffer.{WritesFront}
 use Rattle.fbwire.specs.declared.nack.Pair.{Pair}
 use Rattle.fbwire.specs.Nack.{NackSpells}
 use Rattle.fbwire.specs.Packing.{IsPacking, IsNarrow}
@@ -65,6 +67,36 @@ pub record AsksDue (c : Config) (old : ReceiverState) (now : ℕ) (answer : Opti
 abbrev pub AsksAny : Config → Option ReceiverState → (now : ℕ) → Option (ArrayVec ℕ) → Option ReceiverState → Type 0
 AsksAny c None now answer new = (answer ≡ None) × (new ≡ None)
 AsksAny c (Some old) now answer new = AsksDue c old now answer new
+
+-- the answer of an ask to the front of a slice, with the octets there as its datagram
+abbrev pub asked_into : List ℕ → Option ℕ → Option (ArrayVec ℕ)
+asked_into out (Some len) = Some (record { items = take len out })
+asked_into out None = None
+
+-- of a slice only the datagram's octets are written
+abbrev pub WritesAsk : List ℕ → Option ℕ → List ℕ → Type 0
+WritesAsk out (Some len) out' = WritesFront len out out'
+WritesAsk out None out' = out' ≡ out
+
+-- An ask would be due whose NACK has so many octets.
+pub record NeedsRoom (c : Config) (old : ReceiverState) (now needed : ℕ) : Type 0 where
+  pub due : List ℕ
+  pub each : Lists due (λ k. is_due now c.retry c.asks (old.missing k))
+  pub some : due ≢ []
+  pub pairs : List Pair
+  pub count : ℕ
+  pub packing : IsPacking (take longest_ask due) pairs count
+  pub octets : needed ≡ 12 + 4 * length pairs
+
+abbrev pub AnyNeedsRoom : Config → Option ReceiverState → (now needed : ℕ) → Type 0
+AnyNeedsRoom c None now needed = ⊥
+AnyNeedsRoom c (Some old) now needed = NeedsRoom c old now needed
+
+-- What is answered where the octets go to the front of a slice: an ask as any other, or none, and where the slice has no
+-- room for it, how many octets it has; then nothing changes.
+abbrev pub AsksInto : Config → Option ReceiverState → (now : ℕ) → List ℕ → Result (Option ℕ) TooShort → List ℕ → Option ReceiverState → Type 0
+AsksInto c old now out (Ok answer) out' new = AsksAny c old now (asked_into out' answer) new × WritesAsk out answer out'
+AsksInto c old now out (Err short) out' new = AnyNeedsRoom c old now short.needed × (length out < short.needed) × (out' ≡ out) × (new ≡ old)
 
 -- how many places are missing
 pub record CountsMissed (old : ReceiverState) (count : ℕ) : Type 0 where

@@ -1,10 +1,14 @@
--- What counting asks for several places leaves in a window, slot by slot.
-use Rattle.std.specs.Prelude.{◌≡◌, ℕ, List, All, IsSomeAnd, if◌then◌else◌}
+-- What an ask finds in a window, and what counting asks for several places leaves in it, slot by slot.
+use Rattle.std.specs.Prelude.{◌≡◌, ◌≢◌, ℕ, ◌<◌, List, [], length, take, All, Option, Some, None, IsSomeAnd, if◌then◌else◌}
 use Rattle.std.specs.Option.{option_map}
+use Rattle.std.specs.List.Sorted.{IsStrictlyIncreasing}
+use Rattle.arrayvec.specs.ArrayVec.{ArrayVec}
 use Rattle.places.specs.Among.{is_among}
+use Rattle.fbwire.specs.declared.nack.Pair.{Pair}
+use Rattle.fbwire.specs.Packing.{IsPacking, IsNarrow}
 use Rattle.stores.specs.Span.{Span, highest_of}
 use Rattle.stores.specs.ByPlace.{slot_at}
-use Rattle.stores.specs.Asking.{CanBeAsked, asked_slot}
+use Rattle.stores.specs.Asking.{CanBeAsked, asked_slot, due_places, longest_ask}
 
 -- one more ask may be counted for each of these places
 abbrev pub CanAllBeAsked : Span → List ℕ → Type 0
@@ -16,3 +20,19 @@ pub record CountsAsks (old new : Span) (places : List ℕ) (now : ℕ) : Type 0 
   pub highest : highest_of new ≡ highest_of old
   pub slots : (q : ℕ) → slot_at new q ≡ (if is_among places q then option_map (asked_slot now) (slot_at old q) else slot_at old q)
   pub capacity : new.capacity ≡ old.capacity
+
+-- The first due places, and the pairs that cover a beginning of them.
+pub record FindsPairs (s : Span) (now retry limit : ℕ) (first : List ℕ) (pairs : List Pair) (count : ℕ) : Type 0 where
+  pub due : first ≡ take longest_ask (due_places s now retry limit)
+  pub some : first ≢ []
+  pub covers : 0 < count
+  pub writes : 0 < length pairs
+  pub narrow : IsNarrow first
+  pub packing : IsPacking first pairs count
+  pub rising : IsStrictlyIncreasing (take count first)
+  pub askable : CanAllBeAsked s (take count first)
+
+-- there are pairs exactly where a place is due
+abbrev pub AnswersPairs : Span → (now retry limit : ℕ) → Option (ArrayVec Pair × ℕ) → (first : List ℕ) → Type 0
+AnswersPairs s now retry limit None first = due_places s now retry limit ≡ []
+AnswersPairs s now retry limit (Some found) first = FindsPairs s now retry limit first found.0.items found.1

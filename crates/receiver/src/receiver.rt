@@ -1,12 +1,14 @@
 //! The receiving end.
-ghost use Rattle.std.specs.Prelude.{◌≡◌, ◌↔◌, ◌^◌, ◌<◌, ℕ, Option, None, IsNone, IsSome, IsTrue, OnOk, OnErr};
+ghost use Rattle.std.specs.Prelude.{◌≡◌, ◌↔◌, ◌^◌, ◌<◌, ◌≤◌, ℕ, length, Option, None, IsNone, IsSome, IsTrue, IsOk, Ok, OnOk, OnErr};
 ghost use Rattle.std.specs.Option.{option_map};
 ghost use Rattle.std.specs.Result.{result_err};
 ghost use Rattle.std.specs.List.Sorted.{IsStrictlyIncreasing};
 ghost use Rattle.rtpwire.specs.FirstOf.{FirstOf};
 ghost use Rattle.stores.specs.ByPlace.{slot_at};
-ghost use Rattle.receiver.specs.Asks.{AsksAny, CountsMissing, AsksWithin};
-ghost use Rattle.receiver.specs.Counted.{CanAllBeAsked, CountsAsks};
+ghost use Rattle.stores.specs.Asking.{due_places, is_due};
+ghost use Rattle.stores.specs.PlaceLists.{Lists};
+ghost use Rattle.receiver.specs.Asks.{AsksAny, AsksInto, CountsMissing, AsksWithin};
+ghost use Rattle.receiver.specs.Counted.{CanAllBeAsked, CountsAsks, AnswersPairs};
 ghost use Rattle.receiver.specs.Window.{window_of, missed_in, PlaysAny};
 ghost use Rattle.receiver.specs.Streams.{source_of};
 ghost use Rattle.receiver.specs.Heard.{Hears, WasAsked};
@@ -22,11 +24,12 @@ use crate::config::ReceiverConfig;
 use crate::fault::ReceiveFault;
 use crate::laws::hearing_is_in_order;
 use crate::stream::{Stream, carried_in, known_source, stream_of};
-use fbwire::{pack, write_nack};
+use arrayvec::ArrayVec;
+use fbwire::{Pair, pack, write_nack, write_nack_into};
 use places::{Place, near};
-use rtpwire::{Carried, Datagram, RtpView};
+use rtpwire::{Carried, Datagram, RtpView, TooShort};
 use std::marker::Model;
-use stores::{Slot, SlotRef, Window, window_by_place};
+use stores::{LONGEST_ASK, Slot, SlotRef, Window, window_by_place};
 
 /// The receiving end of a session, over any window: it takes packets in any order, asks for those that are
 /// missing, and plays their contents in the order of their places. No call takes memory: the window has it from the start.
@@ -161,6 +164,20 @@ impl<W: Window> Receiver<W> {
         ensures stays { Stays self.old self.new }
     {
         ask_from(&mut self.window, &self.config, now)
+    }
+
+    /// The same with the NACK at the front of a slice, whose rest stays. The answer is how many octets it has: twelve, and
+    /// four for each pair, so at most 268.
+    ///
+    /// `TooShort` (75): the slice is shorter than this NACK; one of 268 octets never is. The slice and the receiver are then as they were.
+    pub fn ask_into(&mut self, out: &mut [u8], now: u64) -> Result<Option<usize>, TooShort>
+        ensures asks { AsksInto self.old.config (state_of self.old) now out.old result out.new (state_of self.new) }
+        ensures enough { 268 ≤ length out.old → IsOk result }
+        ensures err { OnErr result (self.new ≡ self.old) }
+        ensures none { result ≡ Ok None → self.new ≡ self.old }
+        ensures stays { Stays self.old self.new }
+    {
+        ask_into_from(&mut self.window, &self.config, now, out)
     }
 
     /// How many places are missing: from the next one to play up to the highest one that was taken, those that
@@ -310,16 +327,10 @@ fn ask_from<W: Window>(window: &mut W, config: &ReceiverConfig, now: u64) -> Opt
     ensures started { (W.meaning window.new).cursor ≡ (W.meaning window.old).cursor }
     ensures capacity { (W.meaning window.new).capacity ≡ (W.meaning window.old).capacity }
 {
-    window_by_place();
-    // Most asks find nothing missing.
-    if window.missing() == 0 {
+    let mut due = ArrayVec::new();
+    let Some((pairs, count)) = pairs_due(window, config, now, &mut due) else {
         return None;
-    }
-    let due = window.due(now, config.retry(), config.asks());
-    if due.is_empty() {
-        return None;
-    }
-    let (pairs, count) = pack(due.as_slice());
+    };
     count_asks(window, &due.as_slice()[..count], now);
     let session = config.session();
     Some(write_nack(
@@ -327,6 +338,61 @@ fn ask_from<W: Window>(window: &mut W, config: &ReceiverConfig, now: u64) -> Opt
         session.media_ssrc(),
         pairs.as_slice(),
     ))
+}
+
+/// Asks for the due places of a window, at the front of a slice.
+fn ask_into_from<W: Window>(
+    window: &mut W,
+    config: &ReceiverConfig,
+    now: u64,
+    out: &mut [u8],
+) -> Result<Option<usize>, TooShort>
+    ensures asks { (learnt : Option ℕ) → AsksInto config.now (window_of learnt (W.meaning window.old)) now out.old result out.new (window_of learnt (W.meaning window.new)) }
+    ensures enough { 268 ≤ length out.old → IsOk result }
+    ensures err { OnErr result (W.meaning window.new ≡ W.meaning window.old) }
+    ensures none { result ≡ Ok None → W.meaning window.new ≡ W.meaning window.old }
+    ensures started { (W.meaning window.new).cursor ≡ (W.meaning window.old).cursor }
+    ensures capacity { (W.meaning window.new).capacity ≡ (W.meaning window.old).capacity }
+{
+    let mut due = ArrayVec::new();
+    let Some((pairs, count)) = pairs_due(window, config, now, &mut due) else {
+        return Ok(None);
+    };
+    let needed = 12 + 4 * pairs.len();
+    if out.len() < needed {
+        return Err(TooShort { needed });
+    }
+    let covered = &due.as_slice()[..count];
+    count_asks(window, covered, now);
+    let session = config.session();
+    let reporter = session.receiver_ssrc();
+    let media = session.media_ssrc();
+    let len = write_nack_into(out, reporter, media, pairs.as_slice());
+    Ok(Some(len))
+}
+
+/// Finds the due places of a window, at most as many as one ask looks at, and packs them: the pairs, and how many places
+/// they cover. None where no place is due.
+fn pairs_due<W: Window>(
+    window: &W,
+    config: &ReceiverConfig,
+    now: u64,
+    due: &mut ArrayVec<Place, LONGEST_ASK>,
+) -> Option<(ArrayVec<Pair, 64>, usize)>
+    ensures found { AnswersPairs (W.meaning window.now) now config.now.retry config.now.asks result due.new.items }
+    ensures lists { Lists (due_places (W.meaning window.now) now config.now.retry config.now.asks)
+        (λ q. is_due now config.now.retry config.now.asks (slot_at (W.meaning window.now) q)) }
+{
+    window_by_place();
+    // Most asks find nothing missing.
+    if window.missing() == 0 {
+        return None;
+    }
+    window.due_into(due, now, config.retry(), config.asks());
+    if due.is_empty() {
+        return None;
+    }
+    Some(pack(due.as_slice()))
 }
 
 /// Counts one ask for each of these places, made at the moment `now`.

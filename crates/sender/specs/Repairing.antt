@@ -3,7 +3,7 @@ use Rattle.std.specs.Prelude.{◌≡◌, ℕ, ◌<◌, List, length, take, Optio
 use Rattle.arrayvec.specs.ArrayVec.{ArrayVec}
 use Rattle.places.specs.Place.{number}
 use Rattle.rtpwire.specs.declared.fault.TooShort.{TooShort}
-use Rattle.rtpwire.specs.Buffer.{in_front}
+use Rattle.rtpwire.specs.Buffer.{WritesFront}
 use Rattle.rtpwire.specs.Rtp.{written}
 use Rattle.rtpwire.specs.Retransmission.{RepairSpells, repair_of, repair_packet}
 use Rattle.rtpwire.specs.Session.{Streams}
@@ -33,9 +33,9 @@ repaired_into out (Some sent) = Some (sent.0, record { items = take sent.1 out }
 repaired_into out None = None
 
 -- of a slice only the datagram's octets are written
-abbrev pub WritesFront : List ℕ → Option (ℕ × ℕ) → List ℕ → Type 0
-WritesFront out (Some sent) out' = out' ≡ in_front (take sent.1 out') out
-WritesFront out None out' = out' ≡ out
+abbrev pub WritesRepair : List ℕ → Option (ℕ × ℕ) → List ℕ → Type 0
+WritesRepair out (Some sent) out' = WritesFront sent.1 out out'
+WritesRepair out None out' = out' ≡ out
 
 -- The retransmission of the least marked place has so many octets.
 pub record NeedsRoom (s : Streams) (old : SenderState) (needed : ℕ) : Type 0 where
@@ -47,5 +47,5 @@ pub record NeedsRoom (s : Streams) (old : SenderState) (needed : ℕ) : Type 0 w
 -- What is answered where the octets go to the front of a slice: a retransmission as any other, or none, and where the
 -- slice has no room for it, how many octets it has; then nothing changes.
 abbrev pub RepairsInto : Streams → SenderState → List ℕ → Result (Option (ℕ × ℕ)) TooShort → List ℕ → SenderState → Type 0
-RepairsInto s old out (Ok answer) out' new = RepairsAny s old (repaired_into out' answer) new × WritesFront out answer out'
+RepairsInto s old out (Ok answer) out' new = RepairsAny s old (repaired_into out' answer) new × WritesRepair out answer out'
 RepairsInto s old out (Err short) out' new = NeedsRoom s old short.needed × (length out < short.needed) × (out' ≡ out) × (new ≡ old)

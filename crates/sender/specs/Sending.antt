@@ -4,7 +4,7 @@ use Rattle.arrayvec.specs.ArrayVec.{ArrayVec}
 use Rattle.places.specs.Place.{number}
 use Rattle.rtpwire.specs.declared.content.Content.{Content}
 use Rattle.rtpwire.specs.declared.fault.TooShort.{TooShort}
-use Rattle.rtpwire.specs.Buffer.{in_front}
+use Rattle.rtpwire.specs.Buffer.{WritesFront}
 use Rattle.rtpwire.specs.Rtp.{RtpPacket, RtpSpells, written}
 use Rattle.rtpwire.specs.Content.{packet_of, IsTooLong}
 use Rattle.rtpwire.specs.Session.{Streams}
@@ -48,9 +48,9 @@ sent_into out (Ok sent) = Ok (sent.0, record { items = take sent.1 out })
 sent_into out (Err fault) = Err fault
 
 -- of a slice only the datagram's octets are written, and of a refusal none
-abbrev pub WritesFront : List ℕ → Result (ℕ × ℕ) SendFault → List ℕ → Type 0
-WritesFront out (Ok sent) out' = out' ≡ in_front (take sent.1 out') out
-WritesFront out (Err fault) out' = out' ≡ out
+abbrev pub WritesSent : List ℕ → Result (ℕ × ℕ) SendFault → List ℕ → Type 0
+WritesSent out (Ok sent) out' = WritesFront sent.1 out out'
+WritesSent out (Err fault) out' = out' ≡ out
 
 -- how many octets the packet of a content has
 abbrev pub packet_length : Streams → SenderState → Content → (padding : ℕ) → ℕ
@@ -60,6 +60,6 @@ packet_length s old content padding = length (written (media_packet s content pa
 -- how many octets the packet has; then nothing changes.
 abbrev pub SendsInto : Streams → (room : ℕ) → SenderState → Content → (padding : ℕ) → List ℕ → Result (Result (ℕ × ℕ) SendFault) TooShort → List ℕ → SenderState → Type 0
 SendsInto s room old content padding out (Ok answer) out' new =
-    (packet_length s old content padding ≤ length out) × SendsAny s room old content padding (sent_into out' answer) new × WritesFront out answer out'
+    (packet_length s old content padding ≤ length out) × SendsAny s room old content padding (sent_into out' answer) new × WritesSent out answer out'
 SendsInto s room old content padding out (Err short) out' new =
     (short.needed ≡ packet_length s old content padding) × (length out < short.needed) × (out' ≡ out) × (new ≡ old)

@@ -1,5 +1,6 @@
 //! The sending end.
-ghost use Rattle.std.specs.Prelude.{◌≡◌, ℕ, ◌^◌, ◌<◌, [], None, IfOk, OnErr, MatchOption, MatchResult};
+ghost use Rattle.std.specs.Prelude.{◌≡◌, ℕ, ◌^◌, ◌<◌, ◌≤◌, [], length, None, IsOk, IfOk, OnErr, MatchOption, MatchResult};
+ghost use Rattle.rtpwire.specs.declared.limits.TheConstants.{MAX_DATAGRAM};
 ghost use Rattle.rtpwire.specs.Session.{Streams};
 ghost use Rattle.stores.specs.declared.entry.HistoryEntry.{HistoryEntry};
 ghost use Rattle.sender.specs.History.{Sends, Repairs, IsLeastMarked, NoneMarked, new_history};
@@ -119,8 +120,9 @@ impl<H: History> Sender<H> {
     /// The same of what is carried, with the packet at the front of a slice, whose rest stays. The answer is the place
     /// and how many octets the packet has. Nothing is copied but to the slice and to the history.
     ///
-    /// `TooShort` (75): the slice is shorter than this packet, as [`media_len`] says. It comes before the other
-    /// refusals. After each the slice and the sender are as they were.
+    /// `TooShort` (75): the slice is shorter than this packet, as [`media_len`] says; one of
+    /// [`MAX_DATAGRAM`](rtpwire::MAX_DATAGRAM) octets never is. It comes before the other refusals. After each the slice
+    /// and the sender are as they were.
     pub fn send_into(
         &mut self,
         out: &mut [u8],
@@ -129,6 +131,7 @@ impl<H: History> Sender<H> {
     ) -> Result<Result<(Place, usize), SendFault>, TooShort>
         ensures sends { SendsInto self.old.config.session self.old.past.capacity (state_of self.old) carried.now padding out.old result out.new (state_of self.new) }
         ensures err { OnErr result (self.new ≡ self.old) }
+        ensures enough { MAX_DATAGRAM ≤ length out.old → IsOk result }
         ensures refused { IfOk result (λ answer. OnErr answer (self.new ≡ self.old)) }
         ensures stays { Stays self.old self.new }
     {
@@ -251,10 +254,11 @@ impl<H: History> Sender<H> {
     /// The same with the retransmission at the front of a slice, whose rest stays. The answer is its place and how many
     /// octets it has.
     ///
-    /// `TooShort` (75): the slice is shorter than this retransmission, as [`repair_len`] says. The slice and the sender
-    /// are then as they were.
+    /// `TooShort` (75): the slice is shorter than this retransmission, as [`repair_len`] says; one of
+    /// [`MAX_DATAGRAM`](rtpwire::MAX_DATAGRAM) octets never is. The slice and the sender are then as they were.
     pub fn next_repair_into(&mut self, out: &mut [u8]) -> Result<Option<(Place, usize)>, TooShort>
         ensures repairs { RepairsInto self.old.config.session (state_of self.old) out.old result out.new (state_of self.new) }
+        ensures enough { MAX_DATAGRAM ≤ length out.old → IsOk result }
         ensures err { OnErr result (self.new ≡ self.old) }
         ensures none { result ≡ Ok None → self.new ≡ self.old }
         ensures stays { Stays self.old self.new }
