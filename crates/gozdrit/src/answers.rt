@@ -1,10 +1,9 @@
 //! What calls tell C. Each of these structs is C's own, and a call writes its fields.
-ghost use Rattle.std.specs.Prelude.{◌≤◌, length};
-ghost use Rattle.gozdrit.specs.Told.{TellsPacket, TellsPlace, TellsSource};
+ghost use Rattle.std.specs.Prelude.{◌≡◌};
+ghost use Rattle.gozdrit.specs.Told.{TellsPlace, TellsSource};
 
 use crate::header::Header;
 use places::Place;
-use rtpwire::{Datagram, fill_front};
 
 /// A packet that was written to a buffer: its place, and how many octets it has.
 #[repr(C)]
@@ -78,13 +77,11 @@ impl KnownSource {
 }
 
 impl SentPacket {
-    /// Tells a packet, and writes it to the front of a buffer that has room for it.
-    pub(crate) fn tell(&mut self, place: Place, datagram: &Datagram, out: &mut [u8])
-        requires { 1600 ≤ length out.old }
-        ensures { TellsPacket place datagram.now.items out.old self.new out.new }
+    /// Tells a packet that was written to the front of a buffer.
+    pub(crate) fn tell(&mut self, place: Place, length: usize)
+        ensures { self.new ≡ record { place = place; length = length } }
     {
         self.place = place.value();
-        self.length = datagram.len();
-        fill_front(out, datagram.as_slice());
+        self.length = length;
     }
 }

@@ -1,11 +1,11 @@
 //! What a packet carries beside its payload, as C says it and is told it.
 ghost use Rattle.std.specs.Prelude.{◌≡◌, ◌↔◌, IsTrue, MatchOption};
 ghost use Rattle.std.specs.Option.{option_map};
+ghost use Rattle.rtpwire.specs.Carried.{extension_with};
 ghost use Rattle.rtpwire.specs.Content.{extension_of};
 ghost use Rattle.gozdrit.specs.Packet.{Fits, HasWords, IsContent, TellsHeader, extension_in};
 
-use arrayvec::ArrayVec;
-use rtpwire::{Content, Extension, MAX_PAYLOAD, MAX_SOURCES, MAX_WORDS, fill_front, push_octets};
+use rtpwire::{Carried, Content, MAX_SOURCES, MAX_WORDS, Words, fill_front};
 
 /// What a packet carries beside its payload.
 #[repr(C)]
@@ -28,26 +28,18 @@ pub struct Header {
 }
 
 impl Header {
-    /// The content that it says with this payload, or None where no content holds so much.
-    pub(crate) fn content(&self, payload: &[u8]) -> Option<Content>
+    /// The content that it says with this payload, lent, or None where no content holds so much.
+    pub(crate) fn carried<'a>(&'a self, payload: &'a [u8]) -> Option<Carried<'a>>
         ensures { MatchOption result (Fits self.now payload.now → ⊥)
             (λ content. Fits self.now payload.now × IsContent self.now payload.now content) }
     {
-        if payload.len() > MAX_PAYLOAD || !self.has_words() {
+        if !self.has_words() {
             return None;
         }
         let sources = self.sources.get(..usize::from(self.source_count))?;
-        let sources = ArrayVec::try_from(sources).ok()?;
-        // The payload goes straight to where it stays: a vector of it would be moved there, whole.
-        let mut content = Content {
-            payload: ArrayVec::new(),
-            timestamp: self.timestamp,
-            marker: self.marker != 0,
-            sources,
-            extension: self.extension(),
-        };
-        push_octets(&mut content.payload, payload);
-        Some(content)
+        let marker = self.marker != 0;
+        let sources = Words::Numbers(sources);
+        Carried::of_fields(payload, self.timestamp, marker, sources, self.extension()).ok()
     }
 
     /// Whether its header extension has no more words than there may be.
@@ -58,21 +50,15 @@ impl Header {
     }
 
     /// The header extension that it says, if it says one.
-    fn extension(&self) -> Option<Extension>
+    fn extension(&self) -> Option<(u16, Words<'_>)>
         requires { HasWords self.now }
-        ensures { option_map extension_of result ≡ extension_in self.now }
+        ensures { option_map extension_of (option_map extension_with result) ≡ extension_in self.now }
     {
         if self.has_extension == 0 {
             return None;
         }
-        let mut words = ArrayVec::new();
-        words
-            .try_extend_from_slice(&self.words[..usize::from(self.word_count)])
-            .unwrap();
-        Some(Extension {
-            profile: self.profile,
-            words,
-        })
+        let words = &self.words[..usize::from(self.word_count)];
+        Some((self.profile, Words::Numbers(words)))
     }
 
     /// Tells it a content. What its arrays hold behind the counts stays.

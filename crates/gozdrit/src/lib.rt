@@ -19,3 +19,4 @@ mod sender_exports;
 mod sender_handle;
 mod sending;
 mod unboxed;
+mod writing;

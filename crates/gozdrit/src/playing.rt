@@ -7,8 +7,8 @@ ghost use Rattle.gozdrit.specs.Told.{TellsPlayed};
 
 use crate::answers::PlayedPlace;
 use receiver::{Peeked, Receiver};
-use stores::Window;
 use rtpwire::fill_front;
+use stores::Window;
 
 /// Plays, and tells what came. A content is copied once, from where the window keeps it.
 pub(crate) fn play_to<W: Window>(

@@ -8,8 +8,9 @@ use crate::code::{HELD, NO_END, NO_ROOM, OK, OUT_OF_MEMORY};
 use crate::config::ReceiverFields;
 use crate::playing::play_to;
 use crate::receiver_handle::ReceiverHandle;
+use crate::writing::ask_to;
 use receiver::Receiver;
-use rtpwire::{MAX_DATAGRAM, MAX_PAYLOAD, fill_front};
+use rtpwire::{MAX_DATAGRAM, MAX_PAYLOAD};
 use std::alloc::Global;
 use stores::{RingWindow, Window};
 
@@ -109,14 +110,7 @@ pub(crate) fn ask(
         return NO_ROOM;
     }
     let mut inside = receiver.lift(alloc);
-    let answer = inside.ask(now);
+    ask_to(&mut inside, now, count, out);
     receiver.put(inside);
-    *count = match answer {
-        Some(datagram) => {
-            fill_front(out, datagram.as_slice());
-            datagram.len()
-        }
-        None => 0,
-    };
     OK
 }

@@ -8,6 +8,7 @@ use crate::code::{HELD, NO_END, NO_ROOM, OK, OUT_OF_MEMORY, TOO_LARGE};
 use crate::config::SenderFields;
 use crate::header::Header;
 use crate::sender_handle::SenderHandle;
+use crate::writing::{repair_to, send_to};
 use rtpwire::MAX_DATAGRAM;
 use sender::Sender;
 use std::alloc::Global;
@@ -57,22 +58,16 @@ pub(crate) fn send(
     if !sender.is_held() {
         return NO_END;
     }
-    let Some(content) = header.content(payload) else {
+    let Some(carried) = header.carried(payload) else {
         return TOO_LARGE;
     };
     if out.len() < MAX_DATAGRAM {
         return NO_ROOM;
     }
     let mut inside = sender.lift(alloc);
-    let answer = inside.send(content, padding);
+    let code = send_to(&mut inside, &carried, padding, sent, out);
     sender.put(inside);
-    match answer {
-        Ok((place, datagram)) => {
-            sent.tell(place, &datagram, out);
-            OK
-        }
-        Err(fault) => i32::from(fault.number()),
-    }
+    code
 }
 
 pub(crate) fn on_feedback(
@@ -113,11 +108,7 @@ pub(crate) fn next_repair(
         return NO_ROOM;
     }
     let mut inside = sender.lift(alloc);
-    let answer = inside.next_repair();
+    repair_to(&mut inside, sent, out);
     sender.put(inside);
-    match answer {
-        Some((place, datagram)) => sent.tell(place, &datagram, out),
-        None => sent.length = 0,
-    }
     OK
 }

@@ -134,6 +134,7 @@ impl<W: Window> Receiver<W> {
     /// lies. The receiver stays as it is: [`pass`](Receiver::pass) at the same moment is the second step of the play.
     pub fn peek(&self, now: u64) -> Peeked<'_>
         ensures answer { played_of result ≡ play_of self.now.config.patience now self.now.span }
+        ensures plays { PlaysAny self.now.config.patience (state_of self.now) now (played_of result) (state_of (receiver_passed (played_of result) self.now)) }
     {
         peek_at(&self.window, self.config.patience(), now)
     }
@@ -285,6 +286,7 @@ fn is_ready(front: Option<SlotRef<'_>>, patience: u64, now: u64) -> bool
 /// What a play of a window would give, lent.
 fn peek_at<W: Window>(window: &W, patience: u64, now: u64) -> Peeked<'_>
     ensures answer { played_of result ≡ play_of patience now (W.meaning window.now) }
+    ensures plays { (learnt : Option ℕ) → PlaysAny patience (window_of learnt (W.meaning window.now)) now (played_of result) (window_of learnt (passed (played_of result) (W.meaning window.now))) }
 {
     let Some(cursor) = window.cursor() else {
         return Peeked::Wait;
@@ -307,16 +309,9 @@ fn pass_from<W: Window>(window: &mut W, patience: u64, now: u64)
     ensures started { (W.meaning window.new).cursor ≡ None → (W.meaning window.old).cursor ≡ None }
     ensures capacity { (W.meaning window.new).capacity ≡ (W.meaning window.old).capacity }
 {
-    let (Some(_cursor), Some(front)) = (window.cursor(), window.front()) else {
-        return;
-    };
-    match front {
-        SlotRef::Held(_) => window.drop_front(),
-        SlotRef::Missing { noticed, .. } => {
-            if now >= noticed && now - noticed >= patience {
-                window.drop_front();
-            }
-        }
+    match peek_at(window, patience, now) {
+        Peeked::Wait => {}
+        Peeked::Packet(..) | Peeked::Gap(_) => window.drop_front(),
     }
 }
 
