@@ -12,5 +12,6 @@ mod both_windows;
 mod receivers;
 #[cfg(test)]
 mod senders;
+mod slices;
 #[cfg(test)]
 mod windows;
