@@ -2,6 +2,8 @@
 ghost use Rattle.std.specs.Prelude.{◌≡◌, ◌≢◌, ◌+◌, ◌<◌, ◌∷◌, [], ◌++◌, take, drop, length, All, IfSome, IfNone};
 ghost use Rattle.lines.specs.Words.{words_left, words_of};
 
+use memchr::memchr;
+
 /// The longest line, in octets, without its line feed.
 pub const LONGEST_LINE: usize = 4096;
 
@@ -12,7 +14,7 @@ pub fn find_byte(text: &[u8], byte: u8) -> Option<usize>
     ensures first { IfSome result (λ at. All (λ x. x ≢ byte) (take at text.now)) }
     ensures absent { IfNone result (All (λ x. x ≢ byte) text.now) }
 {
-    text.iter().position(|x| *x == byte)
+    memchr(byte, text)
 }
 
 /// The first word of a line, and what follows the space that ends it.

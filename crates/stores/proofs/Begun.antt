@@ -92,10 +92,10 @@ begun-next s xs x within =
     let ys = slice_set xs s x in
     let same = length-set xs s x in
     let step : begun_at (suc s) ys ≡ drop 1 (begun_at s xs) ++ x ∷ [] =
-        ap (λ l. l ++ take (suc s) ys) (drop_set_before (suc s) xs s x (omega arith))
-        ∙ ap (λ l. drop (suc s) xs ++ l) (take_next s xs x within)
-        ∙ sym (append_assoc (drop (suc s) xs) (take s xs) (x ∷ []))
-        ∙ ap (λ l. l ++ x ∷ []) (sym (drop_next s xs (take s xs) within)) in
+    ap (λ l. l ++ take (suc s) ys) (drop_set_before (suc s) xs s x (omega arith))
+    ∙ ap (λ l. drop (suc s) xs ++ l) (take_next s xs x within)
+    ∙ sym (append_assoc (drop (suc s) xs) (take s xs) (x ∷ []))
+    ∙ ap (λ l. l ++ x ∷ []) (sym (drop_next s xs (take s xs) within)) in
     cond_both (nat_lt (s + 1) (length ys)) (s + 1) (s + 1 - length ys) (λ z. begun_at z ys ≡ drop 1 (begun_at s xs) ++ x ∷ [])
     (λ e. let next : s + 1 ≡ suc s = omega arith in ap (λ n. begun_at n ys) next ∙ step)
     (λ e. let above = ltb-false _ _ e in
@@ -125,7 +125,7 @@ begun-changed change s i at capacity xs old x view start within there found =
     let seen = ap (λ (b : Buffer HistoryEntry). length b.items) view in
     let here : slice_get (begun_at s xs) i ≡ Some x = begun-get s i xs start (omega arith) ∙ ap (slice_get xs) (sym there) ∙ found in
     let changed : begun_at s (slice_set xs at (change x)) ≡ slice_set (begun_at s xs) i (change x) =
-        ap (λ n. begun_at s (slice_set xs n (change x))) there ∙ begun-set s i xs (change x) start (omega arith) in
+    ap (λ n. begun_at s (slice_set xs n (change x))) there ∙ begun-set s i xs (change x) start (omega arith) in
     subst (λ (b : Buffer HistoryEntry). IsSomeAnd (slice_get b.items i) (λ e. buffer (begun_at s (slice_set xs at (change x))) capacity ≡ buffer (slice_set b.items i (change e)) b.capacity)) view
     (subst (λ o. IsSomeAnd o (λ e. buffer (begun_at s (slice_set xs at (change x))) capacity ≡ buffer (slice_set (begun_at s xs) i (change e)) capacity)) (sym here)
     (ap (λ l. buffer l capacity) changed))

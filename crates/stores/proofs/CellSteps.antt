@@ -50,7 +50,6 @@ pool_after (Unseen noticed asks last ∷ cells) contents free is some = pool_pas
 
 module _ (ring ring₂ : Buffer Cell) (contents : List Content) (free : List ℕ) (most free_most : ℕ) (before : Buffer Slot)
     (are : AreSlots ring contents free most free_most) (view : buffer (slots_in contents ring.items) ring.capacity ≡ before) (size : ring₂.capacity ≡ ring.capacity) where
-
   -- a cell without a number comes
   pub missing_added : (now : ℕ) → ring₂.items ≡ ring.items ++ Unseen now 0 0 ∷ [] → length before.items < before.capacity
       → AreSlots ring₂ contents free most free_most

@@ -58,7 +58,6 @@ module _ (ring ring₂ : Buffer Cell) (contents contents₁ contents₂ : List C
     (are : AreSlots ring contents free most free_most) (view : buffer (slots_in contents ring.items) ring.capacity ≡ before)
     (grown : contents₁ ≡ grown_contents contents free) (freed : free₁ ≡ grown_free contents free) (taken : free₁ ≡ free₂ ++ n ∷ []) (filled : contents₂ ≡ slice_set contents₁ n content)
     (size : ring₂.capacity ≡ ring.capacity) (same_most : most₂ ≡ most) (same_free : free_most₂ ≡ free_most) where
-
   -- a new cell
   pub held_last : ring₂.items ≡ ring.items ++ Taken n ∷ [] → length before.items < before.capacity
       → Leaves ring₂ contents₂ free₂ most₂ free_most₂ (buffer (before.items ++ Held content ∷ []) before.capacity)

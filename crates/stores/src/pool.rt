@@ -6,7 +6,7 @@ ghost use Rattle.stores.specs.Pool.{grown_contents, grown_free};
 
 use rtpwire::{Carried, Content};
 
-/// Makes one buffer more, where no number is free. A buffer is blanked here, when it is first used, and never again.
+/// Makes one buffer more, where no number is free. A buffer is blanked here, as it is first used.
 pub fn grow(contents: &mut Vec<Content>, free: &mut Vec<u16>)
     requires room { free.old.items ≡ [] → length contents.old.items < vec_capacity contents.old }
     requires limit { free.old.items ≡ [] → length contents.old.items < 8192 }
@@ -23,11 +23,7 @@ pub fn grow(contents: &mut Vec<Content>, free: &mut Vec<u16>)
 }
 
 /// Fills the buffer that was freed last, and answers its number, which is free no longer.
-pub fn fill_free(
-    contents: &mut Vec<Content>,
-    free: &mut Vec<u16>,
-    carried: &Carried<'_>,
-) -> u16
+pub fn fill_free(contents: &mut Vec<Content>, free: &mut Vec<u16>, carried: &Carried<'_>) -> u16
     requires some { 0 < length free.old.items }
     requires known { All (λ n. n < length contents.old.items) free.old.items }
     ensures number { free.old.items ≡ free.new.items ++ result ∷ [] }

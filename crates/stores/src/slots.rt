@@ -79,9 +79,7 @@ impl Slots {
         ensures { option_map slot_of result ≡ slice_get self.now.items index }
     {
         match self.cells.get(index)? {
-            Cell::Taken(number) => {
-                Some(SlotRef::Held(&self.contents[usize::from(*number)]))
-            }
+            Cell::Taken(number) => { Some(SlotRef::Held(&self.contents[usize::from(*number)])) }
             Cell::Unseen {
                 noticed,
                 asks,

@@ -58,11 +58,17 @@ fn a_packet_at_the_front_of_a_slice(rt: HostRuntime) -> Result<(), Fail> {
     if !carried.payload().is_empty() && media_len(&carried, 2) <= out.len() {
         assert_eq!(rt; write_media_into(&mut out, &carried, 2, 1, 96, SSRC), 16);
     }
-    assert_eq!(rt; out.as_slice(), b"\xa0\x60\x00\x01\x00\x00\x00\x00\x11\x11\x11\x11\xaa\xbb\x00\x02\x07\x07\x07\x07".as_slice());
+    assert_eq!(rt;
+        out.as_slice(),
+        b"\xa0\x60\x00\x01\x00\x00\x00\x00\x11\x11\x11\x11\xaa\xbb\x00\x02\x07\x07\x07\x07".as_slice()
+    );
     if repair_len(&carried) <= out.len() {
         assert_eq!(rt; write_repair_into(&mut out, &carried, 258, 1, 97, SSRC), 16);
     }
-    assert_eq!(rt; out.as_slice(), b"\x80\x61\x00\x01\x00\x00\x00\x00\x11\x11\x11\x11\x01\x02\xaa\xbb\x07\x07\x07\x07".as_slice());
+    assert_eq!(rt;
+        out.as_slice(),
+        b"\x80\x61\x00\x01\x00\x00\x00\x00\x11\x11\x11\x11\x01\x02\xaa\xbb\x07\x07\x07\x07".as_slice()
+    );
     Ok(())
 }
 

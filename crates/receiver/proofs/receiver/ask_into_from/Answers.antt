@@ -30,16 +30,17 @@ returns-clause-asks g c = λ learnt.
     let not = c.if-out-needed.false in
     let same = ap length c.as_slice-2.ensures.value in
     let many = c.len.ensures.value in
-    let as_long : length writes.new.out ≡ length c.args.out.now = search rules in
-    (asks_some s.slots s.capacity c.args.config.now c.args.now learnt s.cursor c.in-Some.pairs.items c.in-Some.count (record { items = take writes.result writes.new.out }) (g.W.Window.meaning c.count_asks.new.window)
-    c.in-Some.ensures.lists
-    (subst IsNarrow found.due found.narrow)
-    (λ none. found.some (found.due ∙ none))
-    found.covers
-    (subst (λ (places : List ℕ). IsPacking places c.in-Some.pairs.items c.in-Some.count) found.due found.packing)
-    (subst (λ (n : Nack). NackSpells n (take writes.result writes.new.out)) (λ i. record { reporter = reporter i; media = media i; pairs = c.as_slice-2.ensures.value i }) writes.ensures.spells)
-    (subst (λ (places : List ℕ). CountsAsks s (g.W.Window.meaning c.count_asks.new.window) (take c.in-Some.count places) c.args.now) (c.as_slice.ensures.value ∙ found.due) c.count_asks.ensures),
-    record {
-      within = omega (arith, as_long, counted, not, same, many);
-      behind = writes.ensures.written ∙ ap (λ (front : List ℕ). in_front front c.args.out.now) (sym writes.ensures.spells.spelled);
-    })
+    let as_long : length writes.new.out ≡ length c.args.out.now = search rules in (
+      asks_some s.slots s.capacity c.args.config.now c.args.now learnt s.cursor c.in-Some.pairs.items c.in-Some.count (record { items = take writes.result writes.new.out }) (g.W.Window.meaning c.count_asks.new.window)
+          c.in-Some.ensures.lists
+          (subst IsNarrow found.due found.narrow)
+          (λ none. found.some (found.due ∙ none))
+          found.covers
+          (subst (λ (places : List ℕ). IsPacking places c.in-Some.pairs.items c.in-Some.count) found.due found.packing)
+          (subst (λ (n : Nack). NackSpells n (take writes.result writes.new.out)) (λ i. record { reporter = reporter i; media = media i; pairs = c.as_slice-2.ensures.value i }) writes.ensures.spells)
+          (subst (λ (places : List ℕ). CountsAsks s (g.W.Window.meaning c.count_asks.new.window) (take c.in-Some.count places) c.args.now) (c.as_slice.ensures.value ∙ found.due) c.count_asks.ensures),
+      record {
+        within = omega (arith, as_long, counted, not, same, many);
+        behind = writes.ensures.written ∙ ap (λ (front : List ℕ). in_front front c.args.out.now) (sym writes.ensures.spells.spelled);
+      },
+    )
