@@ -3,18 +3,19 @@ use Rattle.std.specs.Prelude.{◌≡◌, ◌≢◌, ℕ, ◌≤◌, ◌==◌, no
 use Rattle.std.specs.Option.{option_map}
 use Rattle.rtpwire.specs.declared.content.Content.{Content}
 use Rattle.rtpwire.specs.declared.content.Extension.{Extension}
+use Rattle.rtpwire.specs.declared.limits.TheConstants.{MAX_PAYLOAD, MAX_SOURCES, MAX_WORDS}
 use Rattle.rtpwire.specs.Buffer.{in_front}
 use Rattle.rtpwire.specs.Content.{extension_of}
 use Rattle.gozdrit.specs.declared.header.Header.{Header}
 
 -- the header extension, if there is one, has no more words than there may be
 abbrev pub HasWords : Header → Type 0
-HasWords header = header.has_extension ≢ 0 → header.word_count ≤ 16
+HasWords header = header.has_extension ≢ 0 → header.word_count ≤ MAX_WORDS
 
 -- no more than a content holds
 pub record Fits (header : Header) (payload : List ℕ) : Type 0 where
-  pub octets : length payload ≤ 1200
-  pub sources : header.source_count ≤ 15
+  pub octets : length payload ≤ MAX_PAYLOAD
+  pub sources : header.source_count ≤ MAX_SOURCES
   pub words : HasWords header
 
 -- the profile and the words of the header extension, if there is one

@@ -2,6 +2,7 @@
 use Rattle.std.specs.Prelude.{◌≡◌, ◌≢◌, ◌⊎◌, ℕ, ◌<◌, ◌≤◌, ℤ, pos, List, length, Option, Some, None, IsSome, IsSomeAnd, Result, Ok, Err, OnErr}
 use Rattle.arrayvec.specs.ArrayVec.{ArrayVec}
 use Rattle.rtpwire.specs.declared.fault.ConfigFault.{ConfigFault}
+use Rattle.rtpwire.specs.declared.limits.TheConstants.{MAX_DATAGRAM, MAX_PAYLOAD}
 use Rattle.rtpwire.specs.Fault.{config_number}
 use Rattle.stores.specs.Span.{empty_span}
 use Rattle.receiver.specs.declared.answer.Taken.{Taken}
@@ -72,15 +73,15 @@ pub record AnswersMedia (old : Option Receiving) (octets : List ℕ) (now : ℕ)
 -- `gozdrit_play`
 pub record AnswersPlay (old : Option Receiving) (now : ℕ) (played : PlayedPlace) (payload : List ℕ) (code : ℤ) (new : Option Receiving) (played' : PlayedPlace) (payload' : List ℕ) : Type 0 where
   pub none : old ≡ None → code ≡ no_end
-  pub no_room : IsSome old → length payload < 1200 → code ≡ no_room
-  pub plays : (before : Receiving) → old ≡ Some before → 1200 ≤ length payload
+  pub no_room : IsSome old → length payload < MAX_PAYLOAD → code ≡ no_room
+  pub plays : (before : Receiving) → old ≡ Some before → MAX_PAYLOAD ≤ length payload
       → (code ≡ ok) × (answer : Played) × IsSomeAnd new (PlaysAs before now answer) × TellsPlayed answer played payload played' payload'
   pub refused : code ≢ ok → (new ≡ old) × (played' ≡ played) × (payload' ≡ payload)
 
 -- `gozdrit_ask`
 pub record AnswersAsk (old : Option Receiving) (now : ℕ) (count : ℕ) (out : List ℕ) (code : ℤ) (new : Option Receiving) (count' : ℕ) (out' : List ℕ) : Type 0 where
   pub none : old ≡ None → code ≡ no_end
-  pub no_room : IsSome old → length out < 1600 → code ≡ no_room
-  pub asks : (before : Receiving) → old ≡ Some before → 1600 ≤ length out
+  pub no_room : IsSome old → length out < MAX_DATAGRAM → code ≡ no_room
+  pub asks : (before : Receiving) → old ≡ Some before → MAX_DATAGRAM ≤ length out
       → (code ≡ ok) × (answer : Option (ArrayVec ℕ)) × IsSomeAnd new (AsksAs before now answer) × TellsAsk answer out count' out'
   pub refused : code ≢ ok → (new ≡ old) × (count' ≡ count) × (out' ≡ out)

@@ -3,6 +3,7 @@ use Rattle.std.specs.Prelude.{◌≡◌, ◌≢◌, ◌⊎◌, ℕ, ◌<◌, ◌
 use Rattle.arrayvec.specs.ArrayVec.{ArrayVec}
 use Rattle.rtpwire.specs.declared.content.Content.{Content}
 use Rattle.rtpwire.specs.declared.fault.ConfigFault.{ConfigFault}
+use Rattle.rtpwire.specs.declared.limits.TheConstants.{MAX_DATAGRAM}
 use Rattle.rtpwire.specs.Fault.{config_number}
 use Rattle.fbwire.specs.declared.fault.FeedbackFault.{FeedbackFault}
 use Rattle.fbwire.specs.Fault.{feedback_number}
@@ -72,8 +73,8 @@ pub record AnswersSenderNew (f : SenderFields) (old : Option Sending) (code : �
 pub record AnswersSend (old : Option Sending) (header : Header) (payload : List ℕ) (padding : ℕ) (sent : SentPacket) (out : List ℕ) (code : ℤ) (new : Option Sending) (sent' : SentPacket) (out' : List ℕ) : Type 0 where
   pub none : old ≡ None → code ≡ no_end
   pub too_large : IsSome old → (Fits header payload → ⊥) → code ≡ too_large
-  pub no_room : IsSome old → Fits header payload → length out < 1600 → code ≡ no_room
-  pub sends : (before : Sending) → old ≡ Some before → Fits header payload → 1600 ≤ length out
+  pub no_room : IsSome old → Fits header payload → length out < MAX_DATAGRAM → code ≡ no_room
+  pub sends : (before : Sending) → old ≡ Some before → Fits header payload → MAX_DATAGRAM ≤ length out
       → (content : Content) × IsContent header payload content × (answer : Result (ℕ × ArrayVec ℕ) SendFault)
       × IsSomeAnd new (SendsAs before content padding answer) × TellsSent answer out code sent' out'
   pub refused : code ≢ ok → (new ≡ old) × (sent' ≡ sent) × (out' ≡ out)
@@ -88,7 +89,7 @@ pub record AnswersFeedback (old : Option Sending) (octets : List ℕ) (marked : 
 -- `gozdrit_next_repair`
 pub record AnswersRepair (old : Option Sending) (sent : SentPacket) (out : List ℕ) (code : ℤ) (new : Option Sending) (sent' : SentPacket) (out' : List ℕ) : Type 0 where
   pub none : old ≡ None → code ≡ no_end
-  pub no_room : IsSome old → length out < 1600 → code ≡ no_room
-  pub repairs : (before : Sending) → old ≡ Some before → 1600 ≤ length out
+  pub no_room : IsSome old → length out < MAX_DATAGRAM → code ≡ no_room
+  pub repairs : (before : Sending) → old ≡ Some before → MAX_DATAGRAM ≤ length out
       → (code ≡ ok) × (answer : Option (ℕ × ArrayVec ℕ)) × IsSomeAnd new (RepairsAs before answer) × TellsRepair answer sent out sent' out'
   pub refused : code ≢ ok → (new ≡ old) × (sent' ≡ sent) × (out' ≡ out)

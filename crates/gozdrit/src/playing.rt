@@ -1,5 +1,6 @@
 //! What a play gives to C.
 ghost use Rattle.std.specs.Prelude.{◌≤◌, length};
+ghost use Rattle.rtpwire.specs.declared.limits.TheConstants.{MAX_PAYLOAD};
 ghost use Rattle.receiver.specs.declared.answer.Played.{Played};
 ghost use Rattle.receiver.specs.Peeking.{played_of};
 ghost use Rattle.gozdrit.specs.Receiving.{PlaysAs};
@@ -17,7 +18,7 @@ pub(crate) fn play_to<W: Window>(
     played: &mut PlayedPlace,
     payload: &mut [u8],
 )
-    requires { 1200 ≤ length payload.old }
+    requires { MAX_PAYLOAD ≤ length payload.old }
     ensures { (answer : Played) × PlaysAs receiver.old now answer receiver.new × TellsPlayed answer played.old payload.old played.new payload.new }
 {
     tell_peeked(receiver.peek(now), played, payload);
@@ -26,7 +27,7 @@ pub(crate) fn play_to<W: Window>(
 
 /// Tells what a play would give.
 fn tell_peeked(peeked: Peeked<'_>, played: &mut PlayedPlace, payload: &mut [u8])
-    requires { 1200 ≤ length payload.old }
+    requires { MAX_PAYLOAD ≤ length payload.old }
     ensures { TellsPlayed (played_of peeked.entry) played.old payload.old played.new payload.new }
 {
     match peeked {

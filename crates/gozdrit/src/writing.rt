@@ -1,6 +1,7 @@
 //! What sends, retransmissions and asks write to the front of C's buffers.
 ghost use Rattle.std.specs.Prelude.{◌≡◌, ◌≢◌, ℕ, ◌≤◌, length, Option, Result};
 ghost use Rattle.arrayvec.specs.ArrayVec.{ArrayVec};
+ghost use Rattle.rtpwire.specs.declared.limits.TheConstants.{MAX_DATAGRAM};
 ghost use Rattle.sender.specs.declared.fault.SendFault.{SendFault};
 ghost use Rattle.gozdrit.specs.Codes.{ok};
 ghost use Rattle.gozdrit.specs.Receiving.{AsksAs, TellsAsk};
@@ -21,7 +22,7 @@ pub(crate) fn send_to<H: History>(
     sent: &mut SentPacket,
     out: &mut [u8],
 ) -> i32
-    requires { 1600 ≤ length out.old }
+    requires { MAX_DATAGRAM ≤ length out.old }
     ensures sends { (answer : Result (ℕ × ArrayVec ℕ) SendFault) × SendsAs sender.old carried.now padding answer sender.new × TellsSent answer out.old result sent.new out.new }
     ensures refused { result ≢ ok → (sender.new ≡ sender.old) × (sent.new ≡ sent.old) × (out.new ≡ out.old) }
 {
@@ -31,14 +32,14 @@ pub(crate) fn send_to<H: History>(
             OK
         }
         Ok(Err(fault)) => i32::from(fault.number()),
-        // No packet needs more than 1600 octets.
+        // No packet needs more octets than the largest datagram.
         Err(short) => i32::from(short.number()),
     }
 }
 
 /// Retransmits, and tells the packet, or the length 0 where there is none.
 pub(crate) fn repair_to<H: History>(sender: &mut Sender<H>, sent: &mut SentPacket, out: &mut [u8])
-    requires { 1600 ≤ length out.old }
+    requires { MAX_DATAGRAM ≤ length out.old }
     ensures { (answer : Option (ℕ × ArrayVec ℕ)) × RepairsAs sender.old answer sender.new × TellsRepair answer sent.old out.old sent.new out.new }
 {
     match sender.next_repair_into(out) {
@@ -54,7 +55,7 @@ pub(crate) fn ask_to<W: Window>(
     count: &mut usize,
     out: &mut [u8],
 )
-    requires { 1600 ≤ length out.old }
+    requires { MAX_DATAGRAM ≤ length out.old }
     ensures { (answer : Option (ArrayVec ℕ)) × AsksAs receiver.old now answer receiver.new × TellsAsk answer out.old count.new out.new }
 {
     *count = match receiver.ask_into(out, now) {
