@@ -7,6 +7,7 @@ ghost use Rattle.rtpwire.specs.FirstOf.{FirstOf};
 ghost use Rattle.stores.specs.ByPlace.{slot_at};
 ghost use Rattle.stores.specs.Asking.{due_places, is_due};
 ghost use Rattle.stores.specs.PlaceLists.{Lists};
+ghost use Rattle.receiver.specs.Config.{Config};
 ghost use Rattle.receiver.specs.Asks.{AsksAny, AsksInto, CountsMissing, AsksWithin};
 ghost use Rattle.receiver.specs.Counted.{CanAllBeAsked, CountsAsks, AnswersPairs};
 ghost use Rattle.receiver.specs.Window.{window_of, missed_in, PlaysAny};
@@ -322,6 +323,9 @@ fn ask_from<W: Window>(window: &mut W, config: &ReceiverConfig, now: u64) -> Opt
     ensures started { (W.meaning window.new).cursor ≡ (W.meaning window.old).cursor }
     ensures capacity { (W.meaning window.new).capacity ≡ (W.meaning window.old).capacity }
 {
+    if asks_nothing(window) {
+        return None;
+    }
     let mut due = ArrayVec::new();
     let Some((pairs, count)) = pairs_due(window, config, now, &mut due) else {
         return None;
@@ -349,6 +353,9 @@ fn ask_into_from<W: Window>(
     ensures started { (W.meaning window.new).cursor ≡ (W.meaning window.old).cursor }
     ensures capacity { (W.meaning window.new).capacity ≡ (W.meaning window.old).capacity }
 {
+    if asks_nothing(window) {
+        return Ok(None);
+    }
     let mut due = ArrayVec::new();
     let Some((pairs, count)) = pairs_due(window, config, now, &mut due) else {
         return Ok(None);
@@ -366,6 +373,15 @@ fn ask_into_from<W: Window>(
     Ok(Some(len))
 }
 
+/// Whether nothing is missing, so that there is nothing to ask for. Most asks end here, before room for the due places
+/// is blanked.
+fn asks_nothing<W: Window>(window: &W) -> bool
+    ensures { IsTrue result → (c : Config) (now : ℕ) (learnt : Option ℕ) → AsksAny c (window_of learnt (W.meaning window.now)) now None (window_of learnt (W.meaning window.now)) }
+{
+    window_by_place();
+    window.missing() == 0
+}
+
 /// Finds the due places of a window, at most as many as one ask looks at, and packs them: the pairs, and how many places
 /// they cover. None where no place is due.
 fn pairs_due<W: Window>(
@@ -379,10 +395,6 @@ fn pairs_due<W: Window>(
         (λ q. is_due now config.now.retry config.now.asks (slot_at (W.meaning window.now) q)) }
 {
     window_by_place();
-    // Most asks find nothing missing.
-    if window.missing() == 0 {
-        return None;
-    }
     window.due_into(due, now, config.retry(), config.asks());
     if due.is_empty() {
         return None;

@@ -2,7 +2,7 @@ use Rattle.std.proofs.Common.{◌≡◌, ◌^◌, ◌<◌, length, ℕ, refl, sy
 use Rattle.fbwire.specs.Packing.{IsPacking}
 use Rattle.stores.specs.Asking.{due_places, longest_ask}
 use Rattle.receiver.proofs.Rising.{rising_take}
-use Rattle.receiver.proofs.Asking.{due_narrow, due_askable, none_due, nothing_due, some_due, positive}
+use Rattle.receiver.proofs.Asking.{due_narrow, due_askable, none_due, some_due, positive}
 use Rattle.receiver.proofs.receiver.pairs_due.Goals as goal
 
 pub pack-requires : goal.pack-requires
@@ -16,10 +16,6 @@ pack-requires g c =
       rising = rw items (rising_take longest_ask (due_places s c.args.now c.retry.result c.asks.result) lists.rises);
       narrow = rw items (due_narrow s is (λ q some. (law.inside s q is).0 some) c.args.now c.retry.result c.asks.result lists longest_ask);
     }
-
-pub returns-then-missing-eq0-clause-found : goal.returns-then-missing-eq0-clause-found
-returns-then-missing-eq0-clause-found g c =
-    nothing_due (g.W.Window.meaning c.args.window.now) c.args.now c.args.config.now.retry c.args.config.now.asks (sym c.missing.ensures ∙ c.if-missing-eq0.true)
 
 pub returns-then-is_empty-clause-found : goal.returns-then-is_empty-clause-found
 returns-then-is_empty-clause-found g c =
@@ -53,9 +49,6 @@ returns-clause-found g c =
       rising = rw due (rising_take c.pack.result.1 _ (rising_take longest_ask (due_places s c.args.now retry asks) lists.rises));
       askable = rw due (due_askable s is (λ q some. (law.inside s q is).0 some) c.args.now retry asks lists (λ o due. law.askable c.args.now retry asks o (subst (λ n. n < 2 ^ 8) c.asks.ensures c.asks.type_inv) due) longest_ask c.pack.result.1);
     }
-
-pub returns-then-missing-eq0-clause-lists : goal.returns-then-missing-eq0-clause-lists
-returns-then-missing-eq0-clause-lists g c = c.window_by_place.ensures.due (g.W.Window.meaning c.args.window.now) c.args.now c.args.config.now.retry c.args.config.now.asks
 
 pub returns-then-is_empty-clause-lists : goal.returns-then-is_empty-clause-lists
 returns-then-is_empty-clause-lists g c = c.window_by_place.ensures.due (g.W.Window.meaning c.args.window.now) c.args.now c.args.config.now.retry c.args.config.now.asks
