@@ -3,6 +3,7 @@
 use receiver::{Receiver, ReceiverConfig};
 use rtpwire::{Carried, Session, TooShort, Words};
 use sender::{Sender, SenderConfig};
+use std::alloc::Global;
 use std::test::Fail;
 use stores::{History, RingHistory, RingWindow, Window};
 
@@ -21,16 +22,21 @@ fn content() -> Result<Carried<'static>, Fail> {
     }
 }
 
-/// A packet of 13 octets, and its retransmission, which has 15.
-#[test]
-fn packets_in_slices(rt: HostRuntime) -> Result<(), Fail> {
+/// A sender that sent nothing, of the first numbers 1 and 5.
+fn sender(alloc: Global) -> Result<Sender<RingHistory>, Fail> {
     let (Ok(config), Ok(history)) = (
         SenderConfig::new(session()?, 1, 5, 3),
-        RingHistory::new(rt.alloc(), 1),
+        RingHistory::new(alloc, 1),
     ) else {
         return Err(Fail::from("a sender"));
     };
-    let mut sender = Sender::new(config, history);
+    Ok(Sender::new(config, history))
+}
+
+/// A packet of 13 octets.
+#[test]
+fn packets_in_slices(rt: HostRuntime) -> Result<(), Fail> {
+    let mut sender = sender(rt.alloc())?;
     let content = content()?;
     let mut out = [0xee; 14];
     assert!(rt;
@@ -55,6 +61,15 @@ fn packets_in_slices(rt: HostRuntime) -> Result<(), Fail> {
         &out,
         b"\x80\xe0\x00\x01\x00\x00\x00\x07\x11\x11\x11\x11\xaa\xee"
     );
+    Ok(())
+}
+
+/// Its retransmission, which has 15.
+#[test]
+fn retransmissions_in_slices(rt: HostRuntime) -> Result<(), Fail> {
+    let mut sender = sender(rt.alloc())?;
+    let mut out = [0xee; 16];
+    assert!(rt; matches!(sender.send_into(&mut out[..13], &content()?, 0), Ok(Ok(_))));
     let nack = b"\x81\xcd\x00\x03\x33\x33\x33\x33\x11\x11\x11\x11\x00\x01\x00\x00";
     assert!(rt; sender.on_feedback(nack).is_ok());
     let mut out = [0xee; 16];
