@@ -1,7 +1,9 @@
 -- Asks that a window counts are asks of the receiver.
-use Rattle.std.proofs.Common.{◌≡◌, ◌≢◌, ℕ, ◌+◌, ◌-◌, ◌*◌, ◌<◌, ◌==◌, ◌||◌, Bool, true, false, cond, List, [], ◌∷◌, length, take, get_or, Option, Some, None, IsSomeAnd, IsSome, option_map, refl, sym, ap, subst, ◌∙◌, arith, inl, inr, eqb-true, eq-eqb, ne_eqb, true≢false}
+use Rattle.std.proofs.Common.{◌≡◌, ◌≢◌, ℕ, zero, suc, nat_lt, nat_le, ◌&&◌, ◌+◌, ◌-◌, ◌*◌, ◌<◌, ◌==◌, ◌||◌, Bool, true, false, cond, List, [], ◌∷◌, length, take, get_or, Option, Some, None, IsSomeAnd, IsSome, option_map, refl, sym, ap, subst, ◌∙◌, arith, inl, inr, eqb-true, eq-eqb, ne_eqb, true≢false}
 use Rattle.std.specs.List.{All, filter}
 use Rattle.std.proofs.lemmas.Grind.{common_steps}
+use Rattle.std.proofs.lemmas.Bool.Decides.{nat_tests}
+use Rattle.std.specs.Prelude.{if◌then◌else◌}
 use Rattle.std.specs.List.Sorted.{IsStrictlyIncreasing}
 use Rattle.std.proofs.lemmas.Bool.{cases_eq}
 use Rattle.std.proofs.lemmas.Option.{same_Some}
@@ -18,29 +20,36 @@ use Rattle.stores.specs.Span.{Span, IsSpan}
 use Rattle.stores.specs.ByPlace.{slot_at, IsInside}
 use Rattle.stores.specs.PlaceLists.{Lists}
 use Rattle.stores.specs.Asking.{CanBeAsked, asked_slot, places_of, due_places, missing_places, CountsAsk, longest_ask}
-use Rattle.stores.specs.Asking.{is_due as is_due_slot, is_missing as is_missing_slot}
+use Rattle.stores.specs.Asking.{is_due as is_due_slot, is_missing as is_missing_slot, is_long_since}
 use Rattle.receiver.specs.Config.{Config}
 use Rattle.receiver.specs.Window.{held_in, missed_in, window_at, window_of}
-use Rattle.receiver.specs.Asks.{is_due, is_missed, asked_once, Asks, AsksAny, AnyNeedsRoom, CountsMissing}
+use Rattle.receiver.specs.Asks.{is_due, is_missed, asked_once, Asks, AsksMost, AnyNeedsRoomMost, CountsMissing}
 use Rattle.receiver.specs.Counted.{CanAllBeAsked, CountsAsks}
 use Rattle.receiver.proofs.Rising.{members, not_before}
 
+-- a span since a moment, as a difference and as a sum
+long_since : (moment span now : ℕ) → is_long_since moment span now ≡ nat_le (moment + span) now
+long_since moment span now = grind (arith, nat_tests)
+
 -- what is true of a slot, by what it misses
-same_due : (now retry limit : ℕ) (o : Option Slot) → is_due_slot now retry limit o ≡ is_due now retry limit (missed_in o)
-same_due now retry limit None = refl
-same_due now retry limit (Some (Held content)) = refl
-same_due now retry limit (Some (Missing noticed asks last)) = refl
+pub same_due : (now delay retry limit : ℕ) (o : Option Slot) → is_due_slot now delay retry limit o ≡ is_due now delay retry limit (missed_in o)
+same_due now delay retry limit None = refl
+same_due now delay retry limit (Some (Held content)) = refl
+same_due now delay retry limit (Some (Missing noticed asks last)) =
+    let wait = long_since noticed delay now in
+    let again = long_since last retry now in
+    ap (λ b. nat_lt asks limit && b) (ap (λ b. if asks == 0 then delay == 0 || b else is_long_since last retry now) wait ∙ ap (λ b. if asks == 0 then delay == 0 || nat_le (noticed + delay) now else b) again)
 
 same_missing : (o : Option Slot) → is_missing_slot o ≡ is_missed (missed_in o)
 same_missing None = refl
 same_missing (Some (Held content)) = refl
 same_missing (Some (Missing noticed asks last)) = refl
 
-due_is_some : (now retry limit : ℕ) (o : Option Slot) → is_due_slot now retry limit o ≡ true → IsSome o
-due_is_some now retry limit None due = absurd cc
-due_is_some now retry limit (Some slot) due = refl
+due_is_some : (now delay retry limit : ℕ) (o : Option Slot) → is_due_slot now delay retry limit o ≡ true → IsSome o
+due_is_some now delay retry limit None due = absurd cc
+due_is_some now delay retry limit (Some slot) due = refl
 
-lists_same : (places : List ℕ) (f g : ℕ → Bool) → ((q : ℕ) → f q ≡ g q) → Lists places f → Lists places g
+pub lists_same : (places : List ℕ) (f g : ℕ → Bool) → ((q : ℕ) → f q ≡ g q) → Lists places f → Lists places g
 lists_same places f g same lists = record { rises = lists.rises; each = λ q. lists.each q ∙ same q }
 
 -- each listed place passes the test
@@ -62,33 +71,33 @@ within_window (Some k) slots room is inside (x ∷ xs) all =
     let some = (is.started k refl).0 in
     omega arith
 
-module _ (s : Span) (is : IsSpan s) (inside : (q : ℕ) → IsSome (slot_at s q) → IsInside s q) (now retry limit : ℕ)
-    (lists : Lists (due_places s now retry limit) (λ q. is_due_slot now retry limit (slot_at s q))) where
+module _ (s : Span) (is : IsSpan s) (inside : (q : ℕ) → IsSome (slot_at s q) → IsInside s q) (now delay retry limit : ℕ)
+    (lists : Lists (due_places s now delay retry limit) (λ q. is_due_slot now delay retry limit (slot_at s q))) where
   -- the first of the due places, so many of them
-  pub due_narrow : (n : ℕ) → IsNarrow (take n (due_places s now retry limit))
-  due_narrow n =
-      within_window s.cursor s.slots s.capacity is inside _
-      (All-take (λ q. IsSome (slot_at s q)) n _ (λ k d l. due_is_some now retry limit _ (all_pass _ _ lists k d l)))
+  pub due_narrow : (n m : ℕ) → IsNarrow (take m (take n (due_places s now delay retry limit)))
+  due_narrow n m =
+      let P : ℕ → Type 0 = λ q. IsSome (slot_at s q) in
+      within_window s.cursor s.slots s.capacity is inside _ (All-take P m _ (All-take P n _ (λ k d l. due_is_some now delay retry limit _ (all_pass _ _ lists k d l))))
 
-  pub due_askable : ((o : Option Slot) → is_due_slot now retry limit o ≡ true → IsSomeAnd o CanBeAsked) → (n m : ℕ) → CanAllBeAsked s (take m (take n (due_places s now retry limit)))
-  due_askable askable n m =
+  pub due_askable : ((o : Option Slot) → is_due_slot now delay retry limit o ≡ true → IsSomeAnd o CanBeAsked) → (n m i : ℕ) → CanAllBeAsked s (take i (take m (take n (due_places s now delay retry limit))))
+  due_askable askable n m i =
       let P : ℕ → Type 0 = λ q. IsSomeAnd (slot_at s q) CanBeAsked in
-      All-take P m _ (All-take P n _ (λ k d l. askable _ (all_pass _ _ lists k d l)))
+      All-take P i _ (All-take P m _ (All-take P n _ (λ k d l. askable _ (all_pass _ _ lists k d l))))
 
 -- a list of which nothing passes a test has nothing that passes a stronger one
 filter_none : (f g : ℕ → Bool) → ((q : ℕ) → g q ≡ false → f q ≡ false) → (xs : List ℕ) → length (filter g xs) ≡ 0 → filter f xs ≡ []
 filter_none f g less [] none = refl
 filter_none f g less (x ∷ xs) none = let rest = filter_none f g less xs in let here = less x in grind (arith, common_steps, rest, here)
 
-held_not_due : (now retry limit : ℕ) (o : Option Slot) → is_missing_slot o ≡ false → is_due_slot now retry limit o ≡ false
-held_not_due now retry limit None held = refl
-held_not_due now retry limit (Some (Held content)) held = refl
-held_not_due now retry limit (Some (Missing noticed asks last)) held = absurd cc
+held_not_due : (now delay retry limit : ℕ) (o : Option Slot) → is_missing_slot o ≡ false → is_due_slot now delay retry limit o ≡ false
+held_not_due now delay retry limit None held = refl
+held_not_due now delay retry limit (Some (Held content)) held = refl
+held_not_due now delay retry limit (Some (Missing noticed asks last)) held = absurd cc
 
 -- where nothing is missing, nothing is due
-pub nothing_due : (s : Span) (now retry limit : ℕ) → length (missing_places s) ≡ 0 → due_places s now retry limit ≡ []
-nothing_due s now retry limit none =
-    filter_none (λ q. is_due_slot now retry limit (slot_at s q)) (λ q. is_missing_slot (slot_at s q)) (λ q. held_not_due now retry limit (slot_at s q)) (places_of s) none
+pub nothing_due : (s : Span) (now delay retry limit : ℕ) → length (missing_places s) ≡ 0 → due_places s now delay retry limit ≡ []
+nothing_due s now delay retry limit none =
+    filter_none (λ q. is_due_slot now delay retry limit (slot_at s q)) (λ q. is_missing_slot (slot_at s q)) (λ q. held_not_due now delay retry limit (slot_at s q)) (places_of s) none
 
 -- Asks that are counted one after another.
 
@@ -160,38 +169,55 @@ asks_at learnt k slots room new covered now counts =
       learnt = refl;
     })
 
+pub take_none : (n : ℕ) → take {A = ℕ} n [] ≡ []
+take_none zero = refl
+take_none (suc n) = refl
+
+-- so many of so many, whichever are taken first
+pub take_swap : (m n : ℕ) (xs : List ℕ) → take m (take n xs) ≡ take n (take m xs)
+take_swap zero n xs = sym (take_none n)
+take_swap (suc m) zero xs = refl
+take_swap (suc m) (suc n) [] = refl
+take_swap (suc m) (suc n) (x ∷ xs) = ap (λ ys. x ∷ ys) (take_swap m n xs)
+
 -- an ask of a window
-module _ (slots : List Slot) (room : ℕ) (c : Config) (now : ℕ) (learnt : Option ℕ) where
+module _ (slots : List Slot) (room : ℕ) (c : Config) (now most : ℕ) (learnt : Option ℕ) where
   abbrev at : Option ℕ → Span
   at cursor = record { cursor = cursor; slots = slots; capacity = room }
 
+  abbrev all_due : Option ℕ → List ℕ
+  all_due cursor = due_places (at cursor) now c.delay c.retry c.asks
+
   abbrev due : Option ℕ → List ℕ
-  due cursor = due_places (at cursor) now c.retry c.asks
+  due cursor = take most (all_due cursor)
+
+  abbrev AreDue : Option ℕ → Type 0
+  AreDue cursor = Lists (all_due cursor) (λ q. is_due_slot now c.delay c.retry c.asks (slot_at (at cursor) q))
 
   pub asks_some : (cursor : Option ℕ) (pairs : List Pair) (count : ℕ) (datagram : ArrayVec ℕ) (new : Span) →
-      Lists (due cursor) (λ q. is_due_slot now c.retry c.asks (slot_at (at cursor) q)) → IsNarrow (take longest_ask (due cursor)) →
+      AreDue cursor → IsNarrow (take longest_ask (due cursor)) →
       take longest_ask (due cursor) ≢ [] → 0 < count → IsPacking (take longest_ask (due cursor)) pairs count →
       NackSpells (record { reporter = c.session.receiver_ssrc; media = c.session.media_ssrc; pairs = pairs }) datagram.items →
       CountsAsks (at cursor) new (take count (take longest_ask (due cursor))) now →
-      AsksAny c (window_of learnt (at cursor)) now (Some datagram) (window_of learnt new)
-  asks_some None pairs count datagram new lists narrow some covers packs spells counts = absurd (some refl)
+      AsksMost c (window_of learnt (at cursor)) now most (Some datagram) (window_of learnt new)
+  asks_some None pairs count datagram new lists narrow some covers packs spells counts = absurd (some (ap (take longest_ask) (take_none most)))
   asks_some (Some k) pairs count datagram new lists narrow some covers packs spells counts =
       record {
-        due = due (Some k);
-        each = lists_same _ _ _ (λ q. same_due now c.retry c.asks (slot_at (at (Some k)) q)) lists;
+        due = all_due (Some k);
+        each = lists_same _ _ _ (λ q. same_due now c.delay c.retry c.asks (slot_at (at (Some k)) q)) lists;
         answers = (
           λ none. some (ap (take longest_ask) none),
           record { pairs = pairs; asked = record { count = count; covers = covers; narrow = narrow; packing = packs; asks = asks_at learnt k slots room new _ now counts }; spells = spells },
         );
       }
 
-  pub needs_room : (cursor : Option ℕ) (pairs : List Pair) (count : ℕ) → Lists (due cursor) (λ q. is_due_slot now c.retry c.asks (slot_at (at cursor) q)) →
-      take longest_ask (due cursor) ≢ [] → IsPacking (take longest_ask (due cursor)) pairs count → AnyNeedsRoom c (window_of learnt (at cursor)) now (12 + 4 * length pairs)
-  needs_room None pairs count lists some packs = absurd (some refl)
+  pub needs_room : (cursor : Option ℕ) (pairs : List Pair) (count : ℕ) → AreDue cursor →
+      take longest_ask (due cursor) ≢ [] → IsPacking (take longest_ask (due cursor)) pairs count → AnyNeedsRoomMost c (window_of learnt (at cursor)) now most (12 + 4 * length pairs)
+  needs_room None pairs count lists some packs = absurd (some (ap (take longest_ask) (take_none most)))
   needs_room (Some k) pairs count lists some packs =
       record {
-        due = due (Some k);
-        each = lists_same _ _ _ (λ q. same_due now c.retry c.asks (slot_at (at (Some k)) q)) lists;
+        due = all_due (Some k);
+        each = lists_same _ _ _ (λ q. same_due now c.delay c.retry c.asks (slot_at (at (Some k)) q)) lists;
         some = λ none. some (ap (take longest_ask) none);
         pairs = pairs;
         count = count;
@@ -199,13 +225,12 @@ module _ (slots : List Slot) (room : ℕ) (c : Config) (now : ℕ) (learnt : Opt
         octets = refl;
       }
 
-  pub asks_none : (cursor : Option ℕ) → Lists (due cursor) (λ q. is_due_slot now c.retry c.asks (slot_at (at cursor) q)) → due cursor ≡ [] →
-      AsksAny c (window_of learnt (at cursor)) now None (window_of learnt (at cursor))
+  pub asks_none : (cursor : Option ℕ) → AreDue cursor → due cursor ≡ [] → AsksMost c (window_of learnt (at cursor)) now most None (window_of learnt (at cursor))
   asks_none None lists none = (refl, refl)
   asks_none (Some k) lists none =
       record {
-        due = due (Some k);
-        each = lists_same _ _ _ (λ q. same_due now c.retry c.asks (slot_at (at (Some k)) q)) lists;
+        due = all_due (Some k);
+        each = lists_same _ _ _ (λ q. same_due now c.delay c.retry c.asks (slot_at (at (Some k)) q)) lists;
         answers = (none, refl);
       }
 

@@ -5,6 +5,9 @@ pub mod Whichever
 pub mod Rising
 pub mod Asking
 pub mod SameAsks
+pub mod FewAsks
+pub mod Wakes
+pub mod Beginning
 pub mod Found
 pub mod Numbered
 pub mod Limits

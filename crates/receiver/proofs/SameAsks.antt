@@ -8,7 +8,7 @@ use Rattle.fbwire.specs.Packing.{IsPacking, IsNarrow}
 use Rattle.stores.specs.Asking.{longest_ask}
 use Rattle.receiver.specs.Config.{Config}
 use Rattle.receiver.specs.Window.{ReceiverState}
-use Rattle.receiver.specs.Asks.{is_due, Asks, AsksFor, AsksAny, AnswersAsk}
+use Rattle.receiver.specs.Asks.{is_due, Asks, AsksFor, AsksAny, AsksMost, AnswersAsk}
 use Rattle.receiver.proofs.Rising.{rising_take, one_list}
 use Rattle.receiver.proofs.SameWindows.{Same, same_window, one_such}
 
@@ -41,8 +41,14 @@ module _ (one_packing : OnePacking) (c : Config) (now : ℕ) (v w : Option Recei
       let same = one_ask_for old due x y rising a b in
       (ap (λ (d : ArrayVec ℕ). Some d) same.0, same.1)
 
+  pub one_ask_most : (old : Option ReceiverState) (most : ℕ) (r s : Option (ArrayVec ℕ)) → AsksMost c old now most r v → AsksMost c old now most s w → Same r s v w
+  one_ask_most None most r s (none, is) (none', is') = (none ∙ sym none', is ∙ sym is')
+  one_ask_most (Some old) most r s a b =
+      one_answer old (take most a.due) r s (rising_take most a.due a.each.rises) a.answers
+      (subst (λ (due : List ℕ). AnswersAsk c old (take most due) now s w) (one_list b.due a.due (λ k. is_due now c.delay c.retry c.asks (old.missing k)) b.each a.each) b.answers)
+
   pub one_ask : (old : Option ReceiverState) (r s : Option (ArrayVec ℕ)) → AsksAny c old now r v → AsksAny c old now s w → Same r s v w
   one_ask None r s (none, is) (none', is') = (none ∙ sym none', is ∙ sym is')
   one_ask (Some old) r s a b =
       one_answer old a.due r s a.each.rises a.answers
-      (subst (λ (due : List ℕ). AnswersAsk c old due now s w) (one_list b.due a.due (λ k. is_due now c.retry c.asks (old.missing k)) b.each a.each) b.answers)
+      (subst (λ (due : List ℕ). AnswersAsk c old due now s w) (one_list b.due a.due (λ k. is_due now c.delay c.retry c.asks (old.missing k)) b.each a.each) b.answers)

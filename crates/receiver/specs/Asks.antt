@@ -14,11 +14,13 @@ use Rattle.stores.specs.Asking.{longest_ask}
 use Rattle.receiver.specs.Config.{Config}
 use Rattle.receiver.specs.Window.{Missed, ReceiverState}
 
--- Whether a place is due to be asked for: it is missing, it was asked for fewer times than the limit, and
--- never so far or last so long ago. A moment before the last ask is never long enough after it.
-abbrev pub is_due : (now retry limit : ℕ) → Option Missed → Bool
-is_due now retry limit (Some m) = nat_lt m.asks limit && (m.asks == 0 || (nat_le m.last now && nat_le retry (now - m.last)))
-is_due now retry limit None = false
+-- Whether a place is due to be asked for: it is missing, it was asked for fewer times than the limit, and where it never was,
+-- the delay is over since it was noticed, else `retry` is since the last ask. No delay is over at every moment. (The stores
+-- say a span since a moment as a difference, this as a sum: a mistake in one of the two shows.)
+abbrev pub is_due : (now delay retry limit : ℕ) → Option Missed → Bool
+is_due now delay retry limit (Some m) =
+    nat_lt m.asks limit && (if m.asks == 0 then delay == 0 || nat_le (m.noticed + delay) now else nat_le (m.last + retry) now)
+is_due now delay retry limit None = false
 
 abbrev pub is_missed : Option Missed → Bool
 is_missed (Some m) = true
@@ -60,13 +62,23 @@ AnswersAsk c old due now None new = (due ≡ []) × (new ≡ Some old)
 -- an ask at a started receiver
 pub record AsksDue (c : Config) (old : ReceiverState) (now : ℕ) (answer : Option (ArrayVec ℕ)) (new : Option ReceiverState) : Type 0 where
   pub due : List ℕ
-  pub each : Lists due (λ k. is_due now c.retry c.asks (old.missing k))
+  pub each : Lists due (λ k. is_due now c.delay c.retry c.asks (old.missing k))
   pub answers : AnswersAsk c old due now answer new
 
 -- A receiver that took nothing asks for nothing.
 abbrev pub AsksAny : Config → Option ReceiverState → (now : ℕ) → Option (ArrayVec ℕ) → Option ReceiverState → Type 0
 AsksAny c None now answer new = (answer ≡ None) × (new ≡ None)
 AsksAny c (Some old) now answer new = AsksDue c old now answer new
+
+-- An ask for at most so many places: the first so many of the due ones are asked for as if no other were due.
+pub record AsksDueMost (c : Config) (old : ReceiverState) (now most : ℕ) (answer : Option (ArrayVec ℕ)) (new : Option ReceiverState) : Type 0 where
+  pub due : List ℕ
+  pub each : Lists due (λ k. is_due now c.delay c.retry c.asks (old.missing k))
+  pub answers : AnswersAsk c old (take most due) now answer new
+
+abbrev pub AsksMost : Config → Option ReceiverState → (now most : ℕ) → Option (ArrayVec ℕ) → Option ReceiverState → Type 0
+AsksMost c None now most answer new = (answer ≡ None) × (new ≡ None)
+AsksMost c (Some old) now most answer new = AsksDueMost c old now most answer new
 
 -- the answer of an ask to the front of a slice, with the octets there as its datagram
 abbrev pub asked_into : List ℕ → Option ℕ → Option (ArrayVec ℕ)
@@ -81,7 +93,7 @@ WritesAsk out None out' = out' ≡ out
 -- An ask would be due whose NACK has so many octets.
 pub record NeedsRoom (c : Config) (old : ReceiverState) (now needed : ℕ) : Type 0 where
   pub due : List ℕ
-  pub each : Lists due (λ k. is_due now c.retry c.asks (old.missing k))
+  pub each : Lists due (λ k. is_due now c.delay c.retry c.asks (old.missing k))
   pub some : due ≢ []
   pub pairs : List Pair
   pub count : ℕ
@@ -92,11 +104,29 @@ abbrev pub AnyNeedsRoom : Config → Option ReceiverState → (now needed : ℕ)
 AnyNeedsRoom c None now needed = ⊥
 AnyNeedsRoom c (Some old) now needed = NeedsRoom c old now needed
 
+-- An ask for at most so many places would be due whose NACK has so many octets.
+pub record NeedsRoomMost (c : Config) (old : ReceiverState) (now most needed : ℕ) : Type 0 where
+  pub due : List ℕ
+  pub each : Lists due (λ k. is_due now c.delay c.retry c.asks (old.missing k))
+  pub some : take most due ≢ []
+  pub pairs : List Pair
+  pub count : ℕ
+  pub packing : IsPacking (take longest_ask (take most due)) pairs count
+  pub octets : needed ≡ 12 + 4 * length pairs
+
+abbrev pub AnyNeedsRoomMost : Config → Option ReceiverState → (now most needed : ℕ) → Type 0
+AnyNeedsRoomMost c None now most needed = ⊥
+AnyNeedsRoomMost c (Some old) now most needed = NeedsRoomMost c old now most needed
+
 -- What is answered where the octets go to the front of a slice: an ask as any other, or none, and where the slice has no
 -- room for it, how many octets it has; then nothing changes.
 abbrev pub AsksInto : Config → Option ReceiverState → (now : ℕ) → List ℕ → Result (Option ℕ) TooShort → List ℕ → Option ReceiverState → Type 0
 AsksInto c old now out (Ok answer) out' new = AsksAny c old now (asked_into out' answer) new × WritesAsk out answer out'
 AsksInto c old now out (Err short) out' new = AnyNeedsRoom c old now short.needed × (length out < short.needed) × (out' ≡ out) × (new ≡ old)
+
+abbrev pub AsksMostInto : Config → Option ReceiverState → (now most : ℕ) → List ℕ → Result (Option ℕ) TooShort → List ℕ → Option ReceiverState → Type 0
+AsksMostInto c old now most out (Ok answer) out' new = AsksMost c old now most (asked_into out' answer) new × WritesAsk out answer out'
+AsksMostInto c old now most out (Err short) out' new = AnyNeedsRoomMost c old now most short.needed × (length out < short.needed) × (out' ≡ out) × (new ≡ old)
 
 -- how many places are missing
 pub record CountsMissed (old : ReceiverState) (count : ℕ) : Type 0 where

@@ -21,9 +21,9 @@ pub record CountsAsks (old new : Span) (places : List ℕ) (now : ℕ) : Type 0 
   pub slots : (q : ℕ) → slot_at new q ≡ (if is_among places q then option_map (asked_slot now) (slot_at old q) else slot_at old q)
   pub capacity : new.capacity ≡ old.capacity
 
--- The first due places, and the pairs that cover a beginning of them.
-pub record FindsPairs (s : Span) (now retry limit : ℕ) (first : List ℕ) (pairs : List Pair) (count : ℕ) : Type 0 where
-  pub due : first ≡ take longest_ask (due_places s now retry limit)
+-- The first due places, at most so many, and the pairs that cover a beginning of them.
+pub record FindsPairs (s : Span) (now delay retry limit most : ℕ) (first : List ℕ) (pairs : List Pair) (count : ℕ) : Type 0 where
+  pub due : first ≡ take longest_ask (take most (due_places s now delay retry limit))
   pub some : first ≢ []
   pub covers : 0 < count
   pub writes : 0 < length pairs
@@ -33,6 +33,6 @@ pub record FindsPairs (s : Span) (now retry limit : ℕ) (first : List ℕ) (pai
   pub askable : CanAllBeAsked s (take count first)
 
 -- there are pairs exactly where a place is due
-abbrev pub AnswersPairs : Span → (now retry limit : ℕ) → Option (ArrayVec Pair × ℕ) → (first : List ℕ) → Type 0
-AnswersPairs s now retry limit None first = due_places s now retry limit ≡ []
-AnswersPairs s now retry limit (Some found) first = FindsPairs s now retry limit first found.0.items found.1
+abbrev pub AnswersPairs : Span → (now delay retry limit most : ℕ) → Option (ArrayVec Pair × ℕ) → (first : List ℕ) → Type 0
+AnswersPairs s now delay retry limit most None first = take most (due_places s now delay retry limit) ≡ []
+AnswersPairs s now delay retry limit most (Some found) first = FindsPairs s now delay retry limit most first found.0.items found.1

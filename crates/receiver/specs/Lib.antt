@@ -9,3 +9,4 @@ pub mod Fault
 pub mod Finding
 pub mod Order
 pub mod Peeking
+pub mod Waking

@@ -1,7 +1,7 @@
 -- A receiver as its callers see it.
 use Rattle.std.specs.Prelude.{◌≡◌, ℕ, Option, None}
-use Rattle.stores.specs.Span.{Span, IsSpan}
-use Rattle.receiver.specs.Config.{Config}
+use Rattle.stores.specs.Span.{Span, IsSpan, begun_span, empty_span}
+use Rattle.receiver.specs.Config.{Config, timed}
 use Rattle.receiver.specs.Window.{ReceiverState, window_of}
 use Rattle.receiver.specs.Asks.{AsksWithin}
 
@@ -28,3 +28,13 @@ pub record Stays (old new : Receiving) : Type 0 where
   pub config : new.config ≡ old.config
   pub capacity : new.span.capacity ≡ old.span.capacity
   pub is_span : IsSpan new.span
+
+-- the receiver that began at a place before it took any, one that took nothing over the same memory, and one with other times
+abbrev pub begun : Receiving → (first : ℕ) → Receiving
+begun r first = record { config = r.config; span = begun_span first r.span.capacity; learnt = None }
+
+abbrev pub restarted : Receiving → Receiving
+restarted r = record { config = r.config; span = empty_span r.span.capacity; learnt = None }
+
+abbrev pub with_times : Receiving → (patience delay retry : ℕ) → Receiving
+with_times r patience delay retry = record { config = timed r.config patience delay retry; span = r.span; learnt = r.learnt }

@@ -69,6 +69,14 @@ pub record Starts (place : ℕ) (content : Content) (new : ReceiverState) : Type
   pub missing : (k : ℕ) → new.missing k ≡ None
   pub learnt : new.learnt ≡ None
 
+-- A receiver that begins at a place before it took any: it is the next one to play, and all places from it on are still to come.
+pub record Begins (first : ℕ) (new : ReceiverState) : Type 0 where
+  pub cursor : new.cursor ≡ first
+  pub highest : new.highest + 1 ≡ first
+  pub held : (k : ℕ) → new.held k ≡ None
+  pub missing : (k : ℕ) → new.missing k ≡ None
+  pub learnt : new.learnt ≡ None
+
 -- A later place that is taken. What falls below the cursor is dropped for good; the places that lie
 -- between the highest so far and this one are noticed to be missing.
 pub record Takes (room : ℕ) (old : ReceiverState) (place : ℕ) (content : Content) (now : ℕ) (new : ReceiverState) : Type 0 where

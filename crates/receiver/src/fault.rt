@@ -78,3 +78,16 @@ impl From<PutFault> for ReceiveFault {
         ReceiveFault::Put(fault)
     }
 }
+
+/// Why a receiver does not begin: refusal 40, it has started already.
+#[derive(Clone, Copy, Debug, PartialEq, Eq, Hash)]
+pub struct HasStarted;
+
+impl HasStarted {
+    /// Its refusal number.
+    pub fn number(&self) -> u8
+        ensures { result ≡ 40 }
+    {
+        40
+    }
+}

@@ -1,6 +1,6 @@
 //! Laws on what a receiver answers. These functions compute nothing: their contracts are the laws, for callers that
 //! speak of places and contents alone.
-ghost use Rattle.std.specs.Prelude.{◌≡◌, ℕ, List, Option, Result, Ok};
+ghost use Rattle.std.specs.Prelude.{◌≡◌, ◌↔◌, ℕ, ◌+◌, ◌-◌, ◌^◌, ◌<◌, ◌≤◌, ◌==◌, ◌||◌, ◌&&◌, nat_lt, nat_le, List, Option, Some, None, Result, Ok};
 ghost use Rattle.std.specs.Option.{option_map};
 ghost use Rattle.std.specs.Result.{result_err};
 ghost use Rattle.arrayvec.specs.ArrayVec.{ArrayVec};
@@ -13,8 +13,9 @@ ghost use Rattle.receiver.specs.declared.answer.Taken.{Taken};
 ghost use Rattle.receiver.specs.declared.answer.Played.{Played};
 ghost use Rattle.receiver.specs.declared.fault.ReceiveFault.{ReceiveFault};
 ghost use Rattle.receiver.specs.Config.{Config};
-ghost use Rattle.receiver.specs.Window.{ReceiverState, PlaysAny};
-ghost use Rattle.receiver.specs.Asks.{AsksAny};
+ghost use Rattle.receiver.specs.Window.{Missed, ReceiverState, Begins, PlaysAny};
+ghost use Rattle.stores.specs.Asking.{longest_ask};
+ghost use Rattle.receiver.specs.Asks.{is_due, AsksAny, AsksMost};
 ghost use Rattle.receiver.specs.Streams.{stream_of, source_of};
 ghost use Rattle.receiver.specs.Fault.{receive_number};
 ghost use Rattle.receiver.specs.Order.{hearing_order};
@@ -81,4 +82,32 @@ pub fn asking_is_determined()
         → AsksAny c old now r v → AsksAny c old now s w → (r ≡ s) × (v ≡ w) }
 {
     packing_is_determined();
+}
+
+/// What an ask for at most so many places is to an ask.
+pub fn asking_most_is_asking()
+    // The moment, the number and the receiver before determine the answer, and the receiver after.
+    ensures one { (c : Config) (now most : ℕ) (old : Option ReceiverState) (r s : Option (ArrayVec ℕ)) (v w : Option ReceiverState)
+        → AsksMost c old now most r v → AsksMost c old now most s w → (r ≡ s) × (v ≡ w) }
+    // For as many places as one ask looks at, or more, it is that ask.
+    ensures all { (c : Config) (now most : ℕ) (old : Option ReceiverState) (answer : Option (ArrayVec ℕ)) (new : Option ReceiverState)
+        → longest_ask ≤ most → AsksMost c old now most answer new ↔ AsksAny c old now answer new }
+{
+    packing_is_determined();
+}
+
+/// Without a delay, whenever a missing place was noticed, its first ask is due at once: the rule of a receiver that knows of
+/// no delay, said by differences of moments.
+pub fn no_delay_is_none()
+    ensures { (now retry limit : ℕ) (m : Missed)
+        → is_due now 0 retry limit (Some m) ≡ (nat_lt m.asks limit && (m.asks == 0 || (nat_le m.last now && nat_le retry (now - m.last)))) }
+{}
+
+/// A receiver that began at the number of the first packet and takes that packet is one that the packet started.
+pub fn beginning_is_a_start()
+    ensures { (room seq now : ℕ) (content : Content) (begun : ReceiverState) (answer : Result Taken ReceiveFault) (new : Option ReceiverState)
+        → 0 < room → seq < 2 ^ 16 → Begins (65536 + seq) begun
+        → TakesNumber room Stream.Media (Some begun) seq content now answer new → TakesNumber room Stream.Media None seq content now answer new }
+{
+    near_is_determined();
 }

@@ -1,36 +1,33 @@
 //! The receiving end.
-ghost use Rattle.std.specs.Prelude.{◌≡◌, ◌↔◌, ◌^◌, ◌<◌, ◌≤◌, ℕ, length, Option, None, IsNone, IsSome, IsTrue, IsOk, Ok, OnOk, OnErr};
+ghost use Rattle.std.specs.Prelude.{◌≡◌, ◌↔◌, ◌+◌, ◌^◌, ◌<◌, ◌≤◌, false, ℕ, length, Option, None, IsNone, IsSomeAnd, IsTrue, IsOk, Ok, Err, OnOk, OnErr};
 ghost use Rattle.std.specs.Option.{option_map};
 ghost use Rattle.std.specs.Result.{result_err};
-ghost use Rattle.std.specs.List.Sorted.{IsStrictlyIncreasing};
 ghost use Rattle.rtpwire.specs.FirstOf.{FirstOf};
 ghost use Rattle.stores.specs.ByPlace.{slot_at};
-ghost use Rattle.stores.specs.Asking.{due_places, is_due};
-ghost use Rattle.stores.specs.PlaceLists.{Lists};
-ghost use Rattle.receiver.specs.Config.{Config};
-ghost use Rattle.receiver.specs.Asks.{AsksAny, AsksInto, CountsMissing, AsksWithin};
-ghost use Rattle.receiver.specs.Counted.{CanAllBeAsked, CountsAsks, AnswersPairs};
-ghost use Rattle.receiver.specs.Window.{window_of, missed_in, PlaysAny};
+ghost use Rattle.stores.specs.Asking.{has_come};
+ghost use Rattle.receiver.specs.Asks.{AsksAny, AsksInto, AsksMost, AsksMostInto, CountsMissing, AsksWithin};
+ghost use Rattle.receiver.specs.Waking.{IsQuiet};
+ghost use Rattle.receiver.specs.Window.{window_of, missed_in, Begins, PlaysAny};
 ghost use Rattle.receiver.specs.Streams.{source_of};
 ghost use Rattle.receiver.specs.Heard.{Hears, WasAsked};
 ghost use Rattle.receiver.specs.Fault.{receive_number};
 ghost use Rattle.receiver.specs.Order.{hearing_order};
 ghost use Rattle.receiver.specs.Finding.{FindsPlace};
-ghost use Rattle.receiver.specs.Receiver.{state_of, IsUnlearnt, Stays};
+ghost use Rattle.receiver.specs.Receiver.{state_of, begun, restarted, with_times, IsUnlearnt, Stays};
 ghost use Rattle.receiver.specs.Peeking.{played_of, is_ready, play_of, passed, receiver_passed};
 ghost use Rattle.stores.specs.Lent.{slot_of};
 
 use crate::answer::{Peeked, Played, Taken};
+use crate::asks::{ask_all, ask_all_into, ask_from, ask_into_from, missing_in};
 use crate::config::ReceiverConfig;
-use crate::fault::ReceiveFault;
+use crate::fault::{HasStarted, ReceiveFault};
 use crate::laws::hearing_is_in_order;
 use crate::stream::{Stream, carried_in, known_source, stream_of};
-use arrayvec::ArrayVec;
-use fbwire::{Pair, pack, write_nack, write_nack_into};
+use crate::waking::moment_of;
 use places::{Place, near};
-use rtpwire::{Carried, Datagram, RtpView, TooShort};
+use rtpwire::{Carried, ConfigFault, Datagram, RtpView, TooShort};
 use std::marker::Model;
-use stores::{LONGEST_ASK, Slot, SlotRef, Window, window_by_place};
+use stores::{Slot, SlotRef, Window, window_by_place};
 
 /// The receiving end of a session, over any window: it takes packets in any order, asks for those that are
 /// missing, and plays their contents in the order of their places. No call takes memory: the window has it from the start.
@@ -165,7 +162,18 @@ impl<W: Window> Receiver<W> {
         ensures none { IsNone result → self.new ≡ self.old }
         ensures stays { Stays self.old self.new }
     {
-        ask_from(&mut self.window, &self.config, now)
+        ask_all(&mut self.window, &self.config, now)
+    }
+
+    /// The same for at most `most` places: the first so many of those that are due, as if no other were. After an outage
+    /// thousands of places are due, more than the way back may carry at once; the others stay due. One ask names at most
+    /// [`LONGEST_ASK`](stores::LONGEST_ASK) places, so with as many or more it is [`ask`](Receiver::ask), and with 0 nothing is asked.
+    pub fn ask_most(&mut self, now: u64, most: usize) -> Option<Datagram>
+        ensures asks { AsksMost self.old.config (state_of self.old) now most result (state_of self.new) }
+        ensures none { IsNone result → self.new ≡ self.old }
+        ensures stays { Stays self.old self.new }
+    {
+        ask_from(&mut self.window, &self.config, now, most)
     }
 
     /// The same with the NACK at the front of a slice, whose rest stays. The answer is how many octets it has: twelve, and
@@ -179,7 +187,84 @@ impl<W: Window> Receiver<W> {
         ensures none { result ≡ Ok None → self.new ≡ self.old }
         ensures stays { Stays self.old self.new }
     {
-        ask_into_from(&mut self.window, &self.config, now, out)
+        ask_all_into(&mut self.window, &self.config, now, out)
+    }
+
+    /// [`ask_most`](Receiver::ask_most) with the NACK at the front of a slice, as [`ask_into`](Receiver::ask_into) has it.
+    ///
+    /// `TooShort` (75): the slice is shorter than this NACK; one of 268 octets never is. The slice and the receiver are then as they were.
+    pub fn ask_most_into(
+        &mut self,
+        out: &mut [u8],
+        now: u64,
+        most: usize,
+    ) -> Result<Option<usize>, TooShort>
+        ensures asks { AsksMostInto self.old.config (state_of self.old) now most out.old result out.new (state_of self.new) }
+        ensures enough { 268 ≤ length out.old → IsOk result }
+        ensures err { OnErr result (self.new ≡ self.old) }
+        ensures none { result ≡ Ok None → self.new ≡ self.old }
+        ensures stays { Stays self.old self.new }
+    {
+        ask_into_from(&mut self.window, &self.config, now, most, out)
+    }
+
+    /// The moment to call again, in milliseconds, if nothing comes until then: the least from which on
+    /// [`play`](Receiver::play) would not wait or [`ask`](Receiver::ask) would ask. At each moment one of the two does
+    /// something exactly if that moment has come. It may lie in the past, or be 0: then one of them does something at once. None:
+    /// neither will ever do anything, until something is taken.
+    pub fn next_moment(&self) -> Option<u64>
+        ensures { (m : ℕ) → m < 2 ^ 64 → IsQuiet self.now.config (state_of self.now) m ↔ (has_come result m ≡ false) }
+    {
+        moment_of(&self.window, &self.config)
+    }
+
+    /// Begins at a sequence number that was signalled for the first packet, before any came: the next place to play is the
+    /// one a packet with that number would have started the receiver at, one cycle of 65536 above the number. So what is lost
+    /// or late of the first packets is missing as any other, as soon as a later one is taken.
+    ///
+    /// `HasStarted` (40): a packet was taken already, or it began before. The receiver is then as it was.
+    pub fn begin(&mut self, first: u16) -> Result<(), HasStarted>
+        ensures begins { OnOk result (IsSomeAnd (state_of self.new) (Begins (65536 + first))) }
+        ensures ok { OnOk result (self.new ≡ begun self.old (65536 + first)) }
+        ensures unstarted { IsOk result ↔ (state_of self.old ≡ None) }
+        ensures err { OnErr result (self.new ≡ self.old) }
+        ensures stays { Stays self.old self.new }
+    {
+        if self.window.begin(Place::first(first)) {
+            Ok(())
+        } else {
+            Err(HasStarted)
+        }
+    }
+
+    /// Makes it a receiver that took nothing, as [`new`](Receiver::new) does, with the same memory: what it held and missed
+    /// is gone, and an SSRC that it learnt too.
+    pub fn restart(&mut self)
+        ensures { self.new ≡ restarted self.old }
+    {
+        self.window.clear();
+        self.learnt = None;
+    }
+
+    /// Sets its times, in milliseconds: the patience, the delay before the first ask, and how long until a place is asked
+    /// for again. So they can follow a round-trip time. When places were noticed and last asked for stays as it is.
+    ///
+    /// `BadLimit` (53): `retry` is 0. The receiver is then as it was.
+    pub fn set_times(&mut self, patience: u64, delay: u64, retry: u64) -> Result<(), ConfigFault>
+        ensures sets { OnOk result (self.new ≡ with_times self.old patience delay retry) }
+        ensures succeeds { IsOk result ↔ (0 < retry) }
+        ensures bad_limit { OnErr result (result ≡ Err ConfigFault.BadLimit) }
+        ensures err { OnErr result (self.new ≡ self.old) }
+    {
+        self.config = self.config.with_times(patience, delay, retry)?;
+        Ok(())
+    }
+
+    /// How it works now.
+    pub fn config(&self) -> ReceiverConfig
+        ensures { result ≡ self.now.config }
+    {
+        self.config
     }
 
     /// How many places are missing: from the next one to play up to the highest one that was taken, those that
@@ -314,110 +399,4 @@ fn pass_from<W: Window>(window: &mut W, patience: u64, now: u64)
         Peeked::Wait => {}
         Peeked::Packet(..) | Peeked::Gap(_) => window.drop_front(),
     }
-}
-
-/// Asks for the due places of a window.
-fn ask_from<W: Window>(window: &mut W, config: &ReceiverConfig, now: u64) -> Option<Datagram>
-    ensures asks { (learnt : Option ℕ) → AsksAny config.now (window_of learnt (W.meaning window.old)) now result (window_of learnt (W.meaning window.new)) }
-    ensures none { IsNone result → W.meaning window.new ≡ W.meaning window.old }
-    ensures started { (W.meaning window.new).cursor ≡ (W.meaning window.old).cursor }
-    ensures capacity { (W.meaning window.new).capacity ≡ (W.meaning window.old).capacity }
-{
-    if asks_nothing(window) {
-        return None;
-    }
-    let mut due = ArrayVec::new();
-    let Some((pairs, count)) = pairs_due(window, config, now, &mut due) else {
-        return None;
-    };
-    count_asks(window, &due.as_slice()[..count], now);
-    let session = config.session();
-    Some(write_nack(
-        session.receiver_ssrc(),
-        session.media_ssrc(),
-        pairs.as_slice(),
-    ))
-}
-
-/// Asks for the due places of a window, at the front of a slice.
-fn ask_into_from<W: Window>(
-    window: &mut W,
-    config: &ReceiverConfig,
-    now: u64,
-    out: &mut [u8],
-) -> Result<Option<usize>, TooShort>
-    ensures asks { (learnt : Option ℕ) → AsksInto config.now (window_of learnt (W.meaning window.old)) now out.old result out.new (window_of learnt (W.meaning window.new)) }
-    ensures enough { 268 ≤ length out.old → IsOk result }
-    ensures err { OnErr result (W.meaning window.new ≡ W.meaning window.old) }
-    ensures none { result ≡ Ok None → W.meaning window.new ≡ W.meaning window.old }
-    ensures started { (W.meaning window.new).cursor ≡ (W.meaning window.old).cursor }
-    ensures capacity { (W.meaning window.new).capacity ≡ (W.meaning window.old).capacity }
-{
-    if asks_nothing(window) {
-        return Ok(None);
-    }
-    let mut due = ArrayVec::new();
-    let Some((pairs, count)) = pairs_due(window, config, now, &mut due) else {
-        return Ok(None);
-    };
-    let needed = 12 + 4 * pairs.len();
-    if out.len() < needed {
-        return Err(TooShort { needed });
-    }
-    let covered = &due.as_slice()[..count];
-    count_asks(window, covered, now);
-    let session = config.session();
-    let reporter = session.receiver_ssrc();
-    let media = session.media_ssrc();
-    let len = write_nack_into(out, reporter, media, pairs.as_slice());
-    Ok(Some(len))
-}
-
-/// Whether nothing is missing, so that there is nothing to ask for. Most asks end here, before room for the due places
-/// is blanked.
-fn asks_nothing<W: Window>(window: &W) -> bool
-    ensures { IsTrue result → (c : Config) (now : ℕ) (learnt : Option ℕ) → AsksAny c (window_of learnt (W.meaning window.now)) now None (window_of learnt (W.meaning window.now)) }
-{
-    window_by_place();
-    window.missing() == 0
-}
-
-/// Finds the due places of a window, at most as many as one ask looks at, and packs them: the pairs, and how many places
-/// they cover. None where no place is due.
-fn pairs_due<W: Window>(
-    window: &W,
-    config: &ReceiverConfig,
-    now: u64,
-    due: &mut ArrayVec<Place, LONGEST_ASK>,
-) -> Option<(ArrayVec<Pair, 64>, usize)>
-    ensures found { AnswersPairs (W.meaning window.now) now config.now.retry config.now.asks result due.new.items }
-    ensures lists { Lists (due_places (W.meaning window.now) now config.now.retry config.now.asks)
-        (λ q. is_due now config.now.retry config.now.asks (slot_at (W.meaning window.now) q)) }
-{
-    window_by_place();
-    window.due_into(due, now, config.retry(), config.asks());
-    if due.is_empty() {
-        return None;
-    }
-    Some(pack(due.as_slice()))
-}
-
-/// Counts one ask for each of these places, made at the moment `now`.
-fn count_asks<W: Window>(window: &mut W, places: &[Place], now: u64)
-    requires rising { IsStrictlyIncreasing places.now }
-    requires askable { CanAllBeAsked (W.meaning window.old) places.now }
-    ensures { CountsAsks (W.meaning window.old) (W.meaning window.new) places.now now }
-{
-    window_by_place();
-    for place in places {
-        window.count_ask(*place, now);
-    }
-}
-
-/// How many places of a window are missing.
-fn missing_in<W: Window>(window: &W) -> usize
-    ensures { (learnt : Option ℕ) → CountsMissing (window_of learnt (W.meaning window.now)) result }
-{
-    window_by_place();
-    window.missing()
 }

@@ -26,8 +26,8 @@ lists_from : (test : Option Slot → Bool) (cursor : Option ℕ) (slots : List S
 lists_from test None slots capacity none = record { rises = λ i l. absurd (omega arith); each = λ q. sym none }
 lists_from test (Some k) slots capacity none = lists_passing (λ q. test (slot_from k slots q)) k (length slots) (λ q passes. inside test k slots q none passes)
 
-pub lists_due : (s : Span) (now retry limit : ℕ) → Lists (due_places s now retry limit) (λ q. is_due now retry limit (slot_at s q))
-lists_due s now retry limit = lists_from (is_due now retry limit) s.cursor s.slots s.capacity refl
+pub lists_due : (s : Span) (now delay retry limit : ℕ) → Lists (due_places s now delay retry limit) (λ q. is_due now delay retry limit (slot_at s q))
+lists_due s now delay retry limit = lists_from (is_due now delay retry limit) s.cursor s.slots s.capacity refl
 
 pub lists_missing : (s : Span) → Lists (missing_places s) (λ q. is_missing (slot_at s q))
 lists_missing s = lists_from is_missing s.cursor s.slots s.capacity refl
@@ -41,10 +41,10 @@ places_between s k h is started highest =
     rw started (ap (range_with_len k) count)
 
 -- a place that is due may be asked for
-pub due_may_be_asked : (now retry limit : ℕ) (o : Option Slot) → limit < 256 → is_due now retry limit o ≡ true → IsSomeAnd o CanBeAsked
-due_may_be_asked now retry limit None l e = absurd (cc)
-due_may_be_asked now retry limit (Some (Held content)) l e = absurd (cc)
-due_may_be_asked now retry limit (Some (Missing noticed asks last)) l e = grind (arith, nat_tests)
+pub due_may_be_asked : (now delay retry limit : ℕ) (o : Option Slot) → limit < 256 → is_due now delay retry limit o ≡ true → IsSomeAnd o CanBeAsked
+due_may_be_asked now delay retry limit None l e = absurd (cc)
+due_may_be_asked now delay retry limit (Some (Held content)) l e = absurd (cc)
+due_may_be_asked now delay retry limit (Some (Missing noticed asks last)) l e = grind (arith, nat_tests)
 
 -- what an ask leaves at each index, where the slot at i is the one asked for
 asked_at_index : (slots : List Slot) (i j now : ℕ) (slot : Slot) → slice_get slots i ≡ Some slot →

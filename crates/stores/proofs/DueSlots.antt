@@ -11,20 +11,20 @@ use Rattle.stores.proofs.SlotPlaces.{slot_from_index, slot_of_index}
 use Rattle.stores.proofs.Passing.{passing, passing_yes, passing_no, passing_none}
 
 -- a slot that is not missing is not due
-not_due : (now retry limit : ℕ) (o : Option Slot) → is_missing o ≡ false → is_due now retry limit o ≡ false
-not_due now retry limit None e = refl
-not_due now retry limit (Some (Held content)) e = refl
-not_due now retry limit (Some (Missing noticed asks last)) e = absurd (cc)
+pub not_due : (now delay retry limit : ℕ) (o : Option Slot) → is_missing o ≡ false → is_due now delay retry limit o ≡ false
+not_due now delay retry limit None e = refl
+not_due now delay retry limit (Some (Held content)) e = refl
+not_due now delay retry limit (Some (Missing noticed asks last)) e = absurd (cc)
 
-module _ (now retry limit k : ℕ) (slots : List Slot) where
+module _ (now delay retry limit k : ℕ) (slots : List Slot) where
   abbrev due_at : ℕ → Bool
-  due_at q = is_due now retry limit (slot_from k slots q)
+  due_at q = is_due now delay retry limit (slot_from k slots q)
 
   unfoldable pub due_left : ℕ → List ℕ
   due_left i = passing due_at (k + i) (length slots - i)
 
   -- all are left at first
-  pub due_left_whole : due_left 0 ≡ filter (λ q. is_due now retry limit (slot_from k slots q)) (range_with_len k (length slots))
+  pub due_left_whole : due_left 0 ≡ filter (λ q. is_due now delay retry limit (slot_from k slots q)) (range_with_len k (length slots))
   unfolding due_left
   due_left_whole =
       let first : k + 0 ≡ k = omega arith in
@@ -32,28 +32,28 @@ module _ (now retry limit k : ℕ) (slots : List Slot) where
       rw (first, all) refl
 
   -- the slot at an index is due, or it isn't
-  pub due_left_yes : (i : ℕ) (slot : Slot) → i < length slots → slot ≡ get_or slots i slot → is_due now retry limit (Some slot) ≡ true → due_left i ≡ (k + i) ∷ due_left (i + 1)
+  pub due_left_yes : (i : ℕ) (slot : Slot) → i < length slots → slot ≡ get_or slots i slot → is_due now delay retry limit (Some slot) ≡ true → due_left i ≡ (k + i) ∷ due_left (i + 1)
   unfolding due_left
-  due_left_yes i slot l e due = passing_yes due_at (k + i) (k + (i + 1)) (length slots - i) (length slots - (i + 1)) (omega arith) (omega arith) (ap (is_due now retry limit) (slot_of_index k slots i slot l e) ∙ due)
+  due_left_yes i slot l e due = passing_yes due_at (k + i) (k + (i + 1)) (length slots - i) (length slots - (i + 1)) (omega arith) (omega arith) (ap (is_due now delay retry limit) (slot_of_index k slots i slot l e) ∙ due)
 
-  pub due_left_no : (i : ℕ) (slot : Slot) → i < length slots → slot ≡ get_or slots i slot → is_due now retry limit (Some slot) ≡ false → due_left i ≡ due_left (i + 1)
+  pub due_left_no : (i : ℕ) (slot : Slot) → i < length slots → slot ≡ get_or slots i slot → is_due now delay retry limit (Some slot) ≡ false → due_left i ≡ due_left (i + 1)
   unfolding due_left
-  due_left_no i slot l e due = passing_no due_at (k + i) (k + (i + 1)) (length slots - i) (length slots - (i + 1)) (omega arith) (omega arith) (ap (is_due now retry limit) (slot_of_index k slots i slot l e) ∙ due)
+  due_left_no i slot l e due = passing_no due_at (k + i) (k + (i + 1)) (length slots - i) (length slots - (i + 1)) (omega arith) (omega arith) (ap (is_due now delay retry limit) (slot_of_index k slots i slot l e) ∙ due)
 
   -- none is left at the end
   pub due_left_end : (i : ℕ) → length slots ≤ i → due_left i ≡ []
   unfolding due_left
   due_left_end i end = passing_none due_at (k + i) (length slots - i) (omega arith)
 
-  due_left_pass : (i : ℕ) → i < length slots → is_due now retry limit (slice_get slots i) ≡ false → due_left i ≡ due_left (i + 1)
+  due_left_pass : (i : ℕ) → i < length slots → is_due now delay retry limit (slice_get slots i) ≡ false → due_left i ≡ due_left (i + 1)
   unfolding due_left
-  due_left_pass i l off = passing_no due_at (k + i) (k + (i + 1)) (length slots - i) (length slots - (i + 1)) (omega arith) (omega arith) (ap (is_due now retry limit) (slot_from_index k slots i) ∙ off)
+  due_left_pass i l off = passing_no due_at (k + i) (k + (i + 1)) (length slots - i) (length slots - (i + 1)) (omega arith) (omega arith) (ap (is_due now delay retry limit) (slot_from_index k slots i) ∙ off)
 
   -- slots that are not missing are passed
   pub due_left_skip : (i n j : ℕ) → j ≡ i + n → j ≤ length slots → ((p : ℕ) → i ≤ p → p < j → is_missing (slice_get slots p) ≡ false) → due_left i ≡ due_left j
   due_left_skip i zero j at within none = ap due_left (omega arith)
   due_left_skip i (suc n) j at within none =
-      due_left_pass i (omega arith) (not_due now retry limit (slice_get slots i) (none i (omega arith) (omega arith))) ∙ due_left_skip (i + 1) n j (omega arith) within (λ p l u. none p (omega arith) u)
+      due_left_pass i (omega arith) (not_due now delay retry limit (slice_get slots i) (none i (omega arith) (omega arith))) ∙ due_left_skip (i + 1) n j (omega arith) within (λ p l u. none p (omega arith) u)
 
   -- none is left where no slot is missing from there on
   pub due_left_none : (i : ℕ) → ((p : ℕ) → i ≤ p → p < length slots → is_missing (slice_get slots p) ≡ false) → due_left i ≡ []
@@ -72,8 +72,8 @@ found_all limit xs rest all e none fits =
     sym (ap (take limit) (sym whole) ∙ take_all limit xs fits)
 
 -- the due places of a window and those of its slots, as they were read
-pub due_of_slots : (cursor : Option ℕ) (slots read : List Slot) (capacity now retry limit k : ℕ) (xs : List ℕ) → cursor ≡ Some k → read ≡ slots →
-    xs ≡ take longest_ask (filter (λ q. is_due now retry limit (slot_from k read q)) (range_with_len k (length read))) →
-    xs ≡ take longest_ask (due_places (record { cursor = cursor; slots = slots; capacity = capacity }) now retry limit)
-due_of_slots cursor slots read capacity now retry limit k xs started same e =
-    rw started (e ∙ ap (λ ys. take longest_ask (filter (λ q. is_due now retry limit (slot_from k ys q)) (range_with_len k (length ys)))) same)
+pub due_of_slots : (cursor : Option ℕ) (slots read : List Slot) (capacity now delay retry limit k : ℕ) (xs : List ℕ) → cursor ≡ Some k → read ≡ slots →
+    xs ≡ take longest_ask (filter (λ q. is_due now delay retry limit (slot_from k read q)) (range_with_len k (length read))) →
+    xs ≡ take longest_ask (due_places (record { cursor = cursor; slots = slots; capacity = capacity }) now delay retry limit)
+due_of_slots cursor slots read capacity now delay retry limit k xs started same e =
+    rw started (e ∙ ap (λ ys. take longest_ask (filter (λ q. is_due now delay retry limit (slot_from k ys q)) (range_with_len k (length ys)))) same)

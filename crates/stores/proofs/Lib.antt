@@ -4,6 +4,7 @@ pub mod PutPlaces
 pub mod ReadPlaces
 pub mod Passing
 pub mod DueSlots
+pub mod NextDue
 pub mod Counting
 pub mod Listed
 pub mod AskPlaces

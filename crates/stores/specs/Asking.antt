@@ -1,5 +1,5 @@
 -- Which missing places are due to be asked for, how many places are missing, and what an ask leaves.
-use Rattle.std.specs.Prelude.{◌≡◌, ℕ, ◌+◌, ◌-◌, ◌<◌, ◌==◌, ◌||◌, ◌&&◌, Bool, true, false, List, [], length, slice_get, slice_set, Option, Some, None, if◌then◌else◌, nat_lt, nat_le}
+use Rattle.std.specs.Prelude.{◌≡◌, ◌↔◌, ℕ, zero, suc, ◌+◌, ◌-◌, ◌^◌, ◌<◌, ◌==◌, ◌||◌, ◌&&◌, Bool, true, false, List, [], length, slice_get, slice_set, Option, Some, None, if◌then◌else◌, nat_lt, nat_le}
 use Rattle.std.specs.List.{filter, range_with_len}
 use Rattle.std.specs.Option.{option_map}
 use Rattle.stores.specs.declared.slot.Slot.{Slot}
@@ -11,13 +11,22 @@ use Rattle.stores.specs.ByPlace.{slot_at}
 abbrev pub longest_ask : ℕ
 longest_ask = 1088
 
--- Whether a place with this slot is due at the moment `now`: it is missing, it was asked for fewer times than
--- the limit, and never so far or last so long ago. A moment before the last ask is never long enough after it.
-abbrev pub is_due : (now retry limit : ℕ) → Option Slot → Bool
-is_due now retry limit (Some (Missing noticed asks last)) =
-    nat_lt asks limit && (asks == 0 || (nat_le last now && nat_le retry (now - last)))
-is_due now retry limit (Some (Held content)) = false
-is_due now retry limit None = false
+-- Whether so long has passed since a moment. A moment before it is never long enough after it.
+abbrev pub is_long_since : (moment span now : ℕ) → Bool
+is_long_since moment span now = nat_le moment now && nat_le span (now - moment)
+
+-- Whether it is time to ask for a missing place: where it never was asked for, once the delay has passed since it was noticed,
+-- else once `retry` has since the last ask. With no delay any moment is time for the first ask.
+abbrev pub is_time : (now delay retry noticed asks last : ℕ) → Bool
+is_time now delay retry noticed asks last =
+    if asks == 0 then delay == 0 || is_long_since noticed delay now else is_long_since last retry now
+
+-- Whether a place with this slot is due at the moment `now`: it is missing, it was asked for fewer times than the limit, and
+-- it is time.
+abbrev pub is_due : (now delay retry limit : ℕ) → Option Slot → Bool
+is_due now delay retry limit (Some (Missing noticed asks last)) = nat_lt asks limit && is_time now delay retry noticed asks last
+is_due now delay retry limit (Some (Held content)) = false
+is_due now delay retry limit None = false
 
 -- whether a place with this slot is missing
 abbrev pub is_missing : Option Slot → Bool
@@ -34,8 +43,22 @@ abbrev pub places_of : Span → List ℕ
 places_of s = places_from s.cursor (length s.slots)
 
 -- the due places in rising order
-abbrev pub due_places : (s : Span) (now retry limit : ℕ) → List ℕ
-due_places s now retry limit = filter (λ q. is_due now retry limit (slot_at s q)) (places_of s)
+abbrev pub due_places : (s : Span) (now delay retry limit : ℕ) → List ℕ
+due_places s now delay retry limit = filter (λ q. is_due now delay retry limit (slot_at s q)) (places_of s)
+
+-- whether a moment has come; None never does
+abbrev pub has_come : Option ℕ → (now : ℕ) → Bool
+has_come None now = false
+has_come (Some moment) now = nat_le moment now
+
+-- whether one of the numbers below n passes a test
+abbrev pub any_below : (ℕ → Bool) → ℕ → Bool
+any_below test zero = false
+any_below test (suc n) = any_below test n || test n
+
+-- A place is due at each moment from this one on, and at none before it. With None there is no such moment of 64 bits.
+abbrev pub IsNextDue : Span → (delay retry limit : ℕ) → Option ℕ → Type 0
+IsNextDue s delay retry limit moment = (now : ℕ) → now < 2 ^ 64 → (due_places s now delay retry limit ≡ []) ↔ (has_come moment now ≡ false)
 
 -- the missing places in rising order
 abbrev pub missing_places : Span → List ℕ

@@ -1,5 +1,5 @@
 -- What a window is to its callers: a cursor, and one slot for each place from the cursor to the highest.
-use Rattle.std.specs.Prelude.{◌≡◌, ℕ, ◌+◌, ◌-◌, ◌^◌, ◌<◌, ◌≤◌, List, [], length, drop, slice_get, Option, None}
+use Rattle.std.specs.Prelude.{◌≡◌, ℕ, ◌+◌, ◌-◌, ◌^◌, ◌<◌, ◌≤◌, List, [], length, drop, slice_get, Option, Some, None}
 use Rattle.std.specs.Option.{ForSome, ForNone, option_map}
 use Rattle.stores.specs.declared.slot.Slot.{Slot}
 
@@ -8,8 +8,8 @@ pub record Span : Type 0 where
   pub slots : List Slot  -- that of the cursor first
   pub capacity : ℕ  -- how many slots there may be
 
--- What is true of every window. Places lie below 2 ^ 48. A started window that has no slots had some, so
--- its cursor is not 0: it is one past the highest place.
+-- What is true of every window. Places lie below 2 ^ 48. A started window that has no slots had some, or began above place 0,
+-- so its cursor is not 0: it is one past the highest place.
 pub record IsSpan (s : Span) : Type 0 where
   pub room : length s.slots ≤ s.capacity
   pub nonzero : 0 < s.capacity
@@ -20,6 +20,10 @@ pub record IsSpan (s : Span) : Type 0 where
 -- a window before its first place
 abbrev pub empty_span : ℕ → Span
 empty_span capacity = record { cursor = None; slots = []; capacity = capacity }
+
+-- a window that began at the place p, before its first place
+abbrev pub begun_span : (p capacity : ℕ) → Span
+begun_span p capacity = record { cursor = Some p; slots = []; capacity = capacity }
 
 -- the highest place that was taken: the one before the place that follows the slots
 abbrev pub highest_of : Span → Option ℕ

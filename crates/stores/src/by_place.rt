@@ -42,12 +42,12 @@ pub fn window_by_place()
     // The places of a window, and which of them are due and missing.
     ensures places { (s : Span) (k h : ℕ) → IsSpan s → s.cursor ≡ Some k → highest_of s ≡ Some h →
         places_of s ≡ range_with_len k (h + 1 - k) }
-    ensures due { (s : Span) (now retry asks : ℕ) →
-        Lists (due_places s now retry asks) (λ q. is_due now retry asks (slot_at s q)) }
+    ensures due { (s : Span) (now delay retry asks : ℕ) →
+        Lists (due_places s now delay retry asks) (λ q. is_due now delay retry asks (slot_at s q)) }
     ensures missing { (s : Span) → Lists (missing_places s) (λ q. is_missing (slot_at s q)) }
 
     // A due place may be asked for, and what `count_ask` leaves.
-    ensures askable { (now retry asks : ℕ) (o : Option Slot) → asks < 2 ^ 8 → is_due now retry asks o ≡ true →
+    ensures askable { (now delay retry asks : ℕ) (o : Option Slot) → asks < 2 ^ 8 → is_due now delay retry asks o ≡ true →
         IsSomeAnd o CanBeAsked }
     ensures count_ask { (old new : Span) (place now : ℕ) → IsSomeAnd (slot_at old place) CanBeAsked →
         new ≡ asked old place now → CountsAsk old new place now }

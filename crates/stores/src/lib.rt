@@ -2,6 +2,7 @@
 //! what a sender keeps to repeat, behind the trait [`History`].
 #![tactic(auto)]
 
+mod ask_rule;
 mod bits;
 mod by_place;
 mod cell;
@@ -20,6 +21,7 @@ mod slots;
 mod spot;
 mod window;
 
+pub use ask_rule::{AskRule, sooner};
 pub use by_place::{history_by_place, window_by_place};
 pub use entry::HistoryEntry;
 pub use history::History;

@@ -1,11 +1,12 @@
-ghost use Rattle.std.specs.Prelude.{◌≡◌, ℕ, ◌+◌, ◌^◌, ◌<◌, ◌≤◌, ◌++◌, length, take, drop, replicate, vec_len, Some};
+ghost use Rattle.std.specs.Prelude.{◌≡◌, ℕ, ◌+◌, ◌^◌, ◌<◌, ◌≤◌, ◌++◌, length, take, drop, replicate, slice_get, vec_len, Some};
 ghost use Rattle.std.specs.Vec.{vec_capacity};
 ghost use Rattle.std.specs.Option.{ForSome, ForNone};
 ghost use Rattle.std.specs.List.{filter, range_with_len};
 ghost use Rattle.stores.specs.Put.{noticed_at};
 ghost use Rattle.stores.specs.ByPlace.{slot_from};
-ghost use Rattle.stores.specs.Asking.{longest_ask, is_due, is_missing};
+ghost use Rattle.stores.specs.Asking.{longest_ask, is_due, is_missing, has_come, any_below};
 
+use crate::ask_rule::{AskRule, sooner};
 use crate::memory::OutOfMemory;
 use crate::slot::{PutFault, Slot, SlotRef};
 use crate::spot::{Spot, spot_of};
@@ -46,6 +47,19 @@ impl Window for ListWindow {
             slots,
             capacity,
         })
+    }
+
+    fn begin(&mut self, first: Place) -> bool {
+        if self.cursor.is_some() || first.value() == 0 {
+            return false;
+        }
+        self.cursor = Some(first.value());
+        true
+    }
+
+    fn clear(&mut self) {
+        self.cursor = None;
+        self.slots.clear();
     }
 
     fn cursor(&self) -> Option<u64> {
@@ -110,11 +124,15 @@ impl Window for ListWindow {
         Some(SlotRef::of_slot(self.slots.get(index as usize)?))
     }
 
-    fn due_into(&self, due: &mut ArrayVec<Place, LONGEST_ASK>, now: u64, retry: u64, asks: u8) {
+    fn due_into(&self, due: &mut ArrayVec<Place, LONGEST_ASK>, now: u64, rule: AskRule) {
         match self.cursor {
             None => due.clear(),
-            Some(cursor) => due_from(due, cursor, self.slots.as_slice(), now, retry, asks),
+            Some(cursor) => due_from(due, cursor, self.slots.as_slice(), now, rule),
         }
+    }
+
+    fn next_due(&self, rule: AskRule) -> Option<u64> {
+        next_among(self.slots.as_slice(), rule)
     }
 
     fn count_ask(&mut self, place: Place, now: u64) {
@@ -139,21 +157,31 @@ fn due_from(
     first: u64,
     slots: &[Slot],
     now: u64,
-    retry: u64,
-    asks: u8,
+    rule: AskRule,
 )
     requires { first + length slots.now ≤ 2 ^ 48 }
-    ensures { due.new.items ≡ take longest_ask (filter (λ q. is_due now retry asks (slot_from first slots.now q)) (range_with_len first (length slots.now))) }
+    ensures { due.new.items ≡ take longest_ask (filter (λ q. is_due now rule.delay rule.retry rule.asks (slot_from first slots.now q)) (range_with_len first (length slots.now))) }
 {
     due.clear();
     for (index, slot) in slots.iter().enumerate() {
         if due.is_full() {
             return;
         }
-        if slot.is_due(now, retry, asks) {
+        if slot.is_due(now, rule) {
             due.push(Place::new(first + index as u64).unwrap());
         }
     }
+}
+
+/// The least moment from which on one of these slots is due.
+fn next_among(slots: &[Slot], rule: AskRule) -> Option<u64>
+    ensures { (now : ℕ) → now < 2 ^ 64 → has_come result now ≡ any_below (λ i. is_due now rule.delay rule.retry rule.asks (slice_get slots.now i)) (length slots.now) }
+{
+    let mut least = None;
+    for slot in slots {
+        least = sooner(least, SlotRef::of_slot(slot).due_from(rule));
+    }
+    least
 }
 
 /// How many of these slots are missing.

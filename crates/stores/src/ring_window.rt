@@ -1,12 +1,13 @@
-ghost use Rattle.std.specs.Prelude.{◌≡◌, ℕ, ◌+◌, ◌/◌, ◌^◌, ◌<◌, ◌≤◌, ◌++◌, length, take, drop, replicate};
+ghost use Rattle.std.specs.Prelude.{◌≡◌, ℕ, ◌+◌, ◌/◌, ◌^◌, ◌<◌, ◌≤◌, ◌++◌, length, take, drop, replicate, slice_get};
 ghost use Rattle.std.specs.List.{filter, range_with_len};
 ghost use Rattle.std.specs.Option.{ForSome, ForNone};
 ghost use Rattle.stores.specs.Put.{noticed_at};
 ghost use Rattle.stores.specs.ByPlace.{slot_from};
-ghost use Rattle.stores.specs.Asking.{longest_ask, is_due, is_missing};
+ghost use Rattle.stores.specs.Asking.{longest_ask, is_due, is_missing, has_come, any_below};
 ghost use Rattle.stores.specs.Bits.{bits_of, IsSetOf};
 ghost use Rattle.stores.specs.Index.{IsIndex};
 
+use crate::ask_rule::{AskRule, sooner};
 use crate::bits::Bits;
 use crate::memory::OutOfMemory;
 use crate::slot::{PutFault, Slot, SlotRef};
@@ -54,6 +55,20 @@ impl Window for RingWindow {
             slots,
             missing,
         })
+    }
+
+    fn begin(&mut self, first: Place) -> bool {
+        if self.cursor.is_some() || first.value() == 0 {
+            return false;
+        }
+        self.cursor = Some(first.value());
+        true
+    }
+
+    fn clear(&mut self) {
+        self.cursor = None;
+        self.slots.clear();
+        self.missing.clear_all();
     }
 
     fn cursor(&self) -> Option<u64> {
@@ -118,11 +133,15 @@ impl Window for RingWindow {
         self.slots.get(index as usize)
     }
 
-    fn due_into(&self, due: &mut ArrayVec<Place, LONGEST_ASK>, now: u64, retry: u64, asks: u8) {
+    fn due_into(&self, due: &mut ArrayVec<Place, LONGEST_ASK>, now: u64, rule: AskRule) {
         match self.cursor {
             None => due.clear(),
-            Some(cursor) => due_among(due, cursor, &self.slots, &self.missing, now, retry, asks),
+            Some(cursor) => due_among(due, cursor, &self.slots, &self.missing, now, rule),
         }
+    }
+
+    fn next_due(&self, rule: AskRule) -> Option<u64> {
+        next_among(&self.slots, &self.missing, rule)
     }
 
     fn count_ask(&mut self, place: Place, now: u64) {
@@ -181,13 +200,12 @@ fn due_among(
     slots: &Slots,
     missing: &Bits,
     now: u64,
-    retry: u64,
-    asks: u8,
+    rule: AskRule,
 )
     requires places { first + length slots.now.items ≤ 2 ^ 48 }
     requires room { length slots.now.items < bits_of missing.now.words.items }
     requires index { IsSetOf is_missing missing.now.words.items missing.now.front slots.now.items }
-    ensures { due.new.items ≡ take longest_ask (filter (λ q. is_due now retry asks (slot_from first slots.now.items q)) (range_with_len first (length slots.now.items))) }
+    ensures { due.new.items ≡ take longest_ask (filter (λ q. is_due now rule.delay rule.retry rule.asks (slot_from first slots.now.items q)) (range_with_len first (length slots.now.items))) }
 {
     due.clear();
     let mut index = 0;
@@ -195,9 +213,24 @@ fn due_among(
         if due.is_full() {
             return;
         }
-        if slots.get(next).unwrap().is_due(now, retry, asks) {
+        if slots.get(next).unwrap().is_due(now, rule) {
             due.push(Place::new(first + next as u64).unwrap());
         }
         index = next + 1;
     }
+}
+
+/// The least moment from which on one of these slots is due.
+fn next_among(slots: &Slots, missing: &Bits, rule: AskRule) -> Option<u64>
+    requires room { length slots.now.items < bits_of missing.now.words.items }
+    requires index { IsSetOf is_missing missing.now.words.items missing.now.front slots.now.items }
+    ensures { (now : ℕ) → now < 2 ^ 64 → has_come result now ≡ any_below (λ i. is_due now rule.delay rule.retry rule.asks (slice_get slots.now.items i)) (length slots.now.items) }
+{
+    let mut least = None;
+    let mut index = 0;
+    while let Some(next) = missing.first(index) {
+        least = sooner(least, slots.get(next).unwrap().due_from(rule));
+        index = next + 1;
+    }
+    least
 }

@@ -1,5 +1,6 @@
 ghost use Rattle.std.specs.Prelude.{◌≡◌};
 
+use crate::ask_rule::{AskRule, is_time, time_from};
 use rtpwire::Content;
 
 /// What a window keeps for one place.
@@ -29,12 +30,11 @@ impl Slot {
         matches!(self, Slot::Missing { .. })
     }
 
-    /// Whether its place is to be asked for at the moment `now`: it is missing, was asked for fewer than
-    /// `limit` times, and either never or last at least `retry` milliseconds before `now`.
-    pub fn is_due(&self, now: u64, retry: u64, limit: u8) -> bool
-        ensures { result ≡ is_due now retry limit (Some self.now) }
+    /// Whether its place is to be asked for at the moment `now`: it is missing, and due by the rule.
+    pub fn is_due(&self, now: u64, rule: AskRule) -> bool
+        ensures { result ≡ is_due now rule.delay rule.retry rule.asks (Some self.now) }
     {
-        SlotRef::of_slot(self).is_due(now, retry, limit)
+        SlotRef::of_slot(self).is_due(now, rule)
     }
 }
 
@@ -49,8 +49,8 @@ pub enum SlotRef<'a> {
 }
 
 impl<'a> SlotRef<'a> {
-    ghost use Rattle.std.specs.Prelude.{◌≡◌, Some};
-    ghost use Rattle.stores.specs.Asking.{is_due};
+    ghost use Rattle.std.specs.Prelude.{◌≡◌, ◌^◌, ◌<◌, ℕ, Some};
+    ghost use Rattle.stores.specs.Asking.{is_due, has_come};
     ghost use Rattle.stores.specs.Lent.{slot_of};
 
     /// The slot, lent.
@@ -72,14 +72,31 @@ impl<'a> SlotRef<'a> {
     }
 
     /// Whether its place is to be asked for, as [`Slot::is_due`] says.
-    pub fn is_due(&self, now: u64, retry: u64, limit: u8) -> bool
-        ensures { result ≡ is_due now retry limit (Some (slot_of self.now)) }
+    pub fn is_due(&self, now: u64, rule: AskRule) -> bool
+        ensures { result ≡ is_due now rule.delay rule.retry rule.asks (Some (slot_of self.now)) }
     {
         match self {
             SlotRef::Held(_) => false,
-            SlotRef::Missing { asks, last, .. } => {
-                *asks < limit && (*asks == 0 || (now >= *last && now - *last >= retry))
-            }
+            SlotRef::Missing {
+                noticed,
+                asks,
+                last,
+            } => { *asks < rule.asks && is_time(now, rule, *noticed, *asks, *last) }
+        }
+    }
+
+    /// The moment from which on its place is to be asked for, where nothing changes until then. None where there is no
+    /// such moment.
+    pub fn due_from(&self, rule: AskRule) -> Option<u64>
+        ensures { (now : ℕ) → now < 2 ^ 64 → is_due now rule.delay rule.retry rule.asks (Some (slot_of self.now)) ≡ has_come result now }
+    {
+        match self {
+            SlotRef::Missing {
+                noticed,
+                asks,
+                last,
+            } if *asks < rule.asks => time_from(rule, *noticed, *asks, *last),
+            _ => None,
         }
     }
 

@@ -1,11 +1,12 @@
-ghost use Rattle.std.specs.Prelude.{◌≡◌, ◌<◌, ◌≤◌, length, take, IfOk, IsSome, IsSomeAnd, OnOk, OnErr};
+ghost use Rattle.std.specs.Prelude.{◌≡◌, ◌↔◌, ◌<◌, ◌≤◌, length, take, None, IfOk, IsSome, IsSomeAnd, IsTrue, OnOk, OnErr, if◌then◌else◌};
 ghost use Rattle.std.specs.Option.{option_map};
 ghost use Rattle.stores.specs.Lent.{slot_of};
-ghost use Rattle.stores.specs.Span.{Span, IsSpan, empty_span, highest_of, front_of, without_front};
+ghost use Rattle.stores.specs.Span.{Span, IsSpan, empty_span, begun_span, highest_of, front_of, without_front};
 ghost use Rattle.stores.specs.Put.{put_answer, after_put};
 ghost use Rattle.stores.specs.ByPlace.{slot_at};
-ghost use Rattle.stores.specs.Asking.{longest_ask, due_places, missing_places, CanBeAsked, asked};
+ghost use Rattle.stores.specs.Asking.{longest_ask, due_places, missing_places, IsNextDue, CanBeAsked, asked};
 
+use crate::ask_rule::AskRule;
 use crate::memory::OutOfMemory;
 use crate::slot::{PutFault, Slot, SlotRef};
 use arrayvec::ArrayVec;
@@ -36,6 +37,17 @@ pub trait Window: Drop {
         requires nonzero { 0 < capacity }
         requires limit { capacity ≤ 8192 }
         ensures { IfOk result (λ window. meaning window ≡ empty_span capacity) };
+
+    /// Starts a window that was not started at this place, before any put, and answers whether it did: the next place to
+    /// play is this one, and the highest so far the one before it. So a put above it makes the places from this one on
+    /// missing. It does not begin at place 0, which has none before it.
+    fn begin(&mut self, first: Place) -> bool
+        ensures answer { IsTrue result ↔ (((meaning self.old).cursor ≡ None) × (0 < first)) }
+        ensures begins { meaning self.new ≡ (if result then begun_span first (meaning self.old).capacity else meaning self.old) };
+
+    /// Makes it a window that was not started, with the same memory.
+    fn clear(&mut self)
+        ensures { meaning self.new ≡ empty_span (meaning self.old).capacity };
 
     /// The next place to play, as a number up to 2^48: past the last place there is no further one. None
     /// before the first `put`.
@@ -97,16 +109,27 @@ pub trait Window: Drop {
     /// A place is due that is missing, was asked for fewer than `asks` times, and either was never asked for
     /// or last at least `retry` milliseconds before `now`.
     fn due(&self, now: u64, retry: u64, asks: u8) -> ArrayVec<Place, LONGEST_ASK>
-        ensures { result.items ≡ take longest_ask (due_places (meaning self.now) now retry asks) }
+        ensures { result.items ≡ take longest_ask (due_places (meaning self.now) now 0 retry asks) }
     {
         let mut due = ArrayVec::new();
-        self.due_into(&mut due, now, retry, asks);
+        let rule = AskRule {
+            delay: 0,
+            retry,
+            asks,
+        };
+        self.due_into(&mut due, now, rule);
         due
     }
 
-    /// The same places in a vector that the caller lends, in the place of what it held.
-    fn due_into(&self, due: &mut ArrayVec<Place, LONGEST_ASK>, now: u64, retry: u64, asks: u8)
-        ensures { due.new.items ≡ take longest_ask (due_places (meaning self.now) now retry asks) };
+    /// The same places by a rule, which may have a delay before the first ask, in a vector that the caller lends, in the
+    /// place of what it held.
+    fn due_into(&self, due: &mut ArrayVec<Place, LONGEST_ASK>, now: u64, rule: AskRule)
+        ensures { due.new.items ≡ take longest_ask (due_places (meaning self.now) now rule.delay rule.retry rule.asks) };
+
+    /// The least moment from which on a place is due by the rule, where nothing changes until then: at every moment from
+    /// it on some place is due, and at none before it. None where there is no such moment.
+    fn next_due(&self, rule: AskRule) -> Option<u64>
+        ensures { IsNextDue (meaning self.now) rule.delay rule.retry rule.asks result };
 
     /// Counts one more ask for this place, made at the moment `now`. The place must be missing, and asked for
     /// fewer than 255 times so far.

@@ -119,7 +119,7 @@ module _ (laws : Laws) (c : Config) (met : IsConfig c) (now shift p q top : ℕ)
   asked_all : (s : WorldState) → NoneDue c.receiver s.receiver now → WhileAsking s → WhileRepairing s
   asked_all s none state =
       let nothing : NoneDue c.receiver (Some state.window) now = subst (λ (r : Option ReceiverState). NoneDue c.receiver r now) state.started none in
-      let not_due : IsDue c now q state.window → ⊥ = λ due. no_both (is_due now c.receiver.retry c.receiver.asks (state.window.missing q)) (nothing q) due in
+      let not_due : IsDue c now q state.window → ⊥ = λ due. no_both (is_due now c.receiver.delay c.receiver.retry c.receiver.asks (state.window.missing q)) (nothing q) due in
       record {
         window = state.window;
         started = state.started;

@@ -47,7 +47,7 @@ pub record IsMarked (p : ℕ) (s : SenderState) : Type 0 where
   pub marked : entry.marked ≡ true
 
 abbrev pub IsDue : Config → (now q : ℕ) → ReceiverState → Type 0
-IsDue c now q v = is_due now c.receiver.retry c.receiver.asks (v.missing q) ≡ true
+IsDue c now q v = is_due now c.receiver.delay c.receiver.retry c.receiver.asks (v.missing q) ≡ true
 
 -- it can be asked for, and then it will be marked
 pub record IsWanted (c : Config) (now p q : ℕ) (v : ReceiverState) (s : SenderState) : Type 0 where
@@ -68,19 +68,19 @@ not_above : (shift cycles p q highest cursor window history next m k : ℕ) → 
 not_above shift cycles p q highest cursor window history next m k whole at below short from under wide long last unsent same = omega arith
 
 -- asked for in this round, or before
-after_ask : (now : ℕ) (b : Bool) (retry limit : ℕ) (o : Option Missed) → (is_due now retry limit o ≡ true) ⊎ WasAsked o → let o' = (if b then option_map (asked_once now) o else o) in (is_due now retry limit o' ≡ true) ⊎ WasAsked o'
-after_ask now false retry limit o state = state
-after_ask now true retry limit None (inl due) = absurd cc
-after_ask now true retry limit None (inr asked) = absurd asked
-after_ask now true retry limit (Some m) state = inr (omega arith)
+after_ask : (now : ℕ) (b : Bool) (delay retry limit : ℕ) (o : Option Missed) → (is_due now delay retry limit o ≡ true) ⊎ WasAsked o → let o' = (if b then option_map (asked_once now) o else o) in (is_due now delay retry limit o' ≡ true) ⊎ WasAsked o'
+after_ask now false delay retry limit o state = state
+after_ask now true delay retry limit None (inl due) = absurd cc
+after_ask now true delay retry limit None (inr asked) = absurd asked
+after_ask now true delay retry limit (Some m) state = inr (omega arith)
 
-pub due_missing : (c : Config) (now : ℕ) (o : Option Missed) → is_due now c.receiver.retry c.receiver.asks o ≡ true → (m : Missed) × (o ≡ Some m)
+pub due_missing : (c : Config) (now : ℕ) (o : Option Missed) → is_due now c.receiver.delay c.receiver.retry c.receiver.asks o ≡ true → (m : Missed) × (o ≡ Some m)
 due_missing c now None due = absurd cc
 due_missing c now (Some m) due = (m, refl)
 
 module _ (c : Config) (met : IsConfig c) (now shift p q top : ℕ) where
   -- An ask, and its pairs at the sender.
-  module _ (v v' : ReceiverState) (s s' : SenderState) (due : List ℕ) (each : (k : ℕ) → is_among due k ≡ is_due now c.receiver.retry c.receiver.asks (v.missing k)) (pairs : List Pair) (r' : Option ReceiverState) (by : AsksBy v due now pairs r')
+  module _ (v v' : ReceiverState) (s s' : SenderState) (due : List ℕ) (each : (k : ℕ) → is_among due k ≡ is_due now c.receiver.delay c.receiver.retry c.receiver.asks (v.missing k)) (pairs : List Pair) (r' : Option ReceiverState) (by : AsksBy v due now pairs r')
       (asking : Asks v (take by.count (take longest_ask due)) now v') (count : ℕ) (marking : Marks c.repeats (Names pairs) s count s') (decided : (n : ℕ) → Names pairs n ⊎ (Names pairs n → ⊥)) (r : Ready c shift p q top v s) where
     abbrev covered : List ℕ
     covered = take by.count (take longest_ask due)
@@ -135,7 +135,7 @@ module _ (c : Config) (met : IsConfig c) (now shift p q top : ℕ) where
         inl (record { entry = after.after; kept = after.there; marked = after.now named w.allowed }))
         (λ (apart : is_among covered q ≡ false).
         inr (record {
-          due = ap (λ o. is_due now c.receiver.retry c.receiver.asks o) (asking.missing q ∙ ap (λ b. if b then option_map (asked_once now) (v.missing q) else v.missing q) apart) ∙ w.due;
+          due = ap (λ o. is_due now c.receiver.delay c.receiver.retry c.receiver.asks o) (asking.missing q ∙ ap (λ b. if b then option_map (asked_once now) (v.missing q) else v.missing q) apart) ∙ w.due;
           entry = after.after;
           kept = after.there;
           allowed = let h = w.allowed in let same = after.counted in omega (arith, h, same);
@@ -144,7 +144,7 @@ module _ (c : Config) (met : IsConfig c) (now shift p q top : ℕ) where
 
     pub asks_asked : IsDue c now q v ⊎ WasAsked (v.missing q) → IsDue c now q v' ⊎ WasAsked (v'.missing q)
     asks_asked state =
-        subst (λ (o : Option Missed). (is_due now c.receiver.retry c.receiver.asks o ≡ true) ⊎ WasAsked o) (sym (asking.missing q)) (after_ask now (is_among covered q) c.receiver.retry c.receiver.asks (v.missing q) state)
+        subst (λ (o : Option Missed). (is_due now c.receiver.delay c.receiver.retry c.receiver.asks o ≡ true) ⊎ WasAsked o) (sym (asking.missing q)) (after_ask now (is_among covered q) c.receiver.delay c.receiver.retry c.receiver.asks (v.missing q) state)
 
   -- A retransmission, at the sender.
   module _ (v : ReceiverState) (s s' : SenderState) (place : ℕ) (entry : HistoryEntry) (repair : Repairs s place entry s') (r : Ready c shift p q top v s) where

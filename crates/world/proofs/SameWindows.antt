@@ -139,4 +139,4 @@ module _ (one_packing : OnePacking) (now : ℕ) (m n : List Pair) (v w : Option 
   one_ask c None never b = absurd never
   one_ask c (Some old) a b =
       one_ask_by old a.due a.each.rises a.asked
-      (subst (λ (due : List ℕ). AsksBy old due now n w) (one_list b.due a.due (λ k. is_due now c.retry c.asks (old.missing k)) b.each a.each) b.asked)
+      (subst (λ (due : List ℕ). AsksBy old due now n w) (one_list b.due a.due (λ k. is_due now c.delay c.retry c.asks (old.missing k)) b.each a.each) b.asked)

@@ -65,15 +65,15 @@ unasked_less now true None = omega arith
 unasked_less now true (Some m) = let e = asked_now (m.asks + 1) now (omega arith) in omega (arith, e)
 
 -- a place that is due was not asked for at this moment
-due_unasked : (retry limit now asks last : ℕ) → 0 < retry → (nat_lt asks limit && (asks == 0 || (nat_le last now && nat_le retry (now - last)))) ≡ true →
+due_unasked : (delay retry limit now noticed asks last : ℕ) → 0 < retry → (nat_lt asks limit && (if asks == 0 then delay == 0 || nat_le (noticed + delay) now else nat_le (last + retry) now)) ≡ true →
     ◌≡◌ {A = ℕ} (if nat_lt 0 asks && last == now then 0 else 1) 1
-due_unasked retry limit now asks last some due = grind (arith, nat_tests)
+due_unasked delay retry limit now noticed asks last some due = grind (arith, nat_tests)
 
-unasked_falls : (c : Receiving) (now : ℕ) (o : Option Missed) → 0 < c.retry → is_due now c.retry c.asks o ≡ true → unasked now (after_ask true now o) < unasked now o
+unasked_falls : (c : Receiving) (now : ℕ) (o : Option Missed) → 0 < c.retry → is_due now c.delay c.retry c.asks o ≡ true → unasked now (after_ask true now o) < unasked now o
 unasked_falls c now None some due = absurd cc
 unasked_falls c now (Some m) some due =
     let e = asked_now (m.asks + 1) now (omega arith) in
-    let f = due_unasked c.retry c.asks now m.asks m.last some due in
+    let f = due_unasked c.delay c.retry c.asks now m.noticed m.asks m.last some due in
     omega (arith, e, f)
 
 -- how many places can still be asked for at this moment
@@ -93,12 +93,12 @@ first_among (x ∷ xs) some = (x, here x (is_among xs x))
     here : (n : ℕ) (b : Bool) → (n == n || b) ≡ true
     here n b = grind (arith, nat_tests)
 
-due_is_missing : (c : Receiving) (now : ℕ) (o : Option Missed) → is_due now c.retry c.asks o ≡ true → (m : Missed) × (o ≡ Some m)
+due_is_missing : (c : Receiving) (now : ℕ) (o : Option Missed) → is_due now c.delay c.retry c.asks o ≡ true → (m : Missed) × (o ≡ Some m)
 due_is_missing c now None due = absurd cc
 due_is_missing c now (Some m) due = (m, refl)
 
 asks_fall_at : (c : Config) (now : ℕ) (old w : ReceiverState) (covered : List ℕ) (k : ℕ) → old.cursor ≤ k → k < old.cursor + c.window → is_among covered k ≡ true →
-    0 < c.receiver.retry → is_due now c.receiver.retry c.receiver.asks (old.missing k) ≡ true → Asks old covered now w → asks_left c now (Some w) < asks_left c now (Some old)
+    0 < c.receiver.retry → is_due now c.receiver.delay c.receiver.retry c.receiver.asks (old.missing k) ≡ true → Asks old covered now w → asks_left c now (Some w) < asks_left c now (Some old)
 asks_fall_at c now old w covered k low high among some due asking =
     subst (λ n. total (λ j. unasked now (w.missing j)) n c.window < total (λ j. unasked now (old.missing j)) old.cursor c.window) (sym asking.cursor)
     (total_lt (λ j. unasked now (old.missing j)) (λ j. unasked now (w.missing j)) old.cursor c.window k

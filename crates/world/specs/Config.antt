@@ -2,7 +2,7 @@
 use Rattle.std.specs.Prelude.{ℕ, ◌^◌, ◌<◌, ◌≤◌}
 use Rattle.rtpwire.specs.Session.{HasSsrcs}
 use Rattle.sender.specs.Config.{Config as Sending, config as sender_config}
-use Rattle.receiver.specs.Config.{Config as Receiving, IsConfig as IsReceiving}
+use Rattle.receiver.specs.Config.{Config as Receiving, IsConfig as IsReceiving, delayed as delayed_receiver}
 
 pub record Config : Type 0 where
   pub receiver : Receiving  -- the session, and how the receiver waits and asks
@@ -22,6 +22,10 @@ config receiver first repair_first history window repeats =
       window = window;
       repeats = repeats;
     }
+
+-- the same world, but that its receiver has a delay
+abbrev pub delayed : Config → (delay : ℕ) → Config
+delayed c delay = record c { receiver = delayed_receiver c.receiver delay }
 
 -- how its sender works
 abbrev pub sending : Config → Sending

@@ -109,7 +109,7 @@ RefusesSend next Exhausted = 2 ^ 48 ≤ next
 -- an ask at a started receiver, by these pairs
 pub record AsksDueBy (c : Receiving) (old : ReceiverState) (now : ℕ) (pairs : List Pair) (new : Option ReceiverState) : Type 0 where
   pub due : List ℕ
-  pub each : Lists due (λ k. is_due now c.retry c.asks (old.missing k))
+  pub each : Lists due (λ k. is_due now c.delay c.retry c.asks (old.missing k))
   pub some : due ≢ []
   pub asked : AsksBy old due now pairs new
 
@@ -120,7 +120,7 @@ AsksAnyBy c (Some old) now pairs new = AsksDueBy c old now pairs new
 -- no place is due
 abbrev pub NoneDue : Receiving → Option ReceiverState → (now : ℕ) → Type 0
 NoneDue c None now = Unit {0}
-NoneDue c (Some old) now = (k : ℕ) → is_due now c.retry c.asks (old.missing k) ≡ false
+NoneDue c (Some old) now = (k : ℕ) → is_due now c.delay c.retry c.asks (old.missing k) ≡ false
 
 -- Whatever was injected at the sender, it marks for the numbers of some NACKs, or is as it was.
 abbrev pub MarksAnything : Config → PlaceWorld → Answer → PlaceWorld → Type 0

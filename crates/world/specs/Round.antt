@@ -65,7 +65,7 @@ pub record IsMendable (c : Config) (shift : ℕ) (s : WorldState) (place now : �
   pub started : s.receiver ≡ Some window
   pub own : ℕ
   pub at : own + shift ≡ place
-  pub due : is_due now c.receiver.retry c.receiver.asks (window.missing own) ≡ true
+  pub due : is_due now c.receiver.delay c.receiver.retry c.receiver.asks (window.missing own) ≡ true
   pub entry : HistoryEntry
   pub kept : s.sender.entries place ≡ Some entry
   pub allowed : entry.repeats < c.repeats

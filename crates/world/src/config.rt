@@ -1,6 +1,6 @@
 ghost use Rattle.std.specs.Prelude.{◌≡◌, ◌↔◌, ◌≤◌, IsTrue, IsOk, IfOk, OnErr};
 ghost use Rattle.receiver.specs.Config.{config as receiving, learning};
-ghost use Rattle.world.specs.Config.{IsConfig, config, sending};
+ghost use Rattle.world.specs.Config.{IsConfig, config, delayed, sending};
 
 use receiver::ReceiverConfig;
 use rtpwire::{ConfigFault, Session};
@@ -81,6 +81,17 @@ impl Config {
     {
         let receiver = ReceiverConfig::learning(session, patience, retry, asks)?;
         Config::checked(receiver, first, repair_first, history, window, repeats)
+    }
+
+    /// The same world, but that its receiver asks for a missing place for the first time once `delay` milliseconds have
+    /// passed since it was noticed. With 0, which is what a new configuration has, it asks at once.
+    pub fn with_delay(self, delay: u64) -> Config
+        ensures { result ≡ delayed self delay }
+    {
+        Config {
+            receiver: self.receiver.with_delay(delay),
+            ..self
+        }
     }
 
     /// Two ends with this receiver, if the limits are met.

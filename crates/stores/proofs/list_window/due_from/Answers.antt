@@ -6,7 +6,7 @@ use Rattle.stores.proofs.list_window.due_from.Goals.{then-is_due, else-is_due}
 use Rattle.stores.specs.Asking.{longest_ask}
 
 pub returns-then-is_full : goal.returns-then-is_full
-returns-then-is_full c = found_full longest_ask _ _ _ (c.loop-index.invariant.left ∙ due_left_whole _ _ _ _ _) (search rules)
+returns-then-is_full c = found_full longest_ask _ _ _ (c.loop-index.invariant.left ∙ due_left_whole _ _ _ _ _ _) (search rules)
 
 pub loop-index-preserved : goal.loop-index-preserved
 loop-index-preserved c = elim c.if-is_due.branch [
@@ -15,4 +15,4 @@ loop-index-preserved c = elim c.if-is_due.branch [
 ]
 
 pub returns : goal.returns
-returns c = found_all longest_ask _ _ _ (c.loop-index.invariant.left ∙ due_left_whole _ _ _ _ _) (due_left_end _ _ _ _ _ _ (search rules)) c.loop-index.invariant.fits
+returns c = found_all longest_ask _ _ _ (c.loop-index.invariant.left ∙ due_left_whole _ _ _ _ _ _) (due_left_end _ _ _ _ _ _ _ (search rules)) c.loop-index.invariant.fits

@@ -5,6 +5,6 @@ use Rattle.stores.specs.Asking.{longest_ask}
 
 abbrev pub invariant-loop-index : goal.invariant-loop-index
 invariant-loop-index l = record {
-  left : l.due.items ++ due_left l.now l.retry l.asks l.first l.slots l.index ≡ due_left l.now l.retry l.asks l.first l.slots 0;
+  left : l.due.items ++ due_left l.now l.rule.delay l.rule.retry l.rule.asks l.first l.slots l.index ≡ due_left l.now l.rule.delay l.rule.retry l.rule.asks l.first l.slots 0;
   fits : length l.due.items ≤ longest_ask;
 }

@@ -10,7 +10,7 @@ use Rattle.stores.specs.Asking.{longest_ask}
 use Rattle.stores.specs.Lent.{slot_of}
 
 pub returns-then-is_full : goal.returns-then-is_full
-returns-then-is_full c = found_full longest_ask _ _ _ (c.loop-next.invariant.left ∙ due_left_whole _ _ _ _ _) (search rules)
+returns-then-is_full c = found_full longest_ask _ _ _ (c.loop-next.invariant.left ∙ due_left_whole _ _ _ _ _ _) (search rules)
 
 pub unwrap-requires-then-is_due : goal.unwrap-requires-then-is_due
 unwrap-requires-then-is_due c =
@@ -30,10 +30,10 @@ loop-next-preserved c =
     let within = missing_within slots next (sym (c.requires.index next found.1) ∙ found.2) in
     let got : slice_get slots next ≡ Some (slot_of c.unwrap.result) = search rules in
     let slot = sym (get_or_from_slice_get slots next (slot_of c.unwrap.result) (slot_of c.unwrap.result) got) in
-    let skip = due_left_skip c.args.now c.args.retry c.args.asks c.args.first slots c.loop-next.index (next - c.loop-next.index) next (omega arith) (omega arith)
+    let skip = due_left_skip c.args.now c.args.rule.delay c.args.rule.retry c.args.rule.asks c.args.first slots c.loop-next.index (next - c.loop-next.index) next (omega arith) (omega arith)
     (λ p l u. sym (c.requires.index p (omega arith)) ∙ found.3 p l u) in
-    let yes = due_left_yes c.args.now c.args.retry c.args.asks c.args.first slots next (slot_of c.unwrap.result) within slot in
-    let no = due_left_no c.args.now c.args.retry c.args.asks c.args.first slots next (slot_of c.unwrap.result) within slot in
+    let yes = due_left_yes c.args.now c.args.rule.delay c.args.rule.retry c.args.rule.asks c.args.first slots next (slot_of c.unwrap.result) within slot in
+    let no = due_left_no c.args.now c.args.rule.delay c.args.rule.retry c.args.rule.asks c.args.first slots next (slot_of c.unwrap.result) within slot in
     elim c.if-is_due.branch [
       | then-is_due w ↦ grind (arith, common_steps, skip, yes)
       | else-is_due w ↦ grind (arith, common_steps, skip, no)
@@ -42,5 +42,5 @@ loop-next-preserved c =
 pub returns : goal.returns
 returns c =
     let none = c.in_default.ensures in
-    found_all longest_ask _ _ _ (c.loop-next.invariant.left ∙ due_left_whole _ _ _ _ _)
-    (due_left_none _ _ _ _ c.args.slots.now.items c.loop-next.index (λ p l u. sym (c.requires.index p (omega arith)) ∙ none p l (omega arith))) c.loop-next.invariant.fits
+    found_all longest_ask _ _ _ (c.loop-next.invariant.left ∙ due_left_whole _ _ _ _ _ _)
+    (due_left_none _ _ _ _ _ c.args.slots.now.items c.loop-next.index (λ p l u. sym (c.requires.index p (omega arith)) ∙ none p l (omega arith))) c.loop-next.invariant.fits

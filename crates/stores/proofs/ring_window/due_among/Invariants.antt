@@ -6,7 +6,7 @@ use Rattle.stores.proofs.ring_window.due_among.Given as goal
 
 abbrev pub invariant-loop-next : goal.invariant-loop-next
 invariant-loop-next l = record {
-  left : l.due.items ++ due_left l.now l.retry l.asks l.first l.slots.items l.index ≡ due_left l.now l.retry l.asks l.first l.slots.items 0;
+  left : l.due.items ++ due_left l.now l.rule.delay l.rule.retry l.rule.asks l.first l.slots.items l.index ≡ due_left l.now l.rule.delay l.rule.retry l.rule.asks l.first l.slots.items 0;
   fits : length l.due.items ≤ longest_ask;
   within : l.index ≤ bits_of l.missing.words.items;
 }

@@ -4,20 +4,20 @@ use Rattle.rtpwire.specs.Session.{Streams}
 use Rattle.fbwire.specs.Nack.{Nack, NackSpells}
 use Rattle.fbwire.specs.Packing.{IsPacking, IsNarrow}
 use Rattle.receiver.specs.Counted.{CountsAsks}
-use Rattle.receiver.specs.Asks.{AnyNeedsRoom}
+use Rattle.receiver.specs.Asks.{AnyNeedsRoomMost}
 use Rattle.receiver.specs.Window.{window_of}
 use Rattle.receiver.proofs.Asking.{asks_some, needs_room}
-use Rattle.receiver.proofs.receiver.ask_into_from.Goals as goal
+use Rattle.receiver.proofs.asks.ask_into_from.Goals as goal
 
 pub returns-then-out-needed-clause-asks : goal.returns-then-out-needed-clause-asks
 returns-then-out-needed-clause-asks g c = λ learnt.
     let s = g.W.Window.meaning c.args.window.now in
     let found = c.in-Some.ensures.found in
-    let room = needs_room s.slots s.capacity c.args.config.now c.args.now learnt s.cursor c.in-Some.pairs.items c.in-Some.count
+    let room = needs_room s.slots s.capacity c.args.config.now c.args.now c.args.most learnt s.cursor c.in-Some.pairs.items c.in-Some.count
     c.in-Some.ensures.lists
     (λ none. found.some (found.due ∙ none))
     (subst (λ (places : List ℕ). IsPacking places c.in-Some.pairs.items c.in-Some.count) found.due found.packing) in
-    (subst (λ n. AnyNeedsRoom c.args.config.now (window_of learnt s) c.args.now (12 + 4 * n)) (sym c.len.ensures.value) room, c.if-out-needed.true, refl, refl)
+    (subst (λ n. AnyNeedsRoomMost c.args.config.now (window_of learnt s) c.args.now c.args.most (12 + 4 * n)) (sym c.len.ensures.value) room, c.if-out-needed.true, refl, refl)
 
 pub returns-clause-asks : goal.returns-clause-asks
 returns-clause-asks g c = λ learnt.
@@ -31,7 +31,7 @@ returns-clause-asks g c = λ learnt.
     let same = ap length c.as_slice-2.ensures.value in
     let many = c.len.ensures.value in
     let as_long : length writes.new.out ≡ length c.args.out.now = search rules in (
-      asks_some s.slots s.capacity c.args.config.now c.args.now learnt s.cursor c.in-Some.pairs.items c.in-Some.count (record { items = take writes.result writes.new.out }) (g.W.Window.meaning c.count_asks.new.window)
+      asks_some s.slots s.capacity c.args.config.now c.args.now c.args.most learnt s.cursor c.in-Some.pairs.items c.in-Some.count (record { items = take writes.result writes.new.out }) (g.W.Window.meaning c.count_asks.new.window)
           c.in-Some.ensures.lists
           (subst IsNarrow found.due found.narrow)
           (λ none. found.some (found.due ∙ none))

@@ -1,5 +1,5 @@
 use Rattle.receiver.proofs.Asking.{counts_missed}
-use Rattle.receiver.proofs.receiver.missing_in.Goals as goal
+use Rattle.receiver.proofs.asks.missing_in.Goals as goal
 
 pub returns : goal.returns
 returns g c =

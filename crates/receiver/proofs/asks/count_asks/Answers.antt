@@ -4,7 +4,7 @@ use Rattle.std.specs.Prelude.{IsSomeAnd}
 use Rattle.stores.specs.ByPlace.{slot_at}
 use Rattle.stores.specs.Asking.{CanBeAsked, CountsAsk}
 use Rattle.receiver.proofs.Asking.{counts_none, counts_more, askable_still}
-use Rattle.receiver.proofs.receiver.count_asks.Goals as goal
+use Rattle.receiver.proofs.asks.count_asks.Goals as goal
 
 pub count_ask-requires : goal.count_ask-requires
 count_ask-requires g c =

@@ -4,7 +4,7 @@ use Rattle.fbwire.specs.Nack.{Nack, NackSpells}
 use Rattle.fbwire.specs.Packing.{IsPacking, IsNarrow}
 use Rattle.receiver.specs.Counted.{CountsAsks}
 use Rattle.receiver.proofs.Asking.{asks_some}
-use Rattle.receiver.proofs.receiver.ask_from.Goals as goal
+use Rattle.receiver.proofs.asks.ask_from.Goals as goal
 
 pub returns-clause-asks : goal.returns-clause-asks
 returns-clause-asks g c = λ learnt.
@@ -12,7 +12,7 @@ returns-clause-asks g c = λ learnt.
     let found = c.in-Some.ensures.found in
     let reporter : c.receiver_ssrc.result ≡ c.args.config.now.session.receiver_ssrc = c.receiver_ssrc.ensures ∙ ap (λ (streams : Streams). streams.receiver_ssrc) c.session-session.ensures in
     let media : c.media_ssrc.result ≡ c.args.config.now.session.media_ssrc = c.media_ssrc.ensures ∙ ap (λ (streams : Streams). streams.media_ssrc) c.session-session.ensures in
-    asks_some s.slots s.capacity c.args.config.now c.args.now learnt s.cursor c.in-Some.pairs.items c.in-Some.count c.write_nack.result (g.W.Window.meaning c.count_asks.new.window)
+    asks_some s.slots s.capacity c.args.config.now c.args.now c.args.most learnt s.cursor c.in-Some.pairs.items c.in-Some.count c.write_nack.result (g.W.Window.meaning c.count_asks.new.window)
     c.in-Some.ensures.lists
     (subst IsNarrow found.due found.narrow)
     (λ none. found.some (found.due ∙ none))

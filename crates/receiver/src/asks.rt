@@ -1,0 +1,162 @@
+//! What a receiver asks for.
+ghost use Rattle.std.specs.Prelude.{◌≡◌, ℕ, ◌≤◌, length, Option, None, IsNone, IsTrue, IsOk, Ok, OnErr};
+ghost use Rattle.std.specs.List.Sorted.{IsStrictlyIncreasing};
+ghost use Rattle.stores.specs.ByPlace.{slot_at};
+ghost use Rattle.stores.specs.Asking.{due_places, is_due};
+ghost use Rattle.stores.specs.PlaceLists.{Lists};
+ghost use Rattle.receiver.specs.Config.{Config};
+ghost use Rattle.receiver.specs.Asks.{AsksAny, AsksInto, AsksMost, AsksMostInto, CountsMissing};
+ghost use Rattle.receiver.specs.Counted.{CanAllBeAsked, CountsAsks, AnswersPairs};
+ghost use Rattle.receiver.specs.Window.{window_of};
+
+use crate::config::ReceiverConfig;
+use arrayvec::ArrayVec;
+use fbwire::{Pair, pack, write_nack, write_nack_into};
+use places::Place;
+use rtpwire::{Datagram, TooShort};
+use stores::{LONGEST_ASK, Window, window_by_place};
+
+/// Asks for the due places of a window, as many as one ask looks at.
+pub(crate) fn ask_all<W: Window>(
+    window: &mut W,
+    config: &ReceiverConfig,
+    now: u64,
+) -> Option<Datagram>
+    ensures asks { (learnt : Option ℕ) → AsksAny config.now (window_of learnt (W.meaning window.old)) now result (window_of learnt (W.meaning window.new)) }
+    ensures none { IsNone result → W.meaning window.new ≡ W.meaning window.old }
+    ensures started { (W.meaning window.new).cursor ≡ (W.meaning window.old).cursor }
+    ensures capacity { (W.meaning window.new).capacity ≡ (W.meaning window.old).capacity }
+{
+    ask_from(window, config, now, LONGEST_ASK)
+}
+
+/// The same at the front of a slice.
+pub(crate) fn ask_all_into<W: Window>(
+    window: &mut W,
+    config: &ReceiverConfig,
+    now: u64,
+    out: &mut [u8],
+) -> Result<Option<usize>, TooShort>
+    ensures asks { (learnt : Option ℕ) → AsksInto config.now (window_of learnt (W.meaning window.old)) now out.old result out.new (window_of learnt (W.meaning window.new)) }
+    ensures enough { 268 ≤ length out.old → IsOk result }
+    ensures err { OnErr result (W.meaning window.new ≡ W.meaning window.old) }
+    ensures none { result ≡ Ok None → W.meaning window.new ≡ W.meaning window.old }
+    ensures started { (W.meaning window.new).cursor ≡ (W.meaning window.old).cursor }
+    ensures capacity { (W.meaning window.new).capacity ≡ (W.meaning window.old).capacity }
+{
+    ask_into_from(window, config, now, LONGEST_ASK, out)
+}
+
+/// Asks for the due places of a window, at most so many.
+pub(crate) fn ask_from<W: Window>(
+    window: &mut W,
+    config: &ReceiverConfig,
+    now: u64,
+    most: usize,
+) -> Option<Datagram>
+    ensures asks { (learnt : Option ℕ) → AsksMost config.now (window_of learnt (W.meaning window.old)) now most result (window_of learnt (W.meaning window.new)) }
+    ensures none { IsNone result → W.meaning window.new ≡ W.meaning window.old }
+    ensures started { (W.meaning window.new).cursor ≡ (W.meaning window.old).cursor }
+    ensures capacity { (W.meaning window.new).capacity ≡ (W.meaning window.old).capacity }
+{
+    if asks_nothing(window) {
+        return None;
+    }
+    let mut due = ArrayVec::new();
+    let Some((pairs, count)) = pairs_due(window, config, now, most, &mut due) else {
+        return None;
+    };
+    count_asks(window, &due.as_slice()[..count], now);
+    let session = config.session();
+    Some(write_nack(
+        session.receiver_ssrc(),
+        session.media_ssrc(),
+        pairs.as_slice(),
+    ))
+}
+
+/// Asks for the due places of a window, at most so many, at the front of a slice.
+pub(crate) fn ask_into_from<W: Window>(
+    window: &mut W,
+    config: &ReceiverConfig,
+    now: u64,
+    most: usize,
+    out: &mut [u8],
+) -> Result<Option<usize>, TooShort>
+    ensures asks { (learnt : Option ℕ) → AsksMostInto config.now (window_of learnt (W.meaning window.old)) now most out.old result out.new (window_of learnt (W.meaning window.new)) }
+    ensures enough { 268 ≤ length out.old → IsOk result }
+    ensures err { OnErr result (W.meaning window.new ≡ W.meaning window.old) }
+    ensures none { result ≡ Ok None → W.meaning window.new ≡ W.meaning window.old }
+    ensures started { (W.meaning window.new).cursor ≡ (W.meaning window.old).cursor }
+    ensures capacity { (W.meaning window.new).capacity ≡ (W.meaning window.old).capacity }
+{
+    if asks_nothing(window) {
+        return Ok(None);
+    }
+    let mut due = ArrayVec::new();
+    let Some((pairs, count)) = pairs_due(window, config, now, most, &mut due) else {
+        return Ok(None);
+    };
+    let needed = 12 + 4 * pairs.len();
+    if out.len() < needed {
+        return Err(TooShort { needed });
+    }
+    let covered = &due.as_slice()[..count];
+    count_asks(window, covered, now);
+    let session = config.session();
+    let reporter = session.receiver_ssrc();
+    let media = session.media_ssrc();
+    let len = write_nack_into(out, reporter, media, pairs.as_slice());
+    Ok(Some(len))
+}
+
+/// Whether nothing is missing, so that there is nothing to ask for. Most asks end here, before room for the due places
+/// is blanked.
+fn asks_nothing<W: Window>(window: &W) -> bool
+    ensures { IsTrue result → (c : Config) (now most : ℕ) (learnt : Option ℕ) → AsksMost c (window_of learnt (W.meaning window.now)) now most None (window_of learnt (W.meaning window.now)) }
+{
+    window_by_place();
+    window.missing() == 0
+}
+
+/// Finds the due places of a window, at most so many and as many as one ask looks at, and packs them: the pairs, and how many
+/// places they cover. None where there are none.
+fn pairs_due<W: Window>(
+    window: &W,
+    config: &ReceiverConfig,
+    now: u64,
+    most: usize,
+    due: &mut ArrayVec<Place, LONGEST_ASK>,
+) -> Option<(ArrayVec<Pair, 64>, usize)>
+    ensures found { AnswersPairs (W.meaning window.now) now config.now.delay config.now.retry config.now.asks most result due.new.items }
+    ensures lists { Lists (due_places (W.meaning window.now) now config.now.delay config.now.retry config.now.asks)
+        (λ q. is_due now config.now.delay config.now.retry config.now.asks (slot_at (W.meaning window.now) q)) }
+{
+    window_by_place();
+    window.due_into(due, now, config.rule());
+    due.truncate(most);
+    if due.is_empty() {
+        return None;
+    }
+    Some(pack(due.as_slice()))
+}
+
+/// Counts one ask for each of these places, made at the moment `now`.
+fn count_asks<W: Window>(window: &mut W, places: &[Place], now: u64)
+    requires rising { IsStrictlyIncreasing places.now }
+    requires askable { CanAllBeAsked (W.meaning window.old) places.now }
+    ensures { CountsAsks (W.meaning window.old) (W.meaning window.new) places.now now }
+{
+    window_by_place();
+    for place in places {
+        window.count_ask(*place, now);
+    }
+}
+
+/// How many places of a window are missing.
+pub(crate) fn missing_in<W: Window>(window: &W) -> usize
+    ensures { (learnt : Option ℕ) → CountsMissing (window_of learnt (W.meaning window.now)) result }
+{
+    window_by_place();
+    window.missing()
+}
