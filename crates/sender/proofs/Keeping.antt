@@ -6,9 +6,9 @@ use Rattle.std.proofs.lemmas.Bool.{eqb-true, ltb-true}
 use Rattle.places.specs.Among.{is_among}
 use Rattle.rtpwire.specs.declared.content.Content.{Content}
 use Rattle.stores.specs.declared.entry.HistoryEntry.{HistoryEntry}
-use Rattle.stores.specs.Past.{Past, entry_at, fresh, repeated}
+use Rattle.stores.specs.Past.{Past, IsPast, entry_at, fresh, repeated}
 use Rattle.stores.specs.PastByPlace.{Pushes, Changes, is_marked}
-use Rattle.sender.specs.Sender.{IsBounded, RepeatsWithin}
+use Rattle.sender.specs.Sender.{Sending, Stays, IsBounded, RepeatsWithin}
 use Rattle.sender.specs.Marking.{marked_below, marked_if, MarksNumbers}
 use Rattle.places.specs.Place.{number}
 
@@ -45,3 +45,7 @@ module _ (repeats : ℕ) (old new : Past) where
       by true None at is = absurd (none-some entry is)
       by true (Some before) at is = subst (IsBounded repeats) (same_Some _ _ is) (one before _ refl (keeps q before at))
       by false o at is = keeps q entry (at ∙ is)
+
+-- where nothing changed
+pub same_stays : (inside now : Sending) → inside ≡ now → IsPast inside.past → Stays now now
+same_stays inside now view_is past = record { config = refl; capacity = refl; is_past = subst (λ (s : Sending). IsPast s.past) view_is past }

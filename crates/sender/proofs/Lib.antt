@@ -4,6 +4,9 @@ pub mod Stepping
 pub mod Listed
 pub mod MarkedNumbers
 pub mod Named
+pub mod Ours
+pub mod Counted
 pub mod SameSteps
 pub mod SameMarks
+pub mod SameShared
 pub mod InOrder

@@ -13,7 +13,7 @@ pub or_left : (a b : Bool) → a ≡ true → (a || b) ≡ true
 or_left true b e = refl
 or_left false b e = absurd (cc)
 
-or_right : (a b : Bool) → b ≡ true → (a || b) ≡ true
+pub or_right : (a b : Bool) → b ≡ true → (a || b) ≡ true
 or_right true b e = refl
 or_right false b e = e
 
@@ -51,3 +51,10 @@ module _ (names : (pairs : List Pair) (n : ℕ) → Names pairs n ↔ Contains (
 
   pub named_among : (nacks : List Nack) (n : ℕ) → NacksName nacks n ↔ (is_among (all_numbers nacks) n ≡ true)
   named_among nacks n = (to_list nacks n, from_list nacks n)
+
+-- the set of one number
+pub named_alone : (x last : ℕ) → x ≡ last → (n : ℕ) → (n ≡ last) ↔ (is_among (x ∷ []) n ≡ true)
+named_alone x last same n = (
+  λ is. or_left (x == n) false (eq-eqb x n (same ∙ sym is)),
+  λ among. elim (or_cases (x == n) false among) [ inl e ↦ sym (eqb-true _ _ e) ∙ same | inr never ↦ absurd (let no : false ≡ true = never in cc) ],
+)

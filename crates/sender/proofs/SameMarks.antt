@@ -1,11 +1,13 @@
 -- Feedback has one answer, and leaves one sender; and what it comes to for one NACK and for any octets.
-use Rattle.std.proofs.Common.{◌≡◌, ◌↔◌, ℕ, suc, ◌<◌, ◌⊎◌, ◌==◌, ◌||◌, Bool, true, false, List, [], ◌∷◌, length, Option, Some, None, Result, Ok, Err, refl, sym, ap, subst, ◌∙◌, arith, eq-eqb, inl, inr}
+use Rattle.std.proofs.Common.{◌≡◌, ◌↔◌, ℕ, suc, ◌<◌, ◌⊎◌, ◌==◌, ◌||◌, Bool, true, false, cond, List, [], ◌∷◌, length, Option, Some, None, Result, Ok, Err, refl, sym, ap, subst, ◌∙◌, arith, eq-eqb, inl, inr}
 use Rattle.std.proofs.lemmas.Bool.{eqb-true, cases_lt}
 use Rattle.std.proofs.lemmas.List.Kept.{AllPairs-from_increasing}
 use Rattle.std.specs.List.{AllPairs}
+use Rattle.std.specs.Option.{option_or}
 use Rattle.places.specs.Among.{is_among}
 use Rattle.places.specs.Place.{number}
 use Rattle.fbwire.specs.declared.fault.FeedbackFault.{FeedbackFault}
+use Rattle.fbwire.specs.declared.fault.FeedbackFault.TheVariants.{WrongMedia, WrongReporter}
 use Rattle.fbwire.specs.Nack.{Nack, NackSpells, Names}
 use Rattle.fbwire.specs.Compound.{CompoundSpells, NacksName}
 use Rattle.fbwire.specs.CompoundChecks.{IsRefused}
@@ -14,8 +16,8 @@ use Rattle.stores.specs.PlaceLists.{Lists}
 use Rattle.sender.specs.declared.answer.Marked.{Marked}
 use Rattle.sender.specs.Config.{Config}
 use Rattle.sender.specs.History.{SenderState, Marks, CanBeMarked, becomes_marked}
-use Rattle.sender.specs.Feedback.{first_wrong, ReadsFeedback, MarksNamed, HearsNacks, HearsSaid, HearsFeedback, MarksAlone, MarksOrRefuses}
-use Rattle.sender.proofs.Named.{or_left, or_cases, contained_among}
+use Rattle.sender.specs.Feedback.{is_receiver, first_wrong, ReadsFeedback, MarksNamed, HearsNacks, HearsSaid, HearsFeedback, MarksAlone, MarksOrRefuses}
+use Rattle.sender.proofs.Named.{or_left, or_right, or_cases, contained_among}
 use Rattle.sender.proofs.SameSteps.{Same, same_history}
 
 -- a rising list is determined by its members
@@ -32,7 +34,7 @@ above_first x xs q rises among =
     let within = at.1 in
     subst (λ n. x < n) at.2 (rises 0 (suc at.0) q (omega arith) (omega arith))
 
-same_test : (a b : Bool) → (a ≡ true → b ≡ true) → (b ≡ true → a ≡ true) → a ≡ b
+pub same_test : (a b : Bool) → (a ≡ true → b ≡ true) → (b ≡ true → a ≡ true) → a ≡ b
 same_test true b f g = sym (f refl)
 same_test false true f g = g refl
 same_test false false f g = refl
@@ -72,7 +74,7 @@ can_or_not repeats None = inr (λ never. never)
 can_or_not repeats (Some entry) = elim (cases_lt entry.repeats repeats) [ inl less ↦ inl less | inr more ↦ inr (λ less. absurd (omega arith)) ]
 
 module _ (repeats : ℕ) (named : ℕ → Type 0) (old : SenderState) (v w : SenderState) where
-  one_marking : ((n : ℕ) → named n ⊎ (named n → ⊥)) → (i j : ℕ) → Marks repeats named old i v → Marks repeats named old j w → Same i j v w
+  pub one_marking : ((n : ℕ) → named n ⊎ (named n → ⊥)) → (i j : ℕ) → Marks repeats named old i v → Marks repeats named old j w → Same i j v w
   one_marking decided i j a b = (
     a.counted ∙ one_listing a.places b.places _ _ a.listed b.listed (λ q. ap (becomes_marked (old.entries q)) (entries q)) ∙ sym b.counted,
     same_history v w (a.next ∙ sym b.next) (a.repair ∙ sym b.repair) entries,
@@ -88,7 +90,7 @@ module _ (repeats : ℕ) (named : ℕ → Type 0) (old : SenderState) (v w : Sen
       ]
 
 -- marking for a set is marking for another set with the same numbers
-same_set : (repeats : ℕ) (named other : ℕ → Type 0) → ((n : ℕ) → named n ↔ other n) → (old : SenderState) (count : ℕ) (new : SenderState) → Marks repeats named old count new → Marks repeats other old count new
+pub same_set : (repeats : ℕ) (named other : ℕ → Type 0) → ((n : ℕ) → named n ↔ other n) → (old : SenderState) (count : ℕ) (new : SenderState) → Marks repeats named old count new → Marks repeats other old count new
 same_set repeats named other same old count new m =
     record {
       next = m.next;
@@ -126,8 +128,8 @@ module _ (laws : Laws) (c : Config) (old : SenderState) (octets : List ℕ) wher
 
     one_said : (said other : Result (List Nack) FeedbackFault) → ReadsFeedback octets said → ReadsFeedback octets other → HearsSaid c old said x v → HearsSaid c old other y w → Same x y v w
     one_said (Ok nacks) (Ok others) says says' a b =
-        one_reading nacks (first_wrong c.session nacks) a
-        (subst (λ (n : List Nack). HearsNacks c old n (first_wrong c.session n) y w) (laws.one_list octets others nacks says' says) b)
+        one_reading nacks (first_wrong c nacks) a
+        (subst (λ (n : List Nack). HearsNacks c old n (first_wrong c n) y w) (laws.one_list octets others nacks says' says) b)
     one_said (Ok nacks) (Err fault) says says' a b = absurd (laws.not_both octets nacks fault says says')
     one_said (Err fault) (Ok nacks) says says' a b = absurd (laws.not_both octets nacks fault says' says)
     one_said (Err fault) (Err other) says says' (is, same) (is', same') =
@@ -144,8 +146,11 @@ module _ (laws : Laws) (c : Config) (old : SenderState) (octets : List ℕ) wher
     alone_named nack (Ok marked) m = same_set c.repeats (NacksName (nack ∷ [])) (Names nack.pairs) (alone_names nack) old marked.places new m
     alone_named nack (Err fault) never = never
 
-    right : (nack : Nack) → nack.media ≡ c.session.media_ssrc → nack.reporter ≡ c.session.receiver_ssrc → first_wrong c.session (nack ∷ []) ≡ None
-    right nack media reporter = rw (eq-eqb _ _ media, eq-eqb _ _ reporter) refl
+    right : (nack : Nack) → nack.media ≡ c.session.media_ssrc → nack.reporter ≡ c.session.receiver_ssrc → first_wrong c (nack ∷ []) ≡ None
+    right nack media reporter =
+        let known : is_receiver c nack ≡ true = or_right c.any_reporter (nack.reporter == c.session.receiver_ssrc) (eq-eqb _ _ reporter) in
+        ap (λ b. option_or (cond b (cond (is_receiver c nack) None (Some WrongReporter)) (Some WrongMedia)) None) (eq-eqb _ _ media)
+        ∙ ap (λ b. option_or (cond b None (Some WrongReporter)) None) known
 
     pub one_alone : (nack : Nack) → NackSpells nack octets → nack.media ≡ c.session.media_ssrc → nack.reporter ≡ c.session.receiver_ssrc → HearsFeedback c old octets answer new → MarksAlone c old nack answer new
     one_alone nack spells media reporter hears = by hears.said hears.says hears.heard
@@ -155,7 +160,7 @@ module _ (laws : Laws) (c : Config) (old : SenderState) (octets : List ℕ) wher
             let one = laws.one_list octets nacks (nack ∷ []) says (laws.alone nack octets spells) in
             alone_named nack answer
             (subst (λ (wrong : Option FeedbackFault). HearsNacks c old (nack ∷ []) wrong answer new) (right nack media reporter)
-            (subst (λ (n : List Nack). HearsNacks c old n (first_wrong c.session n) answer new) one heard))
+            (subst (λ (n : List Nack). HearsNacks c old n (first_wrong c n) answer new) one heard))
         by (Err fault) says heard = absurd (laws.not_both octets (nack ∷ []) fault (laws.alone nack octets spells) says)
 
     refuses : (fault : FeedbackFault) → answer ≡ Err fault → new ≡ old → MarksOrRefuses c old answer new
@@ -173,5 +178,5 @@ module _ (laws : Laws) (c : Config) (old : SenderState) (octets : List ℕ) wher
         read nacks (Some fault) (is, same) = refuses fault is same
 
         by : (said : Result (List Nack) FeedbackFault) → HearsSaid c old said answer new → MarksOrRefuses c old answer new
-        by (Ok nacks) heard = read nacks (first_wrong c.session nacks) heard
+        by (Ok nacks) heard = read nacks (first_wrong c nacks) heard
         by (Err fault) (is, same) = refuses fault is same

@@ -1,13 +1,19 @@
 -- The calls of a history are the steps of the sender over places.
-use Rattle.std.proofs.Common.{◌≡◌, ◌≢◌, ℕ, ◌+◌, ◌-◌, ◌%◌, ◌<◌, ◌≤◌, ◌==◌, true, false, cond, nat_lt, Option, Some, refl, sym, ap, ◌∙◌, arith, eq-eqb, inl, inr}
+use Rattle.std.proofs.Common.{◌≡◌, ◌≢◌, ℕ, ◌+◌, ◌-◌, ◌%◌, ◌<◌, ◌≤◌, ◌==◌, Bool, true, false, cond, nat_lt, Option, Some, refl, sym, ap, ◌∙◌, arith, eq-eqb, inl, inr}
 use Rattle.std.specs.Option.{option_map}
 use Rattle.std.proofs.lemmas.Bool.{eqb-true, lt-ltb, le-ltb, cases_Bool}
+use mir.Val.{bool_byte}
 use Rattle.rtpwire.specs.declared.content.Content.{Content}
 use Rattle.stores.specs.declared.entry.HistoryEntry.{HistoryEntry}
 use Rattle.stores.specs.Past.{Past, entry_at, repeated}
 use Rattle.stores.specs.PastByPlace.{Pushes, Changes, is_marked}
 use Rattle.sender.specs.History.{Sends, Repairs}
 use Rattle.sender.specs.Sender.{history_of}
+
+-- a test as a number
+pub as_number : (b : Bool) → bool_byte b ≡ cond b 1 0
+as_number true = refl
+as_number false = refl
 
 -- the tests in the words on entries, decided
 at_place : (p : ℕ) (x y : Option HistoryEntry) → cond (p == p) x y ≡ x

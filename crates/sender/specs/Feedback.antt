@@ -1,8 +1,8 @@
 -- What a sender answers to feedback, by the NACKs that its octets spell. The checks come in this order: the
 -- octets (11 to 17), and then NACK by NACK, in the datagram's order, the media SSRC (18) and the reporter's
 -- (19). A refusal changes nothing.
-use Rattle.std.specs.Prelude.{◌≡◌, ℕ, ◌==◌, List, [], ◌∷◌, Option, Some, None, Result, Ok, Err, if◌then◌else◌}
-use Rattle.rtpwire.specs.Session.{Streams}
+use Rattle.std.specs.Prelude.{◌≡◌, ℕ, ◌==◌, ◌&&◌, ◌||◌, Bool, List, [], ◌∷◌, Option, Some, None, Result, Ok, Err, if◌then◌else◌}
+use Rattle.std.specs.Option.{option_or}
 use Rattle.fbwire.specs.declared.fault.FeedbackFault.{FeedbackFault}
 use Rattle.fbwire.specs.declared.fault.FeedbackFault.TheVariants.{WrongMedia, WrongReporter}
 use Rattle.fbwire.specs.Nack.{Nack, Names}
@@ -12,14 +12,27 @@ use Rattle.sender.specs.declared.answer.Marked.{Marked}
 use Rattle.sender.specs.Config.{Config}
 use Rattle.sender.specs.History.{SenderState, Marks}
 
--- What is wrong with the first NACK that is not from this session's receiver on its media: the SSRC of the media
--- source, or else that of the packet's sender (RFC 4585, section 6.1).
-abbrev pub first_wrong : Streams → List Nack → Option FeedbackFault
-first_wrong s [] = None
-first_wrong s (nack ∷ nacks) =
-    if nack.media == s.media_ssrc
-    then (if nack.reporter == s.receiver_ssrc then first_wrong s nacks else Some WrongReporter)
+-- The packet's sender is the session's receiver, or any reporter is taken as it.
+abbrev pub is_receiver : Config → Nack → Bool
+is_receiver c nack = c.any_reporter || (nack.reporter == c.session.receiver_ssrc)
+
+-- The NACK is of this session: the SSRC of its media source is that of the session's media, and it is from the session's
+-- receiver (RFC 4585, section 6.1).
+abbrev pub is_ours : Config → Nack → Bool
+is_ours c nack = (nack.media == c.session.media_ssrc) && is_receiver c nack
+
+-- What is wrong with a NACK that is not from this session's receiver on its media: the SSRC of the media source, or else
+-- that of the packet's sender.
+abbrev pub wrong_with : Config → Nack → Option FeedbackFault
+wrong_with c nack =
+    if nack.media == c.session.media_ssrc
+    then (if is_receiver c nack then None else Some WrongReporter)
     else Some WrongMedia
+
+-- what is wrong with the first NACK that is not of this session
+abbrev pub first_wrong : Config → List Nack → Option FeedbackFault
+first_wrong c [] = None
+first_wrong c (nack ∷ nacks) = option_or (wrong_with c nack) (first_wrong c nacks)
 
 -- what octets say: the NACKs of a compound datagram, or the fault that decides
 abbrev pub ReadsFeedback : List ℕ → Result (List Nack) FeedbackFault → Type 0
@@ -36,7 +49,7 @@ HearsNacks c old nacks None answer new = MarksNamed c old nacks answer new
 HearsNacks c old nacks (Some fault) answer new = (answer ≡ Err fault) × (new ≡ old)
 
 abbrev pub HearsSaid : Config → SenderState → Result (List Nack) FeedbackFault → Result Marked FeedbackFault → SenderState → Type 0
-HearsSaid c old (Ok nacks) answer new = HearsNacks c old nacks (first_wrong c.session nacks) answer new
+HearsSaid c old (Ok nacks) answer new = HearsNacks c old nacks (first_wrong c nacks) answer new
 HearsSaid c old (Err fault) answer new = (answer ≡ Err fault) × (new ≡ old)
 
 -- One datagram at a sender.

@@ -4,6 +4,9 @@ pub mod History
 pub mod Sender
 pub mod Sending
 pub mod Feedback
+pub mod Shared
+pub mod Tail
 pub mod Marking
+pub mod Counting
 pub mod Repairing
 pub mod Order

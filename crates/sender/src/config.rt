@@ -4,7 +4,7 @@ ghost use Rattle.std.specs.Result.{result_err};
 ghost use Rattle.rtpwire.specs.Fault.{config_number};
 ghost use Rattle.rtpwire.specs.FirstOf.{FirstOf};
 ghost use Rattle.sender.specs.Order.{config_order};
-ghost use Rattle.sender.specs.Config.{IsConfig, config};
+ghost use Rattle.sender.specs.Config.{IsConfig, config, hearing_anyone};
 
 use rtpwire::{ConfigFault, Session};
 use std::marker::Model;
@@ -17,18 +17,19 @@ pub struct SenderConfig {
     first: u16,
     repair_first: u16,
     repeats: u8,
+    any_reporter: bool,
 }
 
 impl Model for SenderConfig {
-    ghost use Rattle.sender.specs.Config.{Config, IsConfig, config};
+    ghost use Rattle.sender.specs.Config.{Config, IsConfig, config_of};
 
     ghost Value = { Config };
 
-    ghost view = { λ c. config c.session c.first c.repair_first c.repeats };
+    ghost view = { λ c. config_of c.session c.first c.repair_first c.repeats c.any_reporter };
 
-    ghost invariant = { λ c. IsConfig (config c.session c.first c.repair_first c.repeats) };
+    ghost invariant = { λ c. IsConfig (config_of c.session c.first c.repair_first c.repeats c.any_reporter) };
 
-    ghost inverse = { λ c. record { session = c.session; first = c.first; repair_first = c.repair_first; repeats = c.repeats } };
+    ghost inverse = { λ c. record { session = c.session; first = c.first; repair_first = c.repair_first; repeats = c.repeats; any_reporter = c.any_reporter } };
 }
 
 impl SenderConfig {
@@ -55,7 +56,20 @@ impl SenderConfig {
             first,
             repair_first,
             repeats,
+            any_reporter: false,
         })
+    }
+
+    /// The same sender, but every reporter is taken as the session's receiver: no feedback is refused with
+    /// `WrongReporter` (19). It is for a receiver whose SSRC is not known, as where the far side draws it
+    /// (RFC 3550, section 8.1). Feedback for other media is refused as before.
+    pub fn with_any_reporter(self) -> SenderConfig
+        ensures { result ≡ hearing_anyone self }
+    {
+        SenderConfig {
+            any_reporter: true,
+            ..self
+        }
     }
 
     /// The session whose streams it sends.
@@ -85,5 +99,12 @@ impl SenderConfig {
         ensures is_config { IsConfig self.now }
     {
         self.repeats
+    }
+
+    /// Whether every reporter is taken as the session's receiver.
+    pub fn any_reporter(&self) -> bool
+        ensures { result ≡ self.now.any_reporter }
+    {
+        self.any_reporter
     }
 }

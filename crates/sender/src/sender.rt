@@ -7,12 +7,15 @@ ghost use Rattle.sender.specs.History.{Sends, Repairs, IsLeastMarked, NoneMarked
 ghost use Rattle.sender.specs.Sender.{Sending, IsSending, Stays, new_sending, state_of};
 ghost use Rattle.sender.specs.Sending.{CanBePadded, SendsAny, SendsInto, sent_in};
 ghost use Rattle.sender.specs.Feedback.{HearsFeedback};
+ghost use Rattle.sender.specs.Shared.{HearsShared};
+ghost use Rattle.sender.specs.Tail.{MarksLast};
 ghost use Rattle.sender.specs.Repairing.{RepairsAny, RepairsInto, repaired_in};
 
-use crate::answer::Marked;
+use crate::answer::{Marked, Shared};
 use crate::config::SenderConfig;
+use crate::counting::count_nacks;
 use crate::fault::SendFault;
-use crate::marking::{are_of_session, mark_nacks};
+use crate::marking::{are_of_session, mark_nacks, mark_number, one_is_of_session};
 use fbwire::{Compound, FeedbackFault, nack_is_determined};
 use places::Place;
 use rtpwire::{
@@ -196,7 +199,8 @@ impl<H: History> Sender<H> {
     ///
     /// - 11 to 17: the octets are no compound datagram with a generic NACK, as [`Compound::read`] says.
     /// - `WrongMedia` (18), `WrongReporter` (19): a NACK is for another source than the session's media, or else
-    ///   from another reporter than its receiver. The first such NACK decides.
+    ///   from another reporter than its receiver. The first such NACK decides. A sender that takes any reporter
+    ///   ([`SenderConfig::with_any_reporter`]) never answers 19.
     pub fn on_feedback(&mut self, octets: &[u8]) -> Result<Marked, FeedbackFault>
         ensures hears { HearsFeedback self.old.config (state_of self.old) octets.now result (state_of self.new) }
         ensures err { OnErr result (self.new ≡ self.old) }
@@ -204,11 +208,56 @@ impl<H: History> Sender<H> {
     {
         history_by_place();
         nack_is_determined();
-        let session = self.config.session();
+        let config = self.config;
         let compound = Compound::read(octets)?;
-        are_of_session(compound.nacks(), &session)?;
-        let places = mark_nacks(&mut self.history, compound.nacks(), self.config.repeats());
+        are_of_session(compound.nacks(), &config)?;
+        let places = mark_nacks(&mut self.history, compound.nacks(), &config);
         Ok(Marked { places })
+    }
+
+    /// Takes a feedback datagram that other senders may share: its NACKs may be for several media, and from several
+    /// reporters (RFC 3550, section 6.1). Those of this session, for its media and from its receiver, mark as in
+    /// [`on_feedback`](Sender::on_feedback); the others are passed over. The answer tells both, and what the history
+    /// has of the numbers that are named, as it was before.
+    ///
+    /// The refusals, in the order of the checks; after each the sender is as it was:
+    ///
+    /// - 11 to 17: the octets are no compound datagram with a generic NACK, as [`Compound::read`] says.
+    /// - `WrongMedia` (18), `WrongReporter` (19): no NACK is of this session. The first NACK decides.
+    pub fn on_shared_feedback(&mut self, octets: &[u8]) -> Result<Shared, FeedbackFault>
+        ensures hears { HearsShared self.old.config (state_of self.old) octets.now result (state_of self.new) }
+        ensures err { OnErr result (self.new ≡ self.old) }
+        ensures stays { Stays self.old self.new }
+    {
+        history_by_place();
+        nack_is_determined();
+        let config = self.config;
+        let compound = Compound::read(octets)?;
+        one_is_of_session(compound.nacks(), &config)?;
+        let counted = count_nacks(&self.history, compound.nacks(), &config);
+        let places = mark_nacks(&mut self.history, compound.nacks(), &config);
+        Ok(Shared { places, ..counted })
+    }
+
+    /// Marks the last packet that was sent, as feedback that names its sequence number would: unless it is marked
+    /// already, or was retransmitted as often as it may be. The answer counts it, or is 0; where nothing was sent it
+    /// is 0 too. With 0 the sender is as it was.
+    ///
+    /// It is for a sender that falls silent. A receiver notices a loss by a packet from above it, so it knows nothing
+    /// of the packets that were lost at the end; the last one, retransmitted, shows it all of them.
+    pub fn mark_last(&mut self) -> Marked
+        ensures marks { MarksLast self.old.config.repeats (state_of self.old) result (state_of self.new) }
+        ensures none { result.places ≡ 0 → self.new ≡ self.old }
+        ensures stays { Stays self.old self.new }
+    {
+        history_by_place();
+        let Some(last) = Place::new(self.next.saturating_sub(1)) else {
+            return Marked { places: 0 };
+        };
+        let marked = mark_number(&mut self.history, last.number(), self.config.repeats());
+        Marked {
+            places: u32::from(marked),
+        }
     }
 
     /// The next retransmission and its place, if a packet is to be retransmitted: that of the least place

@@ -17,14 +17,14 @@ pub struct Config {
 }
 
 impl Model for Config {
-    ghost use Rattle.std.specs.Prelude.{◌≡◌};
+    ghost use Rattle.std.specs.Prelude.{◌≡◌, false};
     ghost use Rattle.world.specs.Config.{Config as Value_of, IsConfig, config, sending};
 
     ghost Value = { Value_of };
 
     ghost view = { λ c. config c.receiver c.sender.first c.sender.repair_first c.history c.window c.sender.repeats };
 
-    ghost invariant = { λ c. (c.sender.session ≡ c.receiver.session) × IsConfig (config c.receiver c.sender.first c.sender.repair_first c.history c.window c.sender.repeats) };
+    ghost invariant = { λ c. (c.sender.session ≡ c.receiver.session) × (c.sender.any_reporter ≡ false) × IsConfig (config c.receiver c.sender.first c.sender.repair_first c.history c.window c.sender.repeats) };
 
     ghost inverse = { λ c. record { sender = sending c; receiver = c.receiver; history = c.history; window = c.window } };
 }

@@ -1,15 +1,12 @@
-use Rattle.std.proofs.Common.{◌≡◌, ℕ, ◌≤◌, Bool, true, false, cond, List, [], ◌∷◌, ◌++◌, sym, ap, subst, ◌∙◌, arith, append-nil, append_assoc, refl}
+use Rattle.std.proofs.Common.{◌≡◌, ℕ, ◌≤◌, Bool, true, false, List, [], ◌∷◌, ◌++◌, sym, ap, subst, ◌∙◌, arith, append-nil, append_assoc}
 use mir.Val.{bool_byte}
 use Rattle.sender.specs.Marking.{MarksNumbers}
 use Rattle.sender.proofs.MarkedNumbers.{marks_none, marks_more, few}
+use Rattle.sender.proofs.Stepping.{as_number}
 use Rattle.sender.proofs.marking.mark_numbers.Goals as goal
 
 pub loop-number-init : goal.loop-number-init
 loop-number-init g c = record { all = sym c.into_iter-number-iterator.ensures.into_iter_gives; marks = marks_none c.args.repeats (g.H.History.meaning c.args.history.now) }
-
-as_number : (b : Bool) → bool_byte b ≡ cond b 1 0
-as_number true = refl
-as_number false = refl
 
 at_most_one : (b : Bool) → bool_byte b ≤ 1
 at_most_one true = omega arith
@@ -32,7 +29,7 @@ loop-number-preserved g c =
           marks_more c.args.repeats before this (g.H.History.meaning c.args.history.now) (g.H.History.meaning c.loop-number.history) (g.H.History.meaning c.mark_number.new.history)
           c.loop-number.count c.from-count.result c.loop-number.invariant.marks
           (subst (λ n. MarksNumbers c.args.repeats this (g.H.History.meaning c.loop-number.history) n (g.H.History.meaning c.mark_number.new.history))
-          (sym (c.from-count.ensures ∙ as_number c.mark_number.result)) c.mark_number.ensures);
+          (sym (c.from-count.ensures ∙ as_number c.mark_number.result)) c.mark_number.ensures.marks);
     }
 
 pub returns : goal.returns

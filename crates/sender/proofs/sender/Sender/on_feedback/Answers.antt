@@ -1,16 +1,16 @@
-use Rattle.std.proofs.Common.{◌≡◌, ℕ, List, Option, None, Result, Ok, refl, sym, ap, subst, ◌∙◌}
-use Rattle.rtpwire.specs.Session.{Streams}
+use Rattle.std.proofs.Common.{◌≡◌, ℕ, List, Option, None, Result, Ok, sym, ap, subst, ◌∙◌}
 use Rattle.fbwire.specs.declared.fault.FeedbackFault.{FeedbackFault}
 use Rattle.fbwire.specs.Nack.{Nack}
 use Rattle.fbwire.specs.Compound.{NacksName}
 use Rattle.sender.specs.declared.answer.Marked.{Marked}
-use Rattle.stores.specs.Past.{IsPast}
 use Rattle.sender.specs.Feedback.{first_wrong, HearsNacks}
-use Rattle.sender.specs.Sender.{Sending, Stays, history_of, state_of}
+use Rattle.sender.specs.Sender.{Sending, history_of, state_of}
 use Rattle.sender.specs.Marking.{MarksNumbers, all_numbers}
-use Rattle.sender.proofs.Keeping.{marks_keep}
+use Rattle.sender.specs.Shared.{our_numbers}
+use Rattle.sender.proofs.Keeping.{marks_keep, same_stays}
 use Rattle.sender.proofs.MarkedNumbers.{Laws, marks_named}
 use Rattle.sender.proofs.Named.{named_among}
+use Rattle.sender.proofs.Ours.{all_ours}
 use Rattle.sender.proofs.sender.Sender.on_feedback.Goals as goal
 
 pub invariant_of-self : goal.invariant_of-self
@@ -18,12 +18,12 @@ invariant_of-self g c =
     let old = g.H.History.meaning c.self.inside.history in
     let new = g.H.History.meaning c.mark_nacks-places.new.history in
     let marks = c.mark_nacks-places.ensures in
+    let config = c.self.inside.config in
     record {
       ends = c.self.invariant.ends;
       follows = λ next is. c.self.invariant.follows next (sym marks.next ∙ is);
       counted = c.self.invariant.counted;
-      limit = marks_keep c.self.inside.config.repeats old new (all_numbers c.nacks-2.result) c.mark_nacks-places.result
-          (subst (λ repeats. MarksNumbers repeats (all_numbers c.nacks-2.result) old c.mark_nacks-places.result new) c.repeats.ensures.value marks) c.self.invariant.limit;
+      limit = marks_keep config.repeats old new (our_numbers config c.nacks-2.result) c.mark_nacks-places.result marks c.self.invariant.limit;
     }
 
 pub returns-clause-hears : goal.returns-clause-hears
@@ -38,16 +38,16 @@ returns-clause-hears g c =
     let laws : Laws = record { inside = law.inside; ends = law.ends; one = law.one } in
     let answer : Result Marked FeedbackFault = Ok (record { places = count }) in
     let new = history_of c.self.inside.next c.self.inside.repair after in
-    let right : first_wrong config.session nacks ≡ None =
-    ap (λ (s : Streams). first_wrong s nacks) (sym c.session-session.ensures)
-    ∙ ap (λ (n : List Nack). first_wrong c.session-session.result n) (sym c.nacks.ensures.value) ∙ c.in_ok-are_of_session.ensures in
+    let right : first_wrong config nacks ≡ None =
+    ap (λ (n : List Nack). first_wrong config n) (sym c.nacks.ensures.value) ∙ c.in_ok-are_of_session.ensures in
+    let same : our_numbers config c.nacks-2.result ≡ all_numbers nacks = ap (our_numbers config) c.nacks-2.ensures.value ∙ ap all_numbers (all_ours config nacks right) in
     let marks : MarksNumbers config.repeats (all_numbers nacks) past count after =
-    subst (λ (x : ℕ × List Nack). MarksNumbers x.0 (all_numbers x.1) past count after) (λ i. (c.repeats.ensures.value i, c.nacks-2.ensures.value i)) c.mark_nacks-places.ensures in
+    subst (λ (numbers : List ℕ). MarksNumbers config.repeats numbers past count after) same c.mark_nacks-places.ensures in
     record {
       said = Ok nacks;
       says = c.in_ok-compound.ensures.spelled;
       heard =
-          subst (λ (s : Sending). HearsNacks s.config (state_of s) nacks (first_wrong s.config.session nacks) answer new) c.self.view_is
+          subst (λ (s : Sending). HearsNacks s.config (state_of s) nacks (first_wrong s.config nacks) answer new) c.self.view_is
           (subst (λ (wrong : Option FeedbackFault). HearsNacks config (history_of c.self.inside.next c.self.inside.repair past) nacks wrong answer new) (sym right)
           (marks_named config.repeats laws (all_numbers nacks) (NacksName nacks) (named_among c.nack_is_determined.ensures.names nacks) past after count c.self.inside.next c.self.inside.repair is marks));
     }
@@ -59,10 +59,6 @@ returns-clause-stays g c =
       capacity = c.mark_nacks-places.ensures.capacity ∙ ap (λ (s : Sending). s.past.capacity) c.self.view_is;
       is_past = g.met.H.History.is_past c.mark_nacks-places.new.history;
     }
-
--- where nothing changed
-same_stays : (inside now : Sending) → inside ≡ now → IsPast inside.past → Stays now now
-same_stays inside now view_is past = record { config = refl; capacity = refl; is_past = subst (λ (s : Sending). IsPast s.past) view_is past }
 
 pub returns-in_err-compound-clause-stays : goal.returns-in_err-compound-clause-stays
 returns-in_err-compound-clause-stays g c = same_stays _ _ c.self.view_is (g.met.H.History.is_past c.self.inside.history)

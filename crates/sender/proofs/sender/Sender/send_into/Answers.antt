@@ -1,4 +1,4 @@
-use Rattle.std.proofs.Common.{rules, ◌≡◌, ◌≤◌, length, take, subst, ap, ◌∙◌, arith}
+use Rattle.std.proofs.Common.{rules, ◌≡◌, take, subst, ap, ◌∙◌, arith}
 use Rattle.places.specs.Place.{number}
 use Rattle.rtpwire.specs.Content.{packet_of}
 use Rattle.rtpwire.specs.Rtp.{RtpPacket, RtpSpells, written}
