@@ -1,5 +1,5 @@
 -- How many bits of words are set, when one of them changes.
-use Rattle.std.proofs.Common.{◌≡◌, ◌≢◌, ℕ, zero, suc, ◌+◌, ◌*◌, ◌/◌, ◌%◌, ◌<◌, ◌≤◌, ◌==◌, Bool, true, false, List, ◌∷◌, length, get_or, replicate, cond, ap, sym, ◌∙◌, refl, arith}
+use Rattle.std.proofs.Common.{◌≡◌, ◌≢◌, ℕ, zero, suc, ◌+◌, ◌*◌, ◌/◌, ◌%◌, ◌<◌, ◌≤◌, ◌==◌, Bool, true, false, List, length, get_or, replicate, cond, ap, sym, ◌∙◌, refl, arith}
 use Rattle.std.specs.Prelude.{if◌then◌else◌}
 use Rattle.std.proofs.lemmas.Bool.{cond_both, eqb-true, eqb-false}
 use Rattle.std.proofs.lemmas.Bool.Decides.{nat_tests}
@@ -7,28 +7,7 @@ use Rattle.std.proofs.lemmas.Nat.Bits.{bit_at-zero}
 use Rattle.std.specs.Int.{bit_at}
 use Rattle.stores.specs.Bits.{is_set, bits_of, turned, is_member, size_of}
 use Rattle.stores.proofs.Passing.{passing}
-
-weight : Bool → ℕ
-weight true = 1
-weight false = 0
-
-weighed : (b : Bool) (x : ℕ) (xs : List ℕ) → length (cond b (x ∷ xs) xs) ≡ weight b + length xs
-unfolding weight
-weighed true x xs = omega arith
-weighed false x xs = omega arith
-
-weight_within : (b : Bool) → weight b ≤ 1
-unfolding weight
-weight_within true = omega arith
-weight_within false = omega arith
-
-weightless : (b : Bool) → weight b ≡ 0 → b ≡ false
-unfolding weight
-weightless true e = absurd (omega arith)
-weightless false e = refl
-
-one_more : (test : ℕ → Bool) (a n : ℕ) → length (passing test a (suc n)) ≡ weight (test a) + length (passing test (a + 1) n)
-one_more test a n = weighed (test a) a (passing test (a + 1) n)
+use Rattle.stores.proofs.Tallies.{weight, weightless, one_more, few_pass}
 
 none_pass : (test : ℕ → Bool) (a n : ℕ) → ((q : ℕ) → test q ≡ false) → length (passing test a n) ≡ 0
 none_pass test a zero none = refl
@@ -96,14 +75,6 @@ size_of_clear old new bit long within each on =
     sym (change_from (is_set new) (is_set old) 0 (bits_of old) bit (omega arith) (omega arith)
     (λ q apart. sym (other (q == bit) false (is_set new q) (is_set old q) (grind (arith, nat_tests)) (each q))) (same_bit bit false _ _ (each bit)) on
     ∙ ap (λ n. length (passing (is_set new) 0 (64 * n)) + 1) (sym long))
-
-few_pass : (test : ℕ → Bool) (a n : ℕ) → length (passing test a n) ≤ n
-few_pass test a zero = omega arith
-few_pass test a (suc n) =
-    let rest = few_pass test (a + 1) n in
-    let one = one_more test a n in
-    let light : weight (test a) ≤ 1 = weight_within (test a) in
-    omega arith
 
 -- no more bits are set than there are
 pub size_of_within : (words : List ℕ) → size_of words ≤ bits_of words

@@ -12,8 +12,11 @@ pub mod Runs
 pub mod EntryPlaces
 pub mod EntryChanges
 pub mod EntrySearch
+pub mod Tallies
 pub mod BitCounts
 pub mod BitWords
+pub mod BitRanges
+pub mod BitMoves
 pub mod SetOfItems
 pub mod EntryIndex
 pub mod MissingIndex

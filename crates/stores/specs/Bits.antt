@@ -1,5 +1,5 @@
 -- A set of positions below a bound, as bits in words of 64.
-use Rattle.std.specs.Prelude.{◌≡◌, ℕ, ◌+◌, ◌-◌, ◌*◌, ◌/◌, ◌%◌, ◌<◌, ◌==◌, Bool, List, length, get_or, slice_get, Option, if◌then◌else◌, nat_lt}
+use Rattle.std.specs.Prelude.{◌≡◌, ℕ, ◌+◌, ◌-◌, ◌*◌, ◌/◌, ◌%◌, ◌<◌, ◌==◌, ◌&&◌, Bool, List, length, get_or, slice_get, Option, if◌then◌else◌, nat_lt, nat_le}
 use Rattle.std.specs.Int.{bit_at}
 use Rattle.std.specs.List.{filter, range_with_len}
 
@@ -26,3 +26,15 @@ IsSetOf test words front items = (p : ℕ) → p < bits_of words → is_member w
 -- how many bits are set
 unfoldable pub size_of : List ℕ → ℕ
 size_of words = length (filter (is_set words) (range_with_len 0 (bits_of words)))
+
+-- whether n is one of the numbers from a up to below b
+abbrev pub is_between : (a b n : ℕ) → Bool
+is_between a b n = nat_le a n && nat_lt n b
+
+-- how many of the bits from the number a on, so many, are set
+abbrev pub set_from : List ℕ → ℕ → ℕ → ℕ
+set_from words a count = length (filter (is_set words) (range_with_len a count))
+
+-- how many of the first positions, so many, the set has
+abbrev pub members_below : List ℕ → ℕ → ℕ → ℕ
+members_below words front count = length (filter (is_member words front) (range_with_len 0 count))

@@ -1,6 +1,7 @@
 //! A set of positions below a bound, in words of 64 bits.
-ghost use Rattle.std.specs.Prelude.{◌≡◌, ℕ, ◌+◌, ◌*◌, ◌/◌, ◌<◌, ◌≤◌, ◌==◌, true, false, length, replicate, MatchOption, IfOk, if◌then◌else◌};
-ghost use Rattle.stores.specs.Bits.{is_set, bits_of, turned, is_member, size_of};
+ghost use Rattle.std.specs.Prelude.{◌≡◌, ℕ, ◌+◌, ◌-◌, ◌*◌, ◌/◌, ◌<◌, ◌≤◌, ◌==◌, true, false, length, replicate, MatchOption, IfOk, if◌then◌else◌, nat_lt};
+ghost use Rattle.std.specs.Int.{bit_at};
+ghost use Rattle.stores.specs.Bits.{is_set, bits_of, turned, is_member, size_of, is_between, set_from, members_below};
 
 use crate::memory::OutOfMemory;
 use std::alloc::Global;
@@ -38,9 +39,9 @@ impl Bits {
         })
     }
 
-    /// The number of the bit that stands for this position.
+    /// The number of the bit that stands for this position, that of position 0 for the one after the last.
     fn bit_of(&self, position: usize) -> usize
-        requires { position < bits_of self.now.words.items }
+        requires { position ≤ bits_of self.now.words.items }
         ensures bit { result ≡ turned (bits_of self.now.words.items) self.now.front position }
         ensures within { result < bits_of self.now.words.items }
     {
@@ -70,6 +71,28 @@ impl Bits {
             set_bit(&mut self.words, bit);
             self.count += 1;
         }
+    }
+
+    /// Adds so many positions from this one on to the set, which has none of them, 64 at a time.
+    pub fn set_range(&mut self, from: usize, count: usize)
+        requires within { from + count ≤ bits_of self.old.words.items }
+        requires none { (p : ℕ) → from ≤ p → p < from + count → is_member self.old.words.items self.old.front p ≡ false }
+        ensures members { (p : ℕ) → p < bits_of self.old.words.items →
+            is_member self.new.words.items self.new.front p
+            ≡ (if is_between from (from + count) p then true else is_member self.old.words.items self.old.front p) }
+        ensures size { size_of self.new.words.items ≡ size_of self.old.words.items + count }
+        ensures words { length self.new.words.items ≡ length self.old.words.items }
+    {
+        let bound = 64 * self.words.len();
+        let start = self.front + from;
+        let end = start + count;
+        set_bits(&mut self.words, start.min(bound), end.min(bound));
+        set_bits(
+            &mut self.words,
+            start.saturating_sub(bound),
+            end.saturating_sub(bound),
+        );
+        self.count += count;
     }
 
     /// Takes this position out of the set.
@@ -133,6 +156,24 @@ impl Bits {
         self.turn();
     }
 
+    /// Takes so many of the first positions out of the set, 64 at a time, and moves every other position down by as many.
+    pub fn shift_by(&mut self, count: usize)
+        requires { count ≤ bits_of self.old.words.items }
+        ensures members { (p : ℕ) → p < bits_of self.old.words.items →
+            is_member self.new.words.items self.new.front p
+            ≡ (if nat_lt (p + count) (bits_of self.old.words.items) then is_member self.old.words.items self.old.front (p + count) else false) }
+        ensures size { size_of self.new.words.items + members_below self.old.words.items self.old.front count ≡ size_of self.old.words.items }
+        ensures words { length self.new.words.items ≡ length self.old.words.items }
+    {
+        let bound = 64 * self.words.len();
+        let end = self.front + count;
+        let after = self.bit_of(count);
+        let upper = clear_bits(&mut self.words, self.front, end.min(bound));
+        let lower = clear_bits(&mut self.words, 0, end.saturating_sub(bound));
+        self.count -= upper + lower;
+        self.front = after;
+    }
+
     /// Moves every position down by one, and position 0 up to below the bound.
     fn turn(&mut self)
         ensures members { (p : ℕ) → p < bits_of self.old.words.items →
@@ -178,6 +219,78 @@ fn clear_bit(words: &mut Vec<u64>, bit: usize)
     ensures words { length words.new.items ≡ length words.old.items }
 {
     words[bit / 64] &= !(1 << (bit % 64));
+}
+
+/// A word with the bits from `low` up to below `high`.
+fn mask(low: usize, high: usize) -> u64
+    requires some { low < high }
+    requires limit { high ≤ 64 }
+    ensures { (k : ℕ) → k < 64 → bit_at result k ≡ (if is_between low high k then 1 else 0) }
+{
+    u64::MAX << low & u64::MAX >> (64 - high)
+}
+
+/// Sets the bits from one number up to below another, word by word.
+fn set_bits(words: &mut Vec<u64>, from: usize, end: usize)
+    requires order { from ≤ end }
+    requires within { end ≤ bits_of words.old.items }
+    requires limit { length words.old.items ≤ 129 }
+    ensures bits { (b : ℕ) → is_set words.new.items b ≡ (if is_between from end b then true else is_set words.old.items b) }
+    ensures words { length words.new.items ≡ length words.old.items }
+{
+    let mut bit = from;
+    while bit < end {
+        let next = end.min((bit / 64 + 1) * 64);
+        set_in_word(words, bit, next);
+        bit = next;
+    }
+}
+
+/// Sets the bits from one number up to below another, which are of one word.
+fn set_in_word(words: &mut Vec<u64>, from: usize, end: usize)
+    requires some { from < end }
+    requires within { end ≤ bits_of words.old.items }
+    requires word { end ≤ 64 * (from / 64) + 64 }
+    ensures bits { (b : ℕ) → is_set words.new.items b ≡ (if is_between from end b then true else is_set words.old.items b) }
+    ensures words { length words.new.items ≡ length words.old.items }
+{
+    let index = from / 64;
+    words[index] |= mask(from % 64, end - 64 * index);
+}
+
+/// Clears the bits from one number up to below another, word by word. It answers how many of them were set.
+fn clear_bits(words: &mut Vec<u64>, from: usize, end: usize) -> usize
+    requires order { from ≤ end }
+    requires within { end ≤ bits_of words.old.items }
+    requires limit { length words.old.items ≤ 129 }
+    ensures bits { (b : ℕ) → is_set words.new.items b ≡ (if is_between from end b then false else is_set words.old.items b) }
+    ensures count { result ≡ set_from words.old.items from (end - from) }
+    ensures words { length words.new.items ≡ length words.old.items }
+{
+    let mut bit = from;
+    let mut cleared = 0;
+    while bit < end {
+        let next = end.min((bit / 64 + 1) * 64);
+        cleared += clear_in_word(words, bit, next);
+        bit = next;
+    }
+    cleared
+}
+
+/// Clears the bits from one number up to below another, which are of one word. It answers how many of them were set.
+fn clear_in_word(words: &mut Vec<u64>, from: usize, end: usize) -> usize
+    requires some { from < end }
+    requires within { end ≤ bits_of words.old.items }
+    requires word { end ≤ 64 * (from / 64) + 64 }
+    ensures bits { (b : ℕ) → is_set words.new.items b ≡ (if is_between from end b then false else is_set words.old.items b) }
+    ensures count { result ≡ set_from words.old.items from (end - from) }
+    ensures words { length words.new.items ≡ length words.old.items }
+{
+    let index = from / 64;
+    let mask = mask(from % 64, end - 64 * index);
+    let word = words[index];
+    words[index] = word & !mask;
+    (word & mask).count_ones() as usize
 }
 
 /// Clears every bit.
