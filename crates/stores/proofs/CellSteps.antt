@@ -1,9 +1,9 @@
 -- Slots in cells: what is read of them, and what is left when a cell that is no held one comes, when the first goes, and when
 -- one is asked for.
-use Rattle.std.proofs.Common.{◌≡◌, ℕ, zero, suc, ◌+◌, ◌<◌, ◌≤◌, ◌++◌, List, [], ◌∷◌, length, drop, get_or, slice_get, slice_set, true, Option, Some, None, ap, sym, subst, ◌∙◌, refl, arith, length-append, length-set, length-drop, append-nil}
+use Rattle.std.proofs.Common.{◌≡◌, ℕ, zero, suc, ◌+◌, ◌<◌, ◌≤◌, ◌++◌, List, [], ◌∷◌, length, take, drop, get_or, slice_get, slice_set, true, Option, Some, None, ap, sym, subst, ◌∙◌, refl, arith, length-append, length-set, length-drop}
 use Rattle.std.specs.Prelude.{IsSomeAnd}
 use Rattle.std.specs.Option.{option_map}
-use Rattle.std.proofs.lemmas.List.{map-append, map-set, drop-map}
+use Rattle.std.proofs.lemmas.List.{map-set, drop-map}
 use Rattle.std.proofs.lemmas.Bool.Decides.{nat_tests}
 use Rattle.std.proofs.lemmas.Option.{slice_get-map}
 use Rattle.circular_buffer.specs.Buffer.{Buffer, buffer}
@@ -11,11 +11,10 @@ use Rattle.rtpwire.specs.declared.content.Content.{Content}
 use Rattle.stores.specs.declared.cell.Cell.{Cell}
 use Rattle.stores.specs.declared.cell.Cell.TheVariants.{Taken, Unseen}
 use Rattle.stores.specs.declared.slot.Slot.{Slot}
-use Rattle.stores.specs.declared.slot.Slot.TheVariants.{Held, Missing}
-use Rattle.stores.specs.Put.{noticed_at}
+use Rattle.stores.specs.declared.slot.Slot.TheVariants.{Missing}
 use Rattle.stores.specs.Asking.{is_missing, CanBeAsked, asked_at}
 use Rattle.stores.specs.Pool.{slot_in, slots_in, numbers_of, times, IsPool, AreSlots, freed, CanCellBeAsked, asked_cell}
-use Rattle.stores.proofs.Pooled.{pool_missing, pool_freed, pool_passed, pool_asked, held_le}
+use Rattle.stores.proofs.Pooled.{pool_missing, pool_freed, pool_passed, pool_dropped, pool_asked}
 use Rattle.stores.proofs.Filling.{same_pool, same_buffers, slot_count, Leaves}
 
 -- no cells and no buffers
@@ -89,6 +88,31 @@ module _ (ring ring₂ : Buffer Cell) (contents : List Content) (free : List ℕ
         limit = omega (arith, size, limit);
         room = omega (arith, shorter, size, room);
       }
+
+  -- the first cells go
+  pub cells_gone : (count : ℕ) (free₂ : List ℕ) (free_most₂ : ℕ) → free₂ ≡ free ++ numbers_of (take count ring.items) → free_most₂ ≡ free_most → ring₂.items ≡ drop count ring.items
+      → AreSlots ring₂ contents free₂ most free_most₂
+  cells_gone count free₂ free_most₂ freed_is same_free cells =
+      let shorter = ap length cells ∙ length-drop count ring.items in
+      let few = are.few in
+      let enough = are.contents_room in
+      let enough_free = are.free_room in
+      let limit = are.limit in
+      let room = are.room in
+      record {
+        pool = same_pool (drop count ring.items) ring₂.items contents contents (free ++ numbers_of (take count ring.items)) free₂ cells refl freed_is (pool_dropped ring.items contents free count are.pool);
+        few = omega (arith, few, size);
+        contents_room = omega (arith, size, enough);
+        free_room = omega (arith, size, enough_free, same_free);
+        limit = omega (arith, size, limit);
+        room = omega (arith, shorter, size, room);
+      }
+
+  pub cells_gone_view : (count : ℕ) → ring₂.items ≡ drop count ring.items → buffer (slots_in contents ring₂.items) ring₂.capacity ≡ buffer (drop count before.items) before.capacity
+  cells_gone_view count cells =
+      let seen = ap (λ (b : Buffer Slot). b.items) view in
+      let fits = ap (λ (b : Buffer Slot). b.capacity) view in
+      same_buffers (ap (slots_in contents) cells ∙ sym (drop-map (slot_in contents) count ring.items) ∙ ap (drop count) seen) (size ∙ fits)
 
   -- a cell is asked for
   pub cell_asked : (i now : ℕ) (cell : Cell) → slice_get ring.items i ≡ Some cell → CanCellBeAsked cell → ring₂.items ≡ slice_set ring.items i (asked_cell now cell)

@@ -1,13 +1,18 @@
 -- The index of the missing slots, when slots come, go and change.
-use Rattle.std.proofs.Common.{◌≡◌, ℕ, zero, suc, ◌+◌, ◌<◌, ◌==◌, ◌++◌, Bool, true, false, List, [], ◌∷◌, length, drop, slice_get, slice_set, Option, Some, None, ap, sym, ◌∙◌, refl, arith}
+use Rattle.std.proofs.Common.{◌≡◌, ℕ, zero, suc, ◌+◌, ◌<◌, ◌≤◌, ◌==◌, ◌++◌, Bool, true, false, List, [], ◌∷◌, length, take, drop, replicate, slice_get, slice_set, nat_lt, Option, Some, None, ap, sym, ◌∙◌, refl, arith, length-append}
 use Rattle.std.specs.Prelude.{if◌then◌else◌, IsSomeAnd}
+use Rattle.std.specs.List.{filter}
+use Rattle.std.proofs.lemmas.List.{length-take-le, take-append-drop}
+use Rattle.std.proofs.lemmas.List.Elements.{filter-append}
 use Rattle.std.proofs.lemmas.Option.{same_Some, slice_get_past, slice_get_within}
 use Rattle.stores.specs.declared.slot.Slot.{Slot}
 use Rattle.stores.specs.declared.slot.Slot.TheVariants.{Held, Missing}
 use Rattle.stores.specs.Asking.{is_missing, CanBeAsked, asked_at}
-use Rattle.stores.specs.Bits.{bits_of, is_member, size_of}
+use Rattle.stores.specs.Bits.{bits_of, is_member, size_of, is_between, members_below, IsSetOf}
 use Rattle.stores.specs.Index.{count_missing, IsIndex}
-use Rattle.stores.proofs.SetOfItems.{set_after_change, set_after_same, set_after_drop, set_after_push, set_after_add}
+use Rattle.stores.proofs.SetOfItems.{set_after_change, set_after_same, set_after_drop, set_after_drops, set_after_push, set_after_add, set_after_adds}
+use Rattle.stores.proofs.Passing.{passing_count}
+use Rattle.stores.proofs.Lookup.{slice_get-append_left}
 
 weight : Bool → ℕ
 weight true = 1
@@ -69,6 +74,53 @@ index_shift old new front after (x ∷ slots) long few members size is =
     let counted = counted_first x slots in
     let count = is.1 in
     (set_after_drop is_missing old new front after (x ∷ slots) long few refl members is.0, omega arith)
+
+counted_both : (xs ys : List Slot) → count_missing (xs ++ ys) ≡ count_missing xs + count_missing ys
+counted_both xs ys = ap length (filter-append (λ (slot : Slot). is_missing (Some slot)) xs ys) ∙ length-append (filter (λ (slot : Slot). is_missing (Some slot)) xs) (filter (λ (slot : Slot). is_missing (Some slot)) ys)
+
+counted_first_ones : (words : List ℕ) (front : ℕ) (slots : List Slot) (count : ℕ) → count ≤ length slots → length slots ≤ bits_of words → IsSetOf is_missing words front slots →
+    members_below words front count ≡ count_missing (take count slots)
+counted_first_ones words front slots count fits few is =
+    let long = length-take-le count slots fits in
+    let whole = take-append-drop count slots in
+    ap (λ n. members_below words front n) (sym long)
+    ∙ passing_count (is_member words front) (λ slot. is_missing (Some slot)) 0 (take count slots) (λ i x e.
+    let within = slice_get_within (take count slots) i x e in
+    let same : 0 + i ≡ i = omega arith in
+    ap (is_member words front) same ∙ is i (omega arith) ∙ ap (λ xs. is_missing (slice_get xs i)) (sym whole) ∙ ap is_missing (slice_get-append_left (take count slots) (drop count slots) i within ∙ e))
+
+-- the first slots went
+pub index_shift_by : (old new : List ℕ) (front after count : ℕ) (slots : List Slot) → length new ≡ length old → length slots ≤ bits_of old → count ≤ length slots →
+    ((p : ℕ) → p < bits_of old → is_member new after p ≡ (if nat_lt (p + count) (bits_of old) then is_member old front (p + count) else false)) →
+    size_of new + members_below old front count ≡ size_of old → IsIndex old front slots → IsIndex new after (drop count slots)
+index_shift_by old new front after count slots long few fits members size is =
+    let gone = counted_first_ones old front slots count fits few is.0 in
+    let apart = ap count_missing (sym (take-append-drop count slots)) ∙ counted_both (take count slots) (drop count slots) in
+    let counted = is.1 in
+    (set_after_drops is_missing old new front after count slots long few refl members is.0, omega arith)
+
+counted_many : (count : ℕ) (x : Slot) → is_missing (Some x) ≡ true → count_missing (replicate count x) ≡ count
+unfolding weight
+counted_many zero x missing = refl
+counted_many (suc count) x missing =
+    let rest = counted_many count x missing in
+    let first = counted_first x (replicate count x) in
+    let one = ap weight missing in
+    omega arith
+
+-- missing slots came
+pub index_adds : (old new : List ℕ) (front after count : ℕ) (slots : List Slot) (x : Slot) → length new ≡ length old → is_missing (Some x) ≡ true →
+    ((p : ℕ) → p < bits_of old → is_member new after p ≡ (if is_between (length slots) (length slots + count) p then true else is_member old front p)) →
+    size_of new ≡ size_of old + count → IsIndex old front slots → IsIndex new after (slots ++ replicate count x)
+index_adds old new front after count slots x long missing members size is =
+    let counted = counted_both slots (replicate count x) in
+    let many = counted_many count x missing in
+    let before = is.1 in
+    (set_after_adds is_missing old new front after count slots x long missing refl members is.0, omega arith)
+
+-- no position above all slots is in it
+pub index_none : (words : List ℕ) (front : ℕ) (slots : List Slot) (p : ℕ) → IsIndex words front slots → length slots ≤ p → p < bits_of words → is_member words front p ≡ false
+index_none words front slots p is above below = is.0 p below ∙ ap is_missing (slice_get_past slots p above)
 
 -- a missing slot came
 pub index_add : (old new : List ℕ) (front after : ℕ) (slots : List Slot) (x : Slot) → length new ≡ length old → length slots < bits_of old → is_missing (Some x) ≡ true →

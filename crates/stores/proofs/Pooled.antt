@@ -1,9 +1,8 @@
 -- Cells, the buffers of their contents and the free ones, when a buffer is used or freed.
-use Rattle.std.proofs.Common.{◌≡◌, ◌≢◌, ℕ, zero, suc, ◌+◌, ◌<◌, ◌≤◌, ◌==◌, ◌++◌, Bool, true, false, cond, List, [], ◌∷◌, length, map, drop, get_or, slice_get, slice_set, nat_lt, Option, Some, All, ap, sym, ◌∙◌, refl, arith, length-append, length-set, append-nil}
+use Rattle.std.proofs.Common.{◌≡◌, ◌≢◌, ℕ, zero, suc, ◌+◌, ◌<◌, ◌≤◌, ◌==◌, ◌++◌, List, [], ◌∷◌, length, take, drop, get_or, slice_get, slice_set, nat_lt, Some, All, ap, sym, ◌∙◌, refl, arith, length-append, length-set, append-nil, append_assoc}
 use Rattle.std.specs.Prelude.{if◌then◌else◌}
-use Rattle.std.proofs.lemmas.Bool.{cond_both}
 use Rattle.std.proofs.lemmas.Bool.Decides.{nat_tests}
-use Rattle.std.proofs.lemmas.List.{map-append, map-set, get_or-set_same, get_or-set_other}
+use Rattle.std.proofs.lemmas.List.{take-append-drop, map-append, map-set, get_or-set_same, get_or-set_other}
 use Rattle.std.proofs.lemmas.List.Elements.{All-from_get_or}
 use Rattle.std.proofs.lemmas.Option.{same_Some}
 use Rattle.rtpwire.specs.declared.content.Content.{Content}
@@ -12,7 +11,7 @@ use Rattle.stores.specs.declared.cell.Cell.{Cell}
 use Rattle.stores.specs.declared.cell.Cell.TheVariants.{Taken, Unseen}
 use Rattle.stores.specs.declared.slot.Slot.{Slot}
 use Rattle.stores.specs.declared.slot.Slot.TheVariants.{Held}
-use Rattle.stores.specs.Pool.{slot_in, slots_in, numbers_of, times, IsPool, grown_contents, grown_free}
+use Rattle.stores.specs.Pool.{slot_in, slots_in, numbers_of, times, IsPool, grown_contents, grown_free, freed}
 
 -- numbers among others
 
@@ -269,6 +268,71 @@ unfolding numbers_of
 pool_passed [] contents free noticed asks last found is = absurd cc
 pool_passed (Taken m ∷ cells) contents free noticed asks last found is = absurd cc
 pool_passed (Unseen a b c ∷ cells) contents free noticed asks last found is = record { once = is.once; all = is.all }
+
+-- the first cells go
+
+cells_apart : (n : ℕ) (cells : List Cell) → numbers_of cells ≡ numbers_of (take n cells) ++ numbers_of (drop n cells)
+cells_apart n cells = ap numbers_of (sym (take-append-drop n cells)) ∙ numbers_append (take n cells) (drop n cells)
+
+pub pool_dropped : (cells : List Cell) (contents : List Content) (free : List ℕ) (n : ℕ) → IsPool cells contents free → IsPool (drop n cells) contents (free ++ numbers_of (take n cells))
+pool_dropped cells contents free n is =
+    let apart = cells_apart n cells in
+    record {
+      once = λ m.
+          let before = is.once m in
+          let all = ap (times m) apart ∙ times_append m (numbers_of (take n cells)) (numbers_of (drop n cells)) in
+          let more = times_append m free (numbers_of (take n cells)) in
+          omega arith;
+      all =
+          let before = is.all in
+          let whole = ap length apart ∙ length-append (numbers_of (take n cells)) (numbers_of (drop n cells)) in
+          let more = length-append free (numbers_of (take n cells)) in
+          omega arith;
+    }
+
+-- there is room for their numbers
+pub room_to_free_many : (cells : List Cell) (contents : List Content) (free : List ℕ) (n : ℕ) → IsPool cells contents free → length free + length (numbers_of (take n cells)) ≤ length contents
+room_to_free_many cells contents free n is =
+    let all = is.all in
+    let whole = ap length (cells_apart n cells) ∙ length-append (numbers_of (take n cells)) (numbers_of (drop n cells)) in
+    omega arith
+
+-- the free numbers once one cell more is freed
+
+freed_after : (ms ns : List ℕ) (cell : Cell) → freed (ms ++ ns) (Some cell) ≡ ms ++ freed ns (Some cell)
+freed_after ms ns (Taken n) = append_assoc ms ns (n ∷ [])
+freed_after ms ns (Unseen a b c) = refl
+
+numbers_of_one : (cell : Cell) → numbers_of (cell ∷ []) ≡ freed [] (Some cell)
+unfolding numbers_of
+numbers_of_one (Taken n) = refl
+numbers_of_one (Unseen a b c) = refl
+
+numbers_next : (cells : List Cell) (i : ℕ) (cell : Cell) → slice_get cells i ≡ Some cell → numbers_of (take (suc i) cells) ≡ freed (numbers_of (take i cells)) (Some cell)
+unfolding numbers_of
+numbers_next [] i cell found = absurd cc
+numbers_next (x ∷ cells) zero cell found = ap (λ y. numbers_of (y ∷ [])) (same_Some x cell found) ∙ numbers_of_one cell
+numbers_next (Taken m ∷ cells) (suc i) cell found = ap (λ (ns : List ℕ). m ∷ ns) (numbers_next cells i cell found) ∙ sym (freed_after (m ∷ []) (numbers_of (take i cells)) cell)
+numbers_next (Unseen a b c ∷ cells) (suc i) cell found = numbers_next cells i cell found
+
+pub freed_next : (cells : List Cell) (free : List ℕ) (i : ℕ) (cell : Cell) → slice_get cells i ≡ Some cell → freed (free ++ numbers_of (take i cells)) (Some cell) ≡ free ++ numbers_of (take (i + 1) cells)
+freed_next cells free i cell found =
+    let next : suc i ≡ i + 1 = omega arith in
+    freed_after free (numbers_of (take i cells)) cell ∙ ap (λ (ns : List ℕ). free ++ ns) (sym (numbers_next cells i cell found) ∙ ap (λ n. numbers_of (take n cells)) next)
+
+pub freed_none : (cells : List Cell) (free : List ℕ) → free ≡ free ++ numbers_of (take 0 cells)
+unfolding numbers_of
+freed_none cells free = sym (append-nil free)
+
+-- a run of cells that has one with a number has more of them than what is before that one
+pub numbers_left : (cells : List Cell) (i count n : ℕ) → i < count → slice_get cells i ≡ Some (Taken n) → length (numbers_of (take i cells)) < length (numbers_of (take count cells))
+unfolding numbers_of
+numbers_left [] i count n l found = absurd cc
+numbers_left cells i zero n l found = absurd (omega arith)
+numbers_left (Unseen a b c ∷ cells) zero (suc count) n l found = absurd cc
+numbers_left (Taken m ∷ cells) zero (suc count) n l found = omega arith
+numbers_left (Taken m ∷ cells) (suc i) (suc count) n l found = let rest = numbers_left cells i count n (omega arith) found in omega arith
+numbers_left (Unseen a b c ∷ cells) (suc i) (suc count) n l found = numbers_left cells i count n (omega arith) found
 
 -- cells without a number come and change
 

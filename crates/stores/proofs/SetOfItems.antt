@@ -1,11 +1,13 @@
 -- A set of the positions of items that pass a test, when items come, go and change.
-use Rattle.std.proofs.Common.{◌≡◌, ◌≢◌, ℕ, zero, suc, ◌+◌, ◌-◌, ◌<◌, ◌≤◌, ◌==◌, ◌++◌, Bool, true, false, List, [], ◌∷◌, length, drop, slice_get, slice_set, Option, Some, None, nat_lt, ap, sym, ◌∙◌, arith, ltb-true, ltb-false}
+use Rattle.std.proofs.Common.{◌≡◌, ◌≢◌, ℕ, zero, suc, ◌+◌, ◌-◌, ◌<◌, ◌≤◌, ◌==◌, ◌++◌, Bool, true, false, List, [], ◌∷◌, length, drop, replicate, slice_get, slice_set, Option, Some, None, nat_lt, ap, sym, ◌∙◌, arith, ltb-true, ltb-false, length-append}
 use Rattle.std.specs.Prelude.{if◌then◌else◌}
 use Rattle.std.proofs.lemmas.Bool.{cond_both, eqb-true, eqb-false}
 use Rattle.std.proofs.lemmas.Bool.Decides.{nat_tests}
 use Rattle.std.proofs.lemmas.Option.{slice_get_past}
-use Rattle.stores.specs.Bits.{bits_of, is_member, IsSetOf}
-use Rattle.stores.proofs.Lookup.{slice_get-append_left, slice_get-append_right, slice_get-drop, slice_get-set_same, slice_get-set_other}
+use Rattle.std.proofs.lemmas.List.{length-replicate}
+use Rattle.stores.specs.Bits.{bits_of, is_member, is_between, IsSetOf}
+use Rattle.stores.proofs.BitRanges.{by_run, between, before, behind}
+use Rattle.stores.proofs.Lookup.{slice_get-append_left, slice_get-append_right, slice_get-drop, slice_get-replicate, slice_get-set_same, slice_get-set_other}
 
 module _ {X : Type 0} (test : Option X → Bool) where
   pick : (p i : ℕ) (b v o : Bool) → b ≡ (if p == i then v else o) → p ≡ i → b ≡ v
@@ -48,6 +50,17 @@ module _ {X : Type 0} (test : Option X → Bool) where
       skip (p + 1) (bits_of old) (is_member new after p) false (is_member old front (p + 1)) (shifted p (omega arith)) more
       ∙ is (p + 1) (omega arith) ∙ ap test (sym dropped))
 
+  -- the first items went, and the others moved down
+  pub set_after_drops : (old new : List ℕ) (front after count : ℕ) (items : List X) → length new ≡ length old → length items ≤ bits_of old → test None ≡ false →
+      ((p : ℕ) → p < bits_of old → is_member new after p ≡ (if nat_lt (p + count) (bits_of old) then is_member old front (p + count) else false)) →
+      IsSetOf test old front items → IsSetOf test new after (drop count items)
+  set_after_drops old new front after count items long few none shifted is p below =
+      let dropped = slice_get-drop count items p (p + count) (omega arith) in
+      cond_both (nat_lt (p + count) (bits_of old)) true false (λ _. is_member new after p ≡ test (slice_get (drop count items) p))
+      (λ e. shifted p (omega arith) ∙ ap (λ t. if t then is_member old front (p + count) else false) e ∙ is (p + count) (ltb-true _ _ e) ∙ ap test (sym dropped))
+      (λ e. let past : bits_of old ≤ p + count = ltb-false _ _ e in
+      shifted p (omega arith) ∙ ap (λ t. if t then is_member old front (p + count) else false) e ∙ sym (ap test (dropped ∙ slice_get_past items (p + count) (omega arith)) ∙ none))
+
   one_fails : (i : ℕ) (x : X) → test (Some x) ≡ false → test None ≡ false → test (slice_get (x ∷ []) i) ≡ false
   one_fails zero x fails none = fails
   one_fails (suc i) x fails none = none
@@ -86,3 +99,18 @@ module _ {X : Type 0} (test : Option X → Bool) where
       let off = is p (omega arith) ∙ ap test past ∙ none in
       let got = slice_get-append_right items (x ∷ []) p (p - length items) (omega arith) in
       members p (omega arith) ∙ same_choice p (length items) above (is_member old front p) ∙ one_passes (p - length items) x (is_member old front p) passes none off ∙ ap test (sym got))
+
+  -- items came that pass, and their positions were set
+  pub set_after_adds : (old new : List ℕ) (front after count : ℕ) (items : List X) (x : X) → length new ≡ length old → test (Some x) ≡ true → test None ≡ false →
+      ((p : ℕ) → p < bits_of old → is_member new after p ≡ (if is_between (length items) (length items + count) p then true else is_member old front p)) →
+      IsSetOf test old front items → IsSetOf test new after (items ++ replicate count x)
+  set_after_adds old new front after count items x long passes none members is p below =
+      by_run (is_member new after p ≡ test (slice_get (items ++ replicate count x) p)) (length items) (length items + count) p
+      (λ inside. members p (omega arith) ∙ ap (λ t. if t then true else is_member old front p) (before (length items) (length items + count) p inside) ∙ is p (omega arith)
+      ∙ ap test (sym (slice_get-append_left items (replicate count x) p inside)))
+      (λ l u. let got = slice_get-append_right items (replicate count x) p (p - length items) (omega arith) ∙ slice_get-replicate count x (p - length items) (omega arith) in
+      members p (omega arith) ∙ ap (λ t. if t then true else is_member old front p) (between (length items) (length items + count) p l u) ∙ sym (ap test got ∙ passes))
+      (λ past. let whole = length-append items (replicate count x) in
+      let more = length-replicate count x in
+      members p (omega arith) ∙ ap (λ t. if t then true else is_member old front p) (behind (length items) (length items + count) p past) ∙ is p (omega arith)
+      ∙ ap test (slice_get_past items p (omega arith) ∙ sym (slice_get_past (items ++ replicate count x) p (omega arith))))

@@ -166,15 +166,16 @@ fn drop_front(slots: &mut Slots, missing: &mut Bits, count: u64)
     ensures words { length missing.new.words.items ≡ length missing.old.words.items }
     ensures index { IsIndex missing.new.words.items missing.new.front slots.new.items }
 {
-    if count > 0 && count >= slots.len() as u64 {
+    if count == 0 {
+        return;
+    }
+    if count >= slots.len() as u64 {
         slots.clear();
         missing.clear_all();
         return;
     }
-    'dropped: for _ in 0..count {
-        slots.drop_first();
-        missing.shift();
-    }
+    slots.drop_many(count as usize);
+    missing.shift_by(count as usize);
 }
 
 /// Appends so many slots of places that were noticed to be missing now.
@@ -187,8 +188,8 @@ fn add_missing(slots: &mut Slots, missing: &mut Bits, count: u64, now: u64)
     ensures words { length missing.new.words.items ≡ length missing.old.words.items }
     ensures index { IsIndex missing.new.words.items missing.new.front slots.new.items }
 {
+    missing.set_range(slots.len(), count as usize);
     'added: for _ in 0..count {
-        missing.set(slots.len());
         slots.append_missing(now);
     }
 }

@@ -1,5 +1,5 @@
 //! The slots of a ring window: a ring of small cells, and their contents in a pool.
-ghost use Rattle.std.specs.Prelude.{◌≡◌, ℕ, ◌<◌, ◌≤◌, true, [], ◌∷◌, ◌++◌, length, drop, slice_get, slice_set, IfOk, Some, IsSomeAnd};
+ghost use Rattle.std.specs.Prelude.{◌≡◌, ℕ, ◌+◌, ◌<◌, ◌≤◌, true, [], ◌∷◌, ◌++◌, length, take, drop, slice_get, slice_set, IfOk, Some, IsSomeAnd};
 ghost use Rattle.std.specs.Option.{option_map};
 ghost use Rattle.circular_buffer.specs.Buffer.{buffer};
 ghost use Rattle.stores.specs.declared.cell.Cell.TheVariants.{Taken};
@@ -8,7 +8,7 @@ ghost use Rattle.stores.specs.Put.{noticed_at};
 ghost use Rattle.stores.specs.Lent.{slot_of};
 ghost use Rattle.std.specs.Vec.{vec_capacity};
 ghost use Rattle.stores.specs.Asking.{is_missing, CanBeAsked, asked_at};
-ghost use Rattle.stores.specs.Pool.{freed, CanCellBeAsked, asked_cell};
+ghost use Rattle.stores.specs.Pool.{freed, numbers_of, CanCellBeAsked, asked_cell};
 
 use crate::cell::Cell;
 use crate::memory::OutOfMemory;
@@ -134,6 +134,15 @@ impl Slots {
         drop_first(&mut self.cells);
     }
 
+    /// Drops so many of the first slots. The buffers of their contents, of those that have one, are the next ones used.
+    pub fn drop_many(&mut self, count: usize)
+        requires { count ≤ length self.old.items }
+        ensures { self.new ≡ buffer (drop count self.old.items) self.old.capacity }
+    {
+        free_many(&self.cells, &mut self.free, count);
+        drop_many(&mut self.cells, count);
+    }
+
     /// Drops all slots. The buffers of their contents are made anew as they are used.
     pub fn clear(&mut self)
         ensures { self.new ≡ buffer [] self.old.capacity }
@@ -169,7 +178,30 @@ fn free_first(cells: &HeapCircularBuffer<Cell>, free: &mut Vec<u16>)
     ensures free { free.new.items ≡ freed free.old.items (slice_get cells.now.items 0) }
     ensures capacity { vec_capacity free.new ≡ vec_capacity free.old }
 {
-    if let Some(Cell::Taken(number)) = cells.front() {
+    if let Some(cell) = cells.front() {
+        free_cell(cell, free);
+    }
+}
+
+/// Frees the buffers of the first cells, so many of them, where they have one.
+fn free_many(cells: &HeapCircularBuffer<Cell>, free: &mut Vec<u16>, count: usize)
+    requires there { count ≤ length cells.now.items }
+    requires room { length free.old.items + length (numbers_of (take count cells.now.items)) ≤ vec_capacity free.old }
+    ensures free { free.new.items ≡ free.old.items ++ numbers_of (take count cells.now.items) }
+    ensures capacity { vec_capacity free.new ≡ vec_capacity free.old }
+{
+    'freed: for index in 0..count {
+        free_cell(cells.get(index).unwrap(), free);
+    }
+}
+
+/// Frees the buffer of a cell, if it has one.
+fn free_cell(cell: &Cell, free: &mut Vec<u16>)
+    requires { (n : ℕ) → cell.now ≡ Taken n → length free.old.items < vec_capacity free.old }
+    ensures free { free.new.items ≡ freed free.old.items (Some cell.now) }
+    ensures capacity { vec_capacity free.new ≡ vec_capacity free.old }
+{
+    if let Cell::Taken(number) = cell {
         free.push_reserved(*number);
     }
 }
@@ -201,4 +233,13 @@ fn drop_first(ring: &mut HeapCircularBuffer<Cell>)
     ensures capacity { ring.new.capacity ≡ ring.old.capacity }
 {
     ring.truncate_front(ring.len() - 1);
+}
+
+/// Drops so many of the first cells of a ring.
+fn drop_many(ring: &mut HeapCircularBuffer<Cell>, count: usize)
+    requires { count ≤ length ring.old.items }
+    ensures items { ring.new.items ≡ drop count ring.old.items }
+    ensures capacity { ring.new.capacity ≡ ring.old.capacity }
+{
+    ring.truncate_front(ring.len() - count);
 }
