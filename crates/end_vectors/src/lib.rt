@@ -12,6 +12,8 @@ mod both_windows;
 mod receivers;
 #[cfg(test)]
 mod senders;
+#[cfg(test)]
+mod sharing;
 mod slices;
 #[cfg(test)]
 mod windows;

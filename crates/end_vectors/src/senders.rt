@@ -54,6 +54,10 @@ fn the_laws_of_a_sender() {
     sending_is_in_order();
     feedback_is_determined();
     feedback_is_in_order();
+    shared_feedback_is_determined();
+    shared_feedback_is_in_order();
+    marking_the_last_is_feedback();
+    any_reporter_is_heard();
     repairing_is_determined();
 }
 
@@ -64,7 +68,7 @@ fn the_number_of_no_place_left(rt: HostRuntime) {
 }
 
 /// Sends a content whose payload is aa, and tells whether it was sent.
-fn sends<H: History>(sender: &mut Sender<H>) -> bool {
+pub(crate) fn sends<H: History>(sender: &mut Sender<H>) -> bool {
     let mut payload = ArrayVec::new();
     payload.push(0xaa);
     let content = Content {

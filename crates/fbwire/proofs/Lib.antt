@@ -1,5 +1,6 @@
 pub mod Octets
 pub mod PairLists
+pub mod Lengths
 pub mod NackSpelling
 pub mod Masks
 pub mod Progress

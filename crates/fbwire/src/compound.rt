@@ -1,12 +1,13 @@
 //! Reading a compound datagram.
-ghost use Rattle.std.specs.Prelude.{◌≡◌, ◌↔◌, ◌⊎◌, ◌<◌, ◌^◌, ℕ, Result, slice_index, Contains, List, [], ◌∷◌, None, length, IfOk, IfErr, MatchResult, MatchOption};
+ghost use Rattle.std.specs.Prelude.{◌≡◌, ◌↔◌, ◌⊎◌, ◌<◌, ◌≤◌, ◌*◌, ◌^◌, ℕ, Result, slice_index, Contains, List, [], ◌∷◌, None, length, IfOk, IfErr, MatchResult, MatchOption};
 ghost use Rattle.std.specs.Iterator.{YieldsFirst, item_count};
+ghost use Rattle.std.specs.List.{flat_map};
 ghost use Rattle.std.specs.Option.{option_map};
 ghost use Rattle.std.specs.Result.{result_err};
 ghost use Rattle.rtpwire.specs.FirstOf.{FirstOf};
 ghost use Rattle.fbwire.specs.declared.fault.FeedbackFault.{FeedbackFault};
 ghost use Rattle.fbwire.specs.Fault.{feedback_number};
-ghost use Rattle.fbwire.specs.Nack.{Nack, NackSpells, Names};
+ghost use Rattle.fbwire.specs.Nack.{Nack, NackSpells, Names, numbers_of};
 ghost use Rattle.fbwire.specs.Compound.{CompoundSpells, NacksName};
 ghost use Rattle.fbwire.specs.CompoundChecks.{IsRefused};
 ghost use Rattle.fbwire.specs.CompoundReading.{nacks_in};
@@ -177,4 +178,11 @@ pub fn compound_is_determined()
 
     // It names a number, or it does not: which of the two can be told.
     ensures decided { (nacks : List Nack) (number : ℕ) → NacksName nacks number ⊎ (NacksName nacks number → ⊥) }
+
+    // A NACK has 16 octets at least, and four octets name at most 17 numbers.
+    ensures few { (octets : List ℕ) (nacks : List Nack) → CompoundSpells nacks octets
+        → (16 * length nacks ≤ length octets) × (4 * length (flat_map (λ (nack : Nack). numbers_of nack.pairs) nacks) ≤ 17 * length octets) }
+
+    // No reader answers 18 or 19.
+    ensures reader { (octets : List ℕ) (fault : FeedbackFault) → IsRefused octets fault → feedback_number fault < 18 }
 {}

@@ -5,6 +5,7 @@ pub mod Listed
 pub mod MarkedNumbers
 pub mod Named
 pub mod Ours
+pub mod AnyReporter
 pub mod Counted
 pub mod SameSteps
 pub mod SameMarks

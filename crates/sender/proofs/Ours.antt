@@ -1,5 +1,5 @@
 -- Which NACKs are of the session, and the numbers that they name.
-use Rattle.std.proofs.Common.{◌≡◌, suc, ◌==◌, ◌&&◌, Bool, true, false, cond, List, [], ◌∷◌, ◌++◌, Option, Some, None, refl, sym, ap, ◌∙◌, arith}
+use Rattle.std.proofs.Common.{◌≡◌, suc, ◌≤◌, ◌==◌, ◌&&◌, Bool, true, false, cond, List, [], ◌∷◌, ◌++◌, length, Option, Some, None, refl, sym, ap, ◌∙◌, arith, length-append}
 use Rattle.std.specs.Prelude.{IsTrue, All}
 use Rattle.std.specs.Option.{option_or}
 use Rattle.std.proofs.lemmas.Grind.{flat_map-append}
@@ -65,3 +65,16 @@ none_wrong c [] all = refl
 none_wrong c (nack ∷ nacks) all =
     ap (λ (wrong : Option FeedbackFault). option_or wrong (first_wrong c nacks)) (no_fault (nack.media == c.session.media_ssrc) (is_receiver c nack) (all 0 nack (omega arith)))
     ∙ none_wrong c nacks (λ k d within. all (suc k) d (omega arith))
+
+-- some NACKs name no more numbers than all
+pub ours_few : (c : Config) (nacks : List Nack) → (length (ours c nacks) ≤ length nacks) × (length (our_numbers c nacks) ≤ length (all_numbers nacks))
+ours_few c [] = (omega arith, omega arith)
+ours_few c (nack ∷ nacks) = by (is_ours c nack) (ours_few c nacks)
+  where
+    by : (b : Bool) → (length (ours c nacks) ≤ length nacks) × (length (our_numbers c nacks) ≤ length (all_numbers nacks)) →
+        (length (cond b (nack ∷ ours c nacks) (ours c nacks)) ≤ length (nack ∷ nacks)) × (length (all_numbers (cond b (nack ∷ ours c nacks) (ours c nacks))) ≤ length (all_numbers (nack ∷ nacks)))
+    by true (count, numbers) =
+        let mine = length-append (numbers_of nack.pairs) (our_numbers c nacks) in
+        let all = length-append (numbers_of nack.pairs) (all_numbers nacks) in
+        (omega arith, omega arith)
+    by false (count, numbers) = let all = length-append (numbers_of nack.pairs) (all_numbers nacks) in (omega arith, omega arith)

@@ -1,6 +1,6 @@
 //! Laws on what a sender answers. These functions compute nothing: their contracts are the laws, for callers that
 //! speak of places and contents alone.
-ghost use Rattle.std.specs.Prelude.{◌≡◌, ◌≢◌, ◌↔◌, ◌-◌, ◌^◌, ◌<◌, ℕ, IsTrue, List, [], ◌∷◌, slice_index, All, Option, Result, Ok};
+ghost use Rattle.std.specs.Prelude.{◌≡◌, ◌≢◌, ◌↔◌, ◌-◌, ◌^◌, ◌<◌, ℕ, IsTrue, List, [], ◌∷◌, slice_index, All, Option, Result, Ok, Err, length, true};
 ghost use Rattle.std.specs.Option.{option_map};
 ghost use Rattle.std.specs.Result.{result_err};
 ghost use Rattle.arrayvec.specs.ArrayVec.{ArrayVec};
@@ -9,6 +9,7 @@ ghost use Rattle.rtpwire.specs.declared.content.Content.{Content};
 ghost use Rattle.rtpwire.specs.FirstOf.{FirstOf};
 ghost use Rattle.rtpwire.specs.Session.{Streams};
 ghost use Rattle.fbwire.specs.declared.fault.FeedbackFault.{FeedbackFault};
+ghost use Rattle.fbwire.specs.declared.fault.FeedbackFault.TheVariants.{WrongReporter};
 ghost use Rattle.fbwire.specs.Fault.{feedback_number};
 ghost use Rattle.fbwire.specs.Nack.{Nack, NackSpells, Names};
 ghost use Rattle.fbwire.specs.Compound.{CompoundSpells};
@@ -21,7 +22,7 @@ ghost use Rattle.sender.specs.Order.{send_order, feedback_order, shared_order};
 ghost use Rattle.sender.specs.History.{SenderState};
 ghost use Rattle.sender.specs.Sending.{SendsAny};
 ghost use Rattle.sender.specs.Feedback.{HearsFeedback, MarksAlone, MarksOrRefuses, is_ours};
-ghost use Rattle.sender.specs.Shared.{HearsShared, SharesAlone, marked_of};
+ghost use Rattle.sender.specs.Shared.{HearsShared, SharesAlone, marked_of, our_numbers};
 ghost use Rattle.sender.specs.Tail.{MarksLast};
 ghost use Rattle.sender.specs.Repairing.{RepairsAny};
 
@@ -94,6 +95,9 @@ pub fn shared_feedback_is_determined()
     // Whatever the octets: the sender marks for the numbers of some NACKs, or refuses and is as it was.
     ensures any { (c : Config) (old : SenderState) (octets : List ℕ) (answer : Result Shared FeedbackFault) (new : SenderState)
         → HearsShared c old octets answer new → MarksOrRefuses c old (marked_of answer) new }
+    // Of fewer than 2^29 octets, half a gigabyte, no count is cut off.
+    ensures whole { (c : Config) (octets : List ℕ) (nacks : List Nack) → CompoundSpells nacks octets → length octets < 2 ^ 29
+        → (length nacks < 2 ^ 32) × (length (our_numbers c nacks) < 2 ^ 32) }
 {
     compound_is_determined();
 }
@@ -105,6 +109,16 @@ pub fn shared_feedback_is_in_order()
     ensures { (c : Config) (old : SenderState) (octets : List ℕ) (answer : Result Shared FeedbackFault) (new : SenderState)
         → ((i : ℕ) → slice_index octets i < 2 ^ 8) → HearsShared c old octets answer new
         → FirstOf (shared_order c octets) (option_map feedback_number (result_err answer)) }
+{
+    compound_is_determined();
+}
+
+/// A sender that takes each reporter as the session's receiver never answers 19.
+pub fn any_reporter_is_heard()
+    ensures alone { (c : Config) (old : SenderState) (octets : List ℕ) (answer : Result Marked FeedbackFault) (new : SenderState)
+        → c.any_reporter ≡ true → HearsFeedback c old octets answer new → answer ≢ Err WrongReporter }
+    ensures shared { (c : Config) (old : SenderState) (octets : List ℕ) (answer : Result Shared FeedbackFault) (new : SenderState)
+        → c.any_reporter ≡ true → HearsShared c old octets answer new → answer ≢ Err WrongReporter }
 {
     compound_is_determined();
 }

@@ -13,8 +13,8 @@ pub use answer::{Marked, Shared};
 pub use config::SenderConfig;
 pub use fault::SendFault;
 pub use laws::{
-    feedback_is_determined, feedback_is_in_order, marking_the_last_is_feedback,
-    repairing_is_determined, sending_is_determined, sending_is_in_order,
-    shared_feedback_is_determined, shared_feedback_is_in_order,
+    any_reporter_is_heard, feedback_is_determined, feedback_is_in_order,
+    marking_the_last_is_feedback, repairing_is_determined, sending_is_determined,
+    sending_is_in_order, shared_feedback_is_determined, shared_feedback_is_in_order,
 };
 pub use sender::Sender;

@@ -1,4 +1,5 @@
 use Rattle.fbwire.proofs.CheckOrder.{datagram_in_order, seen}
+use Rattle.fbwire.proofs.Lengths.{few, of_reader}
 use Rattle.fbwire.proofs.NameLists.{list_names, names_or_not}
 use Rattle.fbwire.proofs.Walks.{one_list, one_fault, not_both, alone}
 use Rattle.fbwire.proofs.compound.compound_is_determined.Goals as goal
@@ -26,3 +27,9 @@ returns-clause-order c = λ octets answer fits so. datagram_in_order octets fits
 
 pub returns-clause-seen : goal.returns-clause-seen
 returns-clause-seen c = seen
+
+pub returns-clause-few : goal.returns-clause-few
+returns-clause-few c = few
+
+pub returns-clause-reader : goal.returns-clause-reader
+returns-clause-reader c = of_reader

@@ -1,4 +1,5 @@
-use Rattle.std.proofs.Common.{sym, ◌∙◌}
+use Rattle.std.proofs.Common.{arith, sym, ◌∙◌}
+use Rattle.sender.proofs.Ours.{ours_few}
 use Rattle.sender.proofs.SameMarks.{Laws}
 use Rattle.sender.proofs.SameShared.{one_shared, same_as_feedback, shares_alone, marks_or_refuses, is_mine, is_foreign, ours_alone, theirs_alone, ours_first, theirs_second, ours_second, theirs_first}
 use Rattle.sender.proofs.laws.shared_feedback_is_determined.Goals as goal
@@ -29,4 +30,8 @@ returns g =
             shares_alone laws d before octets after b 1 _ spells (ours_second d b mine' a other') (theirs_first d b mine' a other') y hears',
           );
       any = λ c old octets answer new hears. marks_or_refuses laws c old octets answer new hears;
+      whole = λ c octets nacks spells short.
+          let few = law.few octets nacks spells in
+          let mine = ours_few c nacks in
+          (omega (arith, few.0, short), omega (arith, few.1, mine.1, short));
     }

@@ -1,0 +1,165 @@
+//! Feedback that several senders share, reporters that are not known, and the last packet of a sender that falls silent.
+use crate::senders::sends;
+use rtpwire::Session;
+use sender::*;
+use std::alloc::Global;
+use std::test::Fail;
+use stores::{History, RingHistory};
+
+/// A sender of this media, whose receiver has this SSRC. Its first numbers are 1 and 5.
+fn config(media: u32, receiver: u32, repeats: u8) -> Result<SenderConfig, Fail> {
+    let Ok(session) = Session::new(media, 96, 0x22222222, 97, receiver) else {
+        return Err(Fail::from("a good session"));
+    };
+    match SenderConfig::new(session, 1, 5, repeats) {
+        Ok(config) => Ok(config),
+        Err(_) => Err(Fail::from("a good configuration")),
+    }
+}
+
+/// A sender that sent the numbers 1 to 3.
+fn sent(alloc: Global, config: SenderConfig) -> Result<Sender<RingHistory>, Fail> {
+    let Ok(history) = RingHistory::new(alloc, 8) else {
+        return Err(Fail::from("memory is ample"));
+    };
+    let mut sender = Sender::new(config, history);
+    for _ in 0..3 {
+        if !sends(&mut sender) {
+            return Err(Fail::from("a send"));
+        }
+    }
+    Ok(sender)
+}
+
+/// The number of the refusal, or 0, and then places, NACKs, others, numbers, unknown and exhausted ones.
+type Told = (u8, [u32; 6]);
+
+fn told<H: History>(sender: &mut Sender<H>, octets: &[u8]) -> Told {
+    match sender.on_shared_feedback(octets) {
+        Ok(shared) => {
+            let counts = [
+                shared.places,
+                shared.nacks,
+                shared.others,
+                shared.numbers,
+                shared.unknown,
+                shared.exhausted,
+            ];
+            (0, counts)
+        }
+        Err(fault) => (fault.number(), [0; 6]),
+    }
+}
+
+/// The index of the first datagram that one of the two senders doesn't answer so.
+fn wrong<H: History>(
+    first: &mut Sender<H>,
+    second: &mut Sender<H>,
+    rows: &[(&[u8], Told, Told)],
+) -> Option<usize> {
+    for (index, (octets, by_first, by_second)) in rows.iter().enumerate() {
+        if told(first, octets) != *by_first || told(second, octets) != *by_second {
+            return Some(index);
+        }
+    }
+    None
+}
+
+/// A NACK for the number 1 of the media 0x11111111, from its receiver; and one for the numbers 2 and 3 of the media
+/// 0x55555555, from the receiver of that.
+const BOTH: &[u8] =
+    b"\x81\xcd\x00\x03\x33\x33\x33\x33\x11\x11\x11\x11\x00\x01\x00\x00\x81\xcd\x00\x03\x77\x77\x77\x77\x55\x55\x55\x55\x00\x02\x00\x01";
+
+/// The same with three octets behind them.
+const CUT: &[u8] =
+    b"\x81\xcd\x00\x03\x33\x33\x33\x33\x11\x11\x11\x11\x00\x01\x00\x00\x81\xcd\x00\x03\x77\x77\x77\x77\x55\x55\x55\x55\x00\x02\x00\x01\x80\xc9\x00";
+
+/// A NACK for the number 2 of the media 0x11111111, from somebody else.
+const STRANGER: &[u8] = b"\x81\xcd\x00\x03\x99\x99\x99\x99\x11\x11\x11\x11\x00\x02\x00\x00";
+
+/// Somebody else's, before that for the other media and behind it.
+const STRANGER_FIRST: &[u8] =
+    b"\x81\xcd\x00\x03\x99\x99\x99\x99\x11\x11\x11\x11\x00\x02\x00\x00\x81\xcd\x00\x03\x77\x77\x77\x77\x55\x55\x55\x55\x00\x02\x00\x01";
+
+const STRANGER_LAST: &[u8] =
+    b"\x81\xcd\x00\x03\x77\x77\x77\x77\x55\x55\x55\x55\x00\x02\x00\x01\x81\xcd\x00\x03\x99\x99\x99\x99\x11\x11\x11\x11\x00\x02\x00\x00";
+
+/// A NACK for the numbers 9, which was never sent, and 2.
+const NEVER_SENT: &[u8] =
+    b"\x81\xcd\x00\x04\x33\x33\x33\x33\x11\x11\x11\x11\x00\x09\x00\x00\x00\x02\x00\x00";
+
+/// A NACK for the number 3.
+const LAST: &[u8] = b"\x81\xcd\x00\x03\x33\x33\x33\x33\x11\x11\x11\x11\x00\x03\x00\x00";
+
+#[test]
+fn two_streams_in_one_datagram(rt: HostRuntime) -> Result<(), Fail> {
+    let mut first = sent(rt.alloc(), config(0x11111111, 0x33333333, 3)?)?;
+    let mut second = sent(rt.alloc(), config(0x55555555, 0x77777777, 3)?)?;
+    let refused = [0; 6];
+    let rows = [
+        (CUT, (11, refused), (11, refused)),
+        (BOTH, (0, [1, 1, 1, 1, 0, 0]), (0, [2, 1, 1, 2, 0, 0])),
+        // What is marked already is no place more.
+        (BOTH, (0, [0, 1, 1, 1, 0, 0]), (0, [0, 1, 1, 2, 0, 0])),
+        (STRANGER, (19, refused), (18, refused)),
+        (STRANGER_FIRST, (19, refused), (0, [0, 1, 1, 2, 0, 0])),
+        (STRANGER_LAST, (18, refused), (0, [0, 1, 1, 2, 0, 0])),
+        (NEVER_SENT, (0, [1, 1, 0, 2, 1, 0]), (18, refused)),
+    ];
+    assert_eq!(rt; wrong(&mut first, &mut second, &rows), None);
+    Ok(())
+}
+
+#[test]
+fn a_reporter_that_is_not_known(rt: HostRuntime) -> Result<(), Fail> {
+    let known = config(0x11111111, 0x33333333, 3)?;
+    let any = known.with_any_reporter();
+    let says = (known.any_reporter(), any.any_reporter(), any.repeats());
+    assert_eq!(rt; says, (false, true, 3));
+    let mut first = sent(rt.alloc(), any)?;
+    let mut second = sent(rt.alloc(), known)?;
+    let refused = [0; 6];
+    let rows = [
+        (STRANGER, (0, [1, 1, 0, 1, 0, 0]), (19, refused)),
+        (STRANGER_LAST, (0, [0, 1, 1, 1, 0, 0]), (18, refused)),
+        (BOTH, (0, [1, 1, 1, 1, 0, 0]), (0, [1, 1, 1, 1, 0, 0])),
+    ];
+    assert_eq!(rt; wrong(&mut first, &mut second, &rows), None);
+    let alone = (
+        first.on_feedback(STRANGER).is_ok(),
+        second.on_feedback(STRANGER).is_ok(),
+    );
+    assert_eq!(rt; alone, (true, false));
+    Ok(())
+}
+
+/// The place of the next retransmission.
+fn repaired<H: History>(sender: &mut Sender<H>) -> Option<u64> {
+    match sender.next_repair() {
+        Some((place, _)) => Some(place.value()),
+        None => None,
+    }
+}
+
+#[test]
+fn the_last_packet_and_the_limit(rt: HostRuntime) -> Result<(), Fail> {
+    let once = config(0x11111111, 0x33333333, 1)?;
+    let Ok(history) = RingHistory::new(rt.alloc(), 8) else {
+        return Err(Fail::from("memory is ample"));
+    };
+    let mut silent = Sender::new(once, history);
+    let mut sender = sent(rt.alloc(), once)?;
+    let marks = (
+        silent.mark_last().places,
+        sender.mark_last().places,
+        sender.mark_last().places,
+    );
+    assert_eq!(rt; marks, (0, 1, 0));
+    assert_eq!(rt;
+        (repaired(&mut sender), repaired(&mut sender)),
+        (Some(65539), None)
+    );
+    let after = (sender.mark_last().places, told(&mut sender, LAST));
+    assert_eq!(rt; after, (0, (0, [0, 1, 0, 1, 0, 1])));
+    Ok(())
+}
