@@ -58,6 +58,8 @@
 #include <stddef.h>
 #include <stdint.h>
 
+#include "gozdrit_limits.h" /* GOZDRIT_MAX_PAYLOAD and the other limits of a packet */
+
 #ifdef __cplusplus
 extern "C" {
 #endif
@@ -92,7 +94,7 @@ extern "C" {
 #define GOZDRIT_FAR 34            /* the sequence number is 16384 or more from the highest place, on both sides */
 #define GOZDRIT_LATE 35           /* the place was played, given up or overrun, or lies before the first one */
 #define GOZDRIT_DUPLICATE 36      /* the place is held already */
-#define GOZDRIT_TOO_LONG 37       /* a payload above 1200 octets, or an extension above 16 words */
+#define GOZDRIT_TOO_LONG 37       /* a payload or an extension is above its largest */
 #define GOZDRIT_UNASKED 38        /* while the SSRC is learnt: a retransmission of a place that was not asked for */
 #define GOZDRIT_PAST_END 39       /* the place would lie below 0, or not below 2^48 */
 
@@ -115,12 +117,10 @@ extern "C" {
 
 /* ---- limits */
 
-#define GOZDRIT_MAX_PAYLOAD 1200  /* octets of a payload; the room of gozdrit_play */
-#define GOZDRIT_MAX_SOURCES 15    /* CSRC identifiers */
-#define GOZDRIT_MAX_WORDS 16      /* words of a header extension */
-#define GOZDRIT_MAX_DATAGRAM 1600 /* the room of gozdrit_send, gozdrit_next_repair and gozdrit_ask */
-#define GOZDRIT_MAX_STORE 8192    /* packets that an end keeps */
-#define GOZDRIT_MAX_NAME 16       /* the room of gozdrit_refusal_name */
+/* GOZDRIT_MAX_PAYLOAD, GOZDRIT_MAX_SOURCES, GOZDRIT_MAX_WORDS and GOZDRIT_MAX_DATAGRAM are those that the library was
+ * built with: gozdrit_limits.h. */
+#define GOZDRIT_MAX_STORE 8192 /* packets that an end keeps */
+#define GOZDRIT_MAX_NAME 16    /* the room of gozdrit_refusal_name */
 
 /* ---- what is passed */
 
@@ -216,7 +216,7 @@ typedef struct gozdrit_source {
 
 /*
  * Makes a sender that sent nothing so far, and puts it into the handle. It takes the memory for `history` packets,
- * some 1.4 kB each.
+ * some 200 octets more than GOZDRIT_MAX_PAYLOAD each.
  *
  *   51, 52  the session, as gozdrit_session says
  *   53      history is not in 1 to GOZDRIT_MAX_STORE, or repeats is 0
@@ -265,7 +265,7 @@ int32_t gozdrit_next_repair(gozdrit_sender *sender, gozdrit_sent *sent, uint8_t 
 
 /*
  * Makes a receiver that took nothing so far, and puts it into the handle. It takes the memory for `window` packets,
- * some 1.4 kB each.
+ * some 200 octets more than GOZDRIT_MAX_PAYLOAD each.
  *
  *   51, 52  the session, as gozdrit_session says
  *   53      window is not in 1 to GOZDRIT_MAX_STORE, or retry or asks is 0
@@ -289,7 +289,7 @@ int32_t gozdrit_receiver_free(gozdrit_receiver *receiver);
  *           far, it is the receiver's own
  *   32      the payload type is not that of the SSRC's stream
  *   6       a retransmission without an original sequence number
- *   37      the payload has more than 1200 octets, or the extension more than 16 words
+ *   37      the payload has more than GOZDRIT_MAX_PAYLOAD octets, or the extension more than GOZDRIT_MAX_WORDS words
  *   33      a retransmission, before any media packet
  *   34, 39  the sequence number stands for no place near the highest one
  *   38      the SSRC is to be learnt, and the place is not one that is missing and was asked for

@@ -1,4 +1,4 @@
-/* What a packet costs a receiver: gozdrit_on_media and gozdrit_play of packets with 1200 octets, in order, in
+/* What a packet costs a receiver: gozdrit_on_media and gozdrit_play of packets with the longest payload, in order, in
  * nanoseconds of the processor. It prints the median of its rounds. */
 #define _POSIX_C_SOURCE 200809L
 #include "gozdrit.h"
@@ -52,6 +52,6 @@ int main(void) {
     }
     if (gozdrit_receiver_free(&receiver) || sum != (uint32_t)ROUNDS * (PACKETS * (PACKETS - 1) / 2)) return 1;
     qsort(spent, ROUNDS, sizeof *spent, is_below);
-    printf("on_media and play of 1200 octets: %.0f ns\n", spent[ROUNDS / 2]);
+    printf("on_media and play of %d octets: %.0f ns\n", GOZDRIT_MAX_PAYLOAD, spent[ROUNDS / 2]);
     return 0;
 }

@@ -57,7 +57,7 @@ static void test_sending(void) {
     ANSWERS(GOZDRIT_NULL, gozdrit_send(NULL, &header, octets, 1, 0, &l.sent, l.out, sizeof l.out));
     ANSWERS(GOZDRIT_NULL, gozdrit_send(&sender, NULL, octets, 1, 0, &l.sent, l.out, sizeof l.out));
     ANSWERS(GOZDRIT_NULL, gozdrit_send(&sender, &header, NULL, 1, 0, &l.sent, l.out, sizeof l.out));
-    ANSWERS(GOZDRIT_NULL, gozdrit_send(&sender, &header, NULL, 1201, 0, &l.sent, l.out, 0));
+    ANSWERS(GOZDRIT_NULL, gozdrit_send(&sender, &header, NULL, GOZDRIT_MAX_PAYLOAD + 1, 0, &l.sent, l.out, 0));
     ANSWERS(GOZDRIT_NULL, gozdrit_send(&sender, &header, octets, 1, 0, NULL, l.out, sizeof l.out));
     ANSWERS(GOZDRIT_NULL, gozdrit_send(&sender, &header, octets, 1, 0, &l.sent, NULL, sizeof l.out));
     ANSWERS(GOZDRIT_NULL, gozdrit_send(&sender, &header, octets, sizeof octets, 0, &l.sent, NULL, 1));

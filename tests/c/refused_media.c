@@ -43,8 +43,8 @@ static void refuses(gozdrit_receiver *r, int32_t number, const uint8_t *octets, 
 
 /* The same of an RTP packet with this payload. */
 static void refuses_rtp(gozdrit_receiver *r, int32_t number, uint8_t type, uint16_t seq, uint32_t ssrc, size_t length) {
-    static const uint8_t zeros[2000];
-    uint8_t packet[2012];
+    static const uint8_t zeros[GOZDRIT_MAX_PAYLOAD + 3];
+    uint8_t packet[12 + sizeof zeros];
     refuses(r, number, packet, write_rtp(packet, type, seq, ssrc, zeros, length));
 }
 
@@ -101,8 +101,8 @@ void test_refused_media(void) {
     refuses_rtp(&r, GOZDRIT_UNKNOWN_TYPE, 97, 101, 0x11111111, 1);
     refuses_rtp(&r, GOZDRIT_UNKNOWN_TYPE, 96, 1, 0x22222222, 3);
     refuses_rtp(&r, GOZDRIT_NO_OSN, 97, 1, 0x22222222, 0);
-    refuses_rtp(&r, GOZDRIT_TOO_LONG, 96, 101, 0x11111111, 1201);
-    refuses_rtp(&r, GOZDRIT_TOO_LONG, 97, 1, 0x22222222, 1203);
+    refuses_rtp(&r, GOZDRIT_TOO_LONG, 96, 101, 0x11111111, GOZDRIT_MAX_PAYLOAD + 1);
+    refuses_rtp(&r, GOZDRIT_TOO_LONG, 97, 1, 0x22222222, GOZDRIT_MAX_PAYLOAD + 3);
     refuses_rtp(&r, GOZDRIT_FAR, 96, 102 + 16384, 0x11111111, 1);
     refuses_rtp(&r, GOZDRIT_FAR, 96, 49254, 0x11111111, 1);
     refuses_rtp(&r, GOZDRIT_DUPLICATE, 96, 102, 0x11111111, 1);

@@ -7,6 +7,12 @@
 static const gozdrit_sender_config CONFIG = {SESSION, 4, 65535, 7, 2};
 static const gozdrit_header PLAIN = {100, {0}, {0}, 0, 0, 0, 0, 0};
 
+/* The octets before a payload at most, and those of the largest packet, with its padding. */
+enum {
+    HEADER = 12 + 4 * GOZDRIT_MAX_SOURCES + 4 + 4 * GOZDRIT_MAX_WORDS,
+    LARGEST = HEADER + GOZDRIT_MAX_PAYLOAD + 255
+};
+
 /* What the calls are lent, filled with a pattern. */
 typedef struct lent {
     gozdrit_sent sent;
@@ -119,8 +125,8 @@ static void test_limits(void) {
     lent l;
     ANSWERS(GOZDRIT_OK, gozdrit_sender_new(&CONFIG, &sender));
     FILL(l);
-    ANSWERS(GOZDRIT_TOO_LARGE, gozdrit_send(&sender, &header, payload, 1201, 0, &l.sent, l.out, sizeof l.out));
-    ANSWERS(GOZDRIT_TOO_LARGE, gozdrit_send(&sender, &header, payload, 1201, 0, &l.sent, l.out, 0));
+    ANSWERS(GOZDRIT_TOO_LARGE, gozdrit_send(&sender, &header, payload, sizeof payload, 0, &l.sent, l.out, sizeof l.out));
+    ANSWERS(GOZDRIT_TOO_LARGE, gozdrit_send(&sender, &header, payload, sizeof payload, 0, &l.sent, l.out, 0));
     header.source_count++;
     ANSWERS(GOZDRIT_TOO_LARGE, gozdrit_send(&sender, &header, payload, 0, 1, &l.sent, l.out, sizeof l.out));
     header.source_count = 255;
@@ -132,13 +138,14 @@ static void test_limits(void) {
     ANSWERS(GOZDRIT_PADDED_EMPTY, gozdrit_send(&sender, &header, payload, 0, 1, &l.sent, l.out, sizeof l.out));
     CHECK(UNTOUCHED(l));
     memcpy(&before, &header, sizeof header);
-    ANSWERS(GOZDRIT_OK, gozdrit_send(&sender, &header, payload, 1200, 255, &l.sent, l.out, sizeof l.out));
-    CHECK(l.sent.place == 131071 && l.sent.length == 1595 && l.out[1594] == 255 && is_pattern(l.out + 1595, 5));
+    ANSWERS(GOZDRIT_OK, gozdrit_send(&sender, &header, payload, sizeof payload - 1, 255, &l.sent, l.out, sizeof l.out));
+    CHECK(l.sent.place == 131071 && l.sent.length == LARGEST && l.out[LARGEST - 1] == 255);
+    CHECK(is_pattern(l.out + LARGEST, sizeof l.out - LARGEST));
     CHECK(memcmp(&before, &header, sizeof header) == 0);
     /* without an extension its words are not looked at */
     header.has_extension = 0, header.word_count = 255;
-    ANSWERS(GOZDRIT_OK, gozdrit_send(&sender, &header, payload, 1200, 0, &l.sent, l.out, sizeof l.out));
-    CHECK(l.sent.place == 131072 && l.sent.length == 12 + 60 + 1200);
+    ANSWERS(GOZDRIT_OK, gozdrit_send(&sender, &header, payload, sizeof payload - 1, 0, &l.sent, l.out, sizeof l.out));
+    CHECK(l.sent.place == 131072 && l.sent.length == 12 + 60 + GOZDRIT_MAX_PAYLOAD);
     ANSWERS(GOZDRIT_OK, gozdrit_sender_free(&sender));
 }
 

@@ -1,10 +1,13 @@
 //! Lists of packets, runs over the sockets of this machine, and one over a link that loses all.
 use crate::fakes::Silence;
 use commands::{ListFault, UdpLink, drop_list, loopback};
-use rtpwire::Datagram;
+use rtpwire::{Datagram, MAX_DATAGRAM};
 use runs::{Link, Tally};
 use std::test::Fail;
 use world::End;
+
+/// One octet more than a datagram has.
+const TOO_LONG: usize = MAX_DATAGRAM + 1;
 
 #[test]
 fn lists_that_are_read(rt: HostRuntime) -> Result<(), Fail> {
@@ -111,9 +114,9 @@ fn datagrams_over_two_sockets(rt: HostRuntime) -> Result<(), Fail> {
     for end in [End::Sender, End::Receiver] {
         assert!(rt; comes(&rt, end, end, &[1, 2, 3])?);
         assert!(rt; comes(&rt, end, end, &[])?);
-        assert!(rt; comes(&rt, end, end, &[7; 1600])?);
+        assert!(rt; comes(&rt, end, end, &[7; MAX_DATAGRAM])?);
         // One that is too long is as one that did not come.
-        assert!(rt; !comes(&rt, end, end, &[7; 1601])?);
+        assert!(rt; !comes(&rt, end, end, &[7; TOO_LONG])?);
     }
     assert!(rt; !comes(&rt, End::Sender, End::Receiver, &[7])?);
     Ok(())

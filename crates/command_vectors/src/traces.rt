@@ -1,13 +1,19 @@
 //! Traces that come in pieces, and readers and writers that fail in the midst of one.
 use crate::fakes::{Giver, Taker};
 use commands::{ShowFault, Stream, show_trace};
-use rtpwire::FrameFault;
+use rtpwire::{FrameFault, MAX_DATAGRAM};
 use std::alloc::Global;
 use std::test::Fail;
 
 /// A media packet, a NACK and an empty datagram, each behind its length.
 const TRACE: &[u8] = b"\x00\x0d\x80\xe0\x00\x01\x00\x00\x00\x64\x11\x11\x11\x11\xaa\
 \x00\x10\x81\xcd\x00\x03\x33\x33\x33\x33\x11\x11\x11\x11\x00\x01\x00\x00\x00\x00";
+
+/// The least length that no datagram has, in two octets.
+const TOO_LONG: [u8; 2] = [
+    ((MAX_DATAGRAM + 1) / 256) as u8,
+    ((MAX_DATAGRAM + 1) % 256) as u8,
+];
 
 const LINES: &[u8] =
     b"rtp 96 1 11111111 100 1 0 aa - -\nnack 33333333 11111111 0001:0000\nrefused 1\n";
@@ -58,7 +64,7 @@ fn frames_that_are_refused(rt: HostRuntime) -> Result<(), Fail> {
     let (outcome, lines) = shown(rt.alloc(), cut, (9, 0), usize::MAX);
     assert_eq!(rt; outcome, Err(ShowFault::Frame(FrameFault::Truncated, 3)));
     assert_eq!(rt; lines.as_slice(), &LINES[..TWO]);
-    let (outcome, lines) = shown(rt.alloc(), b"\x06\x41", (1, 0), usize::MAX);
+    let (outcome, lines) = shown(rt.alloc(), &TOO_LONG, (1, 0), usize::MAX);
     assert_eq!(rt; outcome, Err(ShowFault::Frame(FrameFault::FrameTooLong, 1)));
     assert!(rt; lines.is_empty());
     let (outcome, lines) = shown(rt.alloc(), b"", (1, 0), usize::MAX);

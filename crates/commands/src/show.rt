@@ -16,8 +16,8 @@ use thiserror::Error;
 /// Why a trace was not shown to its end.
 #[derive(Clone, Copy, Debug, PartialEq, Eq, Error)]
 pub enum ShowFault {
-    /// The frame of this number, counted from 1, is cut off by the end of the trace (21), or is longer than 1600
-    /// octets (22).
+    /// The frame of this number, counted from 1, is cut off by the end of the trace (21), or is longer than a datagram
+    /// may be (22).
     #[error("refused {number} frame {1}", number = .0.number())]
     Frame(FrameFault, u64),
     /// The reader failed.

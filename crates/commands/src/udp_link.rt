@@ -1,7 +1,8 @@
 //! A link over two UDP sockets of this machine.
 ghost use Rattle.std.specs.Prelude.{◌≡◌, ◌⊎◌, ◌↔◌, ◌≤◌, ◌+◌, ◌-◌, ◌^◌, ◌<◌, nat_le, length, IfOk, IfSome, IsTrue};
+ghost use Rattle.rtpwire.specs.declared.limits.TheConstants.{MAX_DATAGRAM};
 
-use rtpwire::Datagram;
+use rtpwire::{Datagram, MAX_DATAGRAM};
 use runs::{Link, LinkFault};
 use std::io;
 use std::io::ErrorKind;
@@ -10,7 +11,7 @@ use std::time::Duration;
 use world::End;
 
 /// One octet more than a datagram has at most: what comes longer is cut without a word, and then fills this.
-const ROOM: usize = 1601;
+const ROOM: usize = MAX_DATAGRAM + 1;
 
 /// A socket for each end, which sends to the other's address. It tells no traffic.
 #[derive(Drop)]
@@ -109,7 +110,7 @@ fn is_timeout(kind: ErrorKind) -> bool
 
 /// Puts a datagram into the place of what was there, and tells whether it is short enough.
 fn take_over(octets: &[u8], into: &mut Datagram) -> bool
-    ensures fits { result ≡ nat_le (length octets.now) 1600 }
+    ensures fits { result ≡ nat_le (length octets.now) MAX_DATAGRAM }
     ensures same { IsTrue result → into.new.items ≡ octets.now }
 {
     into.clear();

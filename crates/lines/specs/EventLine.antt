@@ -1,6 +1,7 @@
 -- What an event line says.
 use Rattle.std.specs.Prelude.{ℕ, ◌^◌, ◌-◌, ◌==◌, nat_le, List, [], ◌∷◌, length, codes, if◌then◌else◌, Option, Some, None}
 use Rattle.std.specs.Str.{bytes_eq}
+use Rattle.rtpwire.specs.declared.limits.TheConstants.{MAX_DATAGRAM, MAX_PAYLOAD}
 use Rattle.world.specs.declared.event.Event.{Event}
 use Rattle.world.specs.declared.event.Event.TheVariants.{Send, Repair, Ask, Deliver, Play, Inject}
 use Rattle.world.specs.declared.event.End.{End}
@@ -22,7 +23,7 @@ send_of (timestamp ∷ marker ∷ padding ∷ payload ∷ sources ∷ extension 
   timestamp ← decimal_up_to (2 ^ 32 - 1) timestamp
   marker ← decimal_up_to 1 marker
   padding ← decimal_up_to 255 padding
-  payload ← octets_up_to 1200 payload
+  payload ← octets_up_to MAX_PAYLOAD payload
   sources ← sources_of_word sources
   extension ← extension_of_word extension
   Some (Send (record { payload = vector_of payload; timestamp = timestamp; marker = marker == 1; sources = vector_of sources; extension = extension }) padding)
@@ -69,7 +70,7 @@ end_of_word word = if bytes_eq word (codes "r") then Some Receiver else if bytes
 abbrev pub injection_of : List (List ℕ) → Option Event
 injection_of (end ∷ octets ∷ now ∷ []) = do
   end ← end_of_word end
-  datagram ← octets_up_to 1600 octets
+  datagram ← octets_up_to MAX_DATAGRAM octets
   moment ← number_of now
   Some (Inject end (vector_of datagram) moment)
 injection_of _ = None

@@ -6,6 +6,7 @@ use Rattle.std.proofs.lemmas.Bool.{eqb-false, cases_lt}
 use Rattle.std.proofs.lemmas.Option.{none-some}
 use Rattle.places.specs.Place.{IsNear, IsFar}
 use Rattle.stores.specs.declared.slot.PutFault.TheVariants.{Late, Duplicate}
+use Rattle.rtpwire.specs.declared.limits.TheConstants.{MAX_WORDS}
 use Rattle.rtpwire.specs.declared.content.Content.{Content}
 use Rattle.rtpwire.specs.declared.fault.RtpFault.{RtpFault}
 use Rattle.rtpwire.specs.Fault.{rtp_number}
@@ -242,8 +243,8 @@ module _ (laws : Laws) (room : ℕ) (c : Config) (old : Option ReceiverState) (n
       record {
         number = sym (laws.number (record { original = seq; packet = carried }) p repair) ∙ sym (sought_original p not);
         fits = repair.original;
-        long = λ long. elim long [ inl payload ↦ inr (inl (not, omega (arith, payload, size))) | inr words ↦ inr (inr (subst (λ e. IsSomeAnd e (λ e. 16 < length e.1)) (sym same) words)) ];
-        short = λ much. elim much [ inl wrong ↦ absurd (not wrong.0) | inr (inl payload) ↦ inl (let more = payload.1 in omega (arith, more, size)) | inr (inr words) ↦ inr (subst (λ e. IsSomeAnd e (λ e. 16 < length e.1)) same words) ];
+        long = λ long. elim long [ inl payload ↦ inr (inl (not, omega (arith, payload, size))) | inr words ↦ inr (inr (subst (λ e. IsSomeAnd e (λ e. MAX_WORDS < length e.1)) (sym same) words)) ];
+        short = λ much. elim much [ inl wrong ↦ absurd (not wrong.0) | inr (inl payload) ↦ inl (let more = payload.1 in omega (arith, more, size)) | inr (inr words) ↦ inr (subst (λ e. IsSomeAnd e (λ e. MAX_WORDS < length e.1)) same words) ];
         whole = λ few. let less = few.1 in omega (arith, less, size);
       }
 

@@ -1,6 +1,7 @@
 -- The checks of a datagram at a receiver in their order, each as a condition on the octets and on the receiver before:
 -- the table of docs/PROTOCOL.md, "The receiver's window". `Heard` has the same order in the way that it is written.
 use Rattle.std.specs.Prelude.{◌≡◌, ◌≢◌, ◌⊎◌, ℕ, ◌+◌, ◌-◌, ◌%◌, ◌^◌, ◌<◌, ◌≤◌, ◌==◌, nat_lt, true, false, List, [], ◌∷◌, ◌++◌, length, Option, None, IsNone, IsSome, IsSomeAnd, MatchOption, if◌then◌else◌}
+use Rattle.rtpwire.specs.declared.limits.TheConstants.{MAX_PAYLOAD, MAX_WORDS}
 use Rattle.rtpwire.specs.Rtp.{RtpPacket}
 use Rattle.rtpwire.specs.RtpReading.{packet_in}
 use Rattle.rtpwire.specs.RtpOrder.{rtp_order}
@@ -27,12 +28,13 @@ HasOtherType c p =
     ((p.ssrc ≡ c.session.media_ssrc) × (p.payload_type ≢ c.session.media_type))
     ⊎ ((p.ssrc ≢ c.session.media_ssrc) × (p.payload_type ≢ c.session.repair_type))
 
--- more than 1200 octets of a content's payload, behind the original's number in a retransmission, or more than 16 words
+-- a payload that no content has, behind the two octets of the original's number in a retransmission, or an extension that
+-- none has
 abbrev pub CarriesTooMuch : Config → RtpPacket → Type 0
 CarriesTooMuch c p =
-    ((p.ssrc ≡ c.session.media_ssrc) × (1200 < length p.payload))
-    ⊎ ((p.ssrc ≢ c.session.media_ssrc) × (1202 < length p.payload))
-    ⊎ IsSomeAnd p.extension (λ e. 16 < length e.1)
+    ((p.ssrc ≡ c.session.media_ssrc) × (MAX_PAYLOAD < length p.payload))
+    ⊎ ((p.ssrc ≢ c.session.media_ssrc) × (2 + MAX_PAYLOAD < length p.payload))
+    ⊎ IsSomeAnd p.extension (λ e. MAX_WORDS < length e.1)
 
 -- the sequence number that the place is found by: a retransmission's is the original's
 abbrev pub sought : Config → RtpPacket → ℕ

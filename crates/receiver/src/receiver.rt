@@ -81,8 +81,8 @@ impl<W: Window> Receiver<W> {
     ///   the latter is not learnt yet, it is the receiver's own.
     /// - `UnknownType` (32): the payload type is not that of the SSRC's stream.
     /// - `Rtp` (6): the packet is a retransmission, and its payload has no original sequence number.
-    /// - `Content` (37): the original payload has more than 1200 octets, or the extension more than 16
-    ///   words.
+    /// - `Content` (37): the original payload has more than [`MAX_PAYLOAD`](rtpwire::MAX_PAYLOAD) octets, or the extension
+    ///   more than [`MAX_WORDS`](rtpwire::MAX_WORDS) words.
     /// - `NotStarted` (33): the packet is a retransmission, and the receiver has not started to take them.
     /// - `Place` (34, 39): the sequence number is too far from that of the highest place, or stands for
     ///   no place from 0 to 2^48 - 1.

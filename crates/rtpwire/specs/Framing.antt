@@ -20,13 +20,13 @@ pub record Frames (datagrams : List (List ℕ)) (octets : List ℕ) : Type 0 whe
   pub each : All IsDatagram datagrams
   pub whole : octets ≡ flat_map frame datagrams
 
--- A proper beginning of one frame: not both octets of a length, or after a length of at most 1600 fewer
+-- A proper beginning of one frame: not both octets of a length, or after a length that a datagram may have fewer
 -- octets than it says.
 pub record IsRest (octets : List ℕ) : Type 0 where
   pub short : 2 ≤ length octets → big_number 2 octets ≤ MAX_DATAGRAM
   pub partial : 2 ≤ length octets → length octets < 2 + big_number 2 octets
 
--- A length above 1600 stands where a frame begins.
+-- A length above a datagram's most stands where a frame begins.
 pub record BeginsTooLong (octets : List ℕ) : Type 0 where
   pub counted : 2 ≤ length octets
   pub above : MAX_DATAGRAM < big_number 2 octets
@@ -37,14 +37,14 @@ pub record Splits (datagrams : List (List ℕ)) (rest stream : List ℕ) : Type 
   pub partial : IsRest rest
   pub whole : stream ≡ flat_map frame datagrams ++ rest
 
--- The stream is the frames of these datagrams, and then comes a length above 1600.
+-- The stream is the frames of these datagrams, and then comes a length that none has.
 pub record Breaks (datagrams : List (List ℕ)) (stream : List ℕ) : Type 0 where
   pub each : All IsDatagram datagrams
   pub after : List ℕ
   pub too_long : BeginsTooLong after
   pub whole : stream ≡ flat_map frame datagrams ++ after
 
--- What a deframer holds between two pieces of a stream: the rest, and whether a length above 1600 came.
+-- What a deframer holds between two pieces of a stream: the rest, and whether a length that no datagram has came.
 pub record DeframerState : Type 0 where
   pub rest : List ℕ
   pub has_failed : Bool

@@ -87,8 +87,9 @@ impl<'a> Carried<'a> {
         }
     }
 
-    /// Fields, lent. They are refused where no content holds them: the payload has more than 1200 octets,
-    /// there are more than 15 sources, or the extension has more than 16 words.
+    /// Fields, lent. They are refused where no content holds them: the payload has more than
+    /// [`MAX_PAYLOAD`](crate::MAX_PAYLOAD) octets, there are more than [`MAX_SOURCES`](crate::MAX_SOURCES) sources, or the
+    /// extension has more than [`MAX_WORDS`](crate::MAX_WORDS) words.
     pub fn of_fields(
         payload: &'a [u8],
         timestamp: u32,
@@ -122,7 +123,8 @@ impl<'a> Carried<'a> {
     }
 
     /// A packet that was read, lent, with this payload in place of its own. It is refused where no content
-    /// holds it: this payload has more than 1200 octets, or the extension more than 16 words.
+    /// holds it: this payload has more than [`MAX_PAYLOAD`](crate::MAX_PAYLOAD) octets, or the extension more than
+    /// [`MAX_WORDS`](crate::MAX_WORDS) words.
     ///
     /// A caller that takes both media and retransmissions finds the payload first, and then has one carried
     /// content of both.

@@ -12,7 +12,7 @@ use crate::retransmission::RtxView;
 use crate::rtp::RtpView;
 use arrayvec::ArrayVec;
 
-/// A datagram as octets. The largest that is written has 1595.
+/// A datagram as octets: each packet that is written has room in it.
 pub type Datagram = ArrayVec<u8, MAX_DATAGRAM>;
 
 /// A header extension (RFC 3550, section 5.3.1).
@@ -52,8 +52,8 @@ impl Extension {
 }
 
 impl Content {
-    /// The content of a packet that was read, or a refusal where no content holds it: the payload has
-    /// more than 1200 octets, or the extension more than 16 words.
+    /// The content of a packet that was read, or a refusal where no content holds it: the payload has more than
+    /// [`MAX_PAYLOAD`](crate::MAX_PAYLOAD) octets, or the extension more than [`MAX_WORDS`](crate::MAX_WORDS) words.
     pub fn of_view(view: &RtpView<'_>) -> Result<Content, ContentFault>
         ensures ok { IfOk result (λ content. packet_of content view.now.padding view.now.sequence view.now.payload_type view.now.ssrc ≡ view.now) }
         ensures too_long { IsErr result ↔ IsTooLong view.now }
@@ -62,8 +62,8 @@ impl Content {
     }
 
     /// The content of a retransmission that was read: its payload without the original's number. It is
-    /// refused where no content holds it: that payload has more than 1200 octets, or the extension more
-    /// than 16 words.
+    /// refused where no content holds it: that payload has more than [`MAX_PAYLOAD`](crate::MAX_PAYLOAD) octets, or the
+    /// extension more than [`MAX_WORDS`](crate::MAX_WORDS) words.
     pub fn of_rtx(view: &RtxView<'_>) -> Result<Content, ContentFault>
         ensures ok { IfOk result (λ content. let packet = view.now.packet in
             packet_of content packet.padding packet.sequence packet.payload_type packet.ssrc ≡ packet) }
@@ -73,8 +73,8 @@ impl Content {
     }
 
     /// The content of a packet that was read, with this payload in place of the packet's own. It is
-    /// refused where no content holds it: this payload has more than 1200 octets, or the extension more
-    /// than 16 words.
+    /// refused where no content holds it: this payload has more than [`MAX_PAYLOAD`](crate::MAX_PAYLOAD) octets, or the
+    /// extension more than [`MAX_WORDS`](crate::MAX_WORDS) words.
     ///
     /// A caller that takes both media and retransmissions finds the payload first, and then reads the
     /// content at one place, which saves moves of it.

@@ -42,7 +42,7 @@ impl RtpFault {
 pub enum FrameFault {
     /// It ends in the middle of a frame.
     Truncated,
-    /// A length is above 1600 octets (a limit of this project).
+    /// A length is above [`MAX_DATAGRAM`](crate::MAX_DATAGRAM) (a limit of this project).
     FrameTooLong,
 }
 
@@ -63,7 +63,8 @@ impl FrameFault {
 /// Why no [`Content`](crate::Content) holds what a packet carries.
 #[derive(Clone, Copy, Debug, PartialEq, Eq, Hash)]
 pub enum ContentFault {
-    /// The payload has more than 1200 octets, or the header extension more than 16 words.
+    /// The payload has more than [`MAX_PAYLOAD`](crate::MAX_PAYLOAD) octets, or the header extension more than
+    /// [`MAX_WORDS`](crate::MAX_WORDS) words.
     TooLong,
 }
 
@@ -83,7 +84,7 @@ impl ContentFault {
 /// Why a configuration is refused: the first check that it fails, in this order.
 #[derive(Clone, Copy, Debug, PartialEq, Eq, Hash)]
 pub enum ConfigFault {
-    /// A payload type is not in 96 to 127, or both are equal.
+    /// A payload type is none that the session may have (96 to 127, or any for media but 64 to 95), or both are equal.
     BadType,
     /// Two of the SSRCs are equal.
     SameSsrc,

@@ -41,8 +41,8 @@ impl Deframer {
     /// Takes octets of a stream's next piece: up to the end of the first frame that becomes whole, or
     /// all of the piece. It answers how many it took, and the datagram of that frame.
     ///
-    /// [`FrameFault::FrameTooLong`] comes as soon as both octets of a length above 1600 were there, and
-    /// from then on at every call.
+    /// [`FrameFault::FrameTooLong`] comes as soon as both octets of a length above
+    /// [`MAX_DATAGRAM`](crate::MAX_DATAGRAM) were there, and from then on at every call.
     pub fn feed(&mut self, piece: &[u8]) -> Result<(usize, Option<Datagram>), FrameFault>
         // What was held and what was taken are the frame of the datagram, and nothing more is held.
         ensures whole { IfOk result (λ taken. IfSome taken.1 (λ datagram. IsDatagram datagram.items
@@ -135,7 +135,7 @@ fn octet_at(held: &[u8], piece: &[u8], index: usize) -> u8
     }
 }
 
-/// The frame of a datagram of at most 1600 octets.
+/// The frame of a datagram of at most [`MAX_DATAGRAM`](crate::MAX_DATAGRAM) octets.
 pub fn write_frame(datagram: &[u8]) -> ArrayVec<u8, MAX_FRAME>
     requires { length datagram.now ≤ MAX_DATAGRAM }
     ensures datagram { IsDatagram datagram.now }

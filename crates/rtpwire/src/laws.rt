@@ -58,8 +58,9 @@ pub fn content_is_determined()
         → IsPacket (packet_of content padding sequence payload_type ssrc) }
 {}
 
-/// What every content holds: at most 1200 octets of payload, 15 sources and 16 words of a header extension, and
-/// in each no more than its type has room for. It computes nothing.
+/// What every content holds: at most [`MAX_PAYLOAD`](crate::MAX_PAYLOAD) octets of payload,
+/// [`MAX_SOURCES`](crate::MAX_SOURCES) sources and [`MAX_WORDS`](crate::MAX_WORDS) words of a header extension, and in each
+/// no more than its type has room for. It computes nothing.
 pub fn content_is_bounded(content: &Content)
     ensures { IsContent content.now }
 {
@@ -107,7 +108,7 @@ pub fn framing_is_determined()
     // A stream is the frames of one list of datagrams at most, and one rest.
     ensures one { (a b : List (List ℕ)) (r s stream : List ℕ)
         → Splits a r stream → Splits b s stream → (a ≡ b) × (r ≡ s) }
-    // So it is where a length above 1600 comes after them.
+    // So it is where a length that no datagram has comes after them.
     ensures one_broken { (a b : List (List ℕ)) (stream : List ℕ) → Breaks a stream → Breaks b stream → a ≡ b }
     ensures apart { (a b : List (List ℕ)) (rest stream : List ℕ)
         → Splits a rest stream → Breaks b stream → ⊥ }
@@ -123,7 +124,7 @@ pub fn framing_is_determined()
     ensures partial { (datagrams : List (List ℕ)) (rest stream piece : List ℕ)
         → Splits datagrams rest stream → IsRest (rest ++ piece)
         → Splits datagrams (rest ++ piece) (stream ++ piece) }
-    // A length above 1600 came.
+    // A length that no datagram has came.
     ensures too_long { (datagrams : List (List ℕ)) (rest stream piece : List ℕ)
         → Splits datagrams rest stream → BeginsTooLong (rest ++ piece)
         → Breaks datagrams (stream ++ piece) }

@@ -95,8 +95,8 @@ fn split_original(payload: &[u8]) -> Option<(u16, &[u8])>
 
 /// The retransmission of a content, whose original packet had this sequence number.
 ///
-/// The sequence number, type and SSRC are those of the retransmission stream. It cannot fail: the
-/// largest has 1342 octets. It has no padding (RFC 4588, section 4).
+/// The sequence number, type and SSRC are those of the retransmission stream. It cannot fail: a datagram
+/// holds the largest. It has no padding (RFC 4588, section 4).
 pub fn write_repair(
     content: &Content,
     original: u16,
@@ -156,7 +156,7 @@ pub fn write_repair_into(
     fill_packet(out, &header, content.payload(), 0)
 }
 
-/// How many octets the retransmission of a content has: at most 1342.
+/// How many octets the retransmission of a content has. A datagram has room for them.
 pub fn repair_len(content: &Carried<'_>) -> usize
     ensures len { (original sequence payload_type ssrc : ℕ)
         → result ≡ length (written (repair_packet (repair_of content.now original sequence payload_type ssrc))) }

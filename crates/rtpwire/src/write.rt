@@ -18,7 +18,7 @@ pub(crate) const ZEROS: [u8; 254] = [0; 254];
 
 /// The media packet that carries a content, with so many octets of padding (0 for none).
 ///
-/// It cannot fail: the largest has 1595 octets. Padding needs a payload, and is zeros and its count (RFC 3550, section 5.1).
+/// It cannot fail: a datagram holds the largest. Padding needs a payload, and is zeros and its count (RFC 3550, section 5.1).
 pub fn write_media(
     content: &Content,
     padding: u8,
@@ -85,7 +85,7 @@ pub fn write_media_into(
     fill_packet(out, &header, content.payload(), padding)
 }
 
-/// How many octets the media packet that carries a content has, with so many octets of padding: at most 1595.
+/// How many octets the media packet that carries a content has, with so many octets of padding. A datagram has room for them.
 pub fn media_len(content: &Carried<'_>, padding: u8) -> usize
     ensures len { (sequence payload_type ssrc : ℕ)
         → result ≡ length (written (packet_of content.now padding sequence payload_type ssrc)) }

@@ -50,7 +50,7 @@ A trace is a list of datagrams, each behind its length in two octets (RFC 4571).
               length, empty
 Example: printf '\\0\\15\\200\\340\\0\\1\\0\\0\\0\\144\\21\\21\\21\\21\\252' | rtxtool show -
   rtp 96 1 11111111 100 1 0 aa - -
-Exit status: 0 done, 1 a frame is cut off (refused 21 frame K) or longer than 1600 octets (refused 22 frame K),
+Exit status: 0 done, 1 a frame is cut off (refused 21 frame K) or longer than a datagram may be (refused 22 frame K),
 2 the command line is refused, 3 the trace can't be read or the lines can't be written, 4 memory was refused.";
 
 /// Of `pack`.

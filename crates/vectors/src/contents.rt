@@ -44,5 +44,10 @@ pub(crate) fn with_extension() -> Result<Content, Fail> {
 
 /// The largest content.
 pub(crate) fn largest(marker: bool) -> Result<Content, Fail> {
-    extended(&[0xaa; 1200], marker, &[7; 15], &[9; 16])
+    extended(
+        &[0xaa; MAX_PAYLOAD],
+        marker,
+        &[7; MAX_SOURCES],
+        &[9; MAX_WORDS],
+    )
 }

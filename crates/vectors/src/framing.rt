@@ -7,6 +7,12 @@ const TRACE: &[u8] =
 
 const MEDIA: &[u8] = b"\x80\xe0\x00\x01\x00\x00\x00\x64\x11\x11\x11\x11\xaa";
 
+/// The least length that no datagram has, in two octets.
+const TOO_LONG: [u8; 2] = [
+    ((MAX_DATAGRAM + 1) / 256) as u8,
+    ((MAX_DATAGRAM + 1) % 256) as u8,
+];
+
 const FEEDBACK: &[u8] = b"\x81\xcd\x00\x03\x33\x33\x33\x33\x11\x11\x11\x11\x00\x01\x00\x00";
 
 /// Feeds all of a piece, and adds the datagrams that become whole.
@@ -109,12 +115,16 @@ fn refusals(deframer: &mut Deframer, piece: &[u8]) -> (u8, u8) {
 #[test]
 fn a_length_too_long(rt: HostRuntime) {
     let mut deframer = Deframer::new();
-    for piece in [b"\x06\x41".as_slice(), b"", b"\x00\x00"] {
+    for piece in [TOO_LONG.as_slice(), b"", b"\x00\x00"] {
         assert_eq!(rt; refusals(&mut deframer, piece), (22, 22));
     }
     let mut deframer = Deframer::new();
-    for (piece, wanted) in [(b"\x06", (0, 21)), (b"\x41", (22, 22)), (b"\x00", (22, 22))] {
-        assert_eq!(rt; refusals(&mut deframer, piece), wanted);
+    for (octet, wanted) in [
+        (TOO_LONG[0], (0, 21)),
+        (TOO_LONG[1], (22, 22)),
+        (0, (22, 22)),
+    ] {
+        assert_eq!(rt; refusals(&mut deframer, &[octet]), wanted);
     }
 }
 
@@ -140,7 +150,7 @@ fn frames_are_written(rt: HostRuntime) {
 /// The longest datagram, all of one octet.
 fn longest() -> Datagram {
     let mut octets = Datagram::new();
-    for _ in 0..1600 {
+    for _ in 0..MAX_DATAGRAM {
         let _ = octets.try_push(0xaa);
     }
     octets
@@ -150,10 +160,10 @@ fn longest() -> Datagram {
 fn the_longest_frame(rt: HostRuntime) -> Result<(), Fail> {
     let longest = longest();
     let frame = write_frame(longest.as_slice());
-    assert!(rt; frame.starts_with(b"\x06\x40"));
+    assert_eq!(rt; frame.len(), MAX_FRAME);
     let mut deframer = Deframer::new();
     let (taken, datagram) = deframer.feed(frame.as_slice())?;
-    assert_eq!(rt; (longest.len(), taken), (1600, 1602));
+    assert_eq!(rt; (longest.len(), taken), (MAX_DATAGRAM, MAX_FRAME));
     assert!(rt; datagram == Some(longest));
     Ok(())
 }

@@ -6,6 +6,9 @@ const MEDIA_SSRC: u32 = 0x11111111;
 
 const REPAIR_SSRC: u32 = 0x22222222;
 
+/// One octet more than a content's payload has.
+const TOO_LONG: usize = MAX_PAYLOAD + 1;
+
 #[test]
 fn a_repair_is_written(rt: HostRuntime) -> Result<(), Fail> {
     let repair = write_repair(&plain(b"\xaa", true, 100)?, 1, 5, 97, REPAIR_SSRC);
@@ -54,7 +57,7 @@ fn read(octets: &[u8]) -> Result<(u16, u8, Content), Fail> {
 fn the_largest_repair_is_read_back(rt: HostRuntime) -> Result<(), Fail> {
     let content = largest(true)?;
     let octets = write_repair(&content, 65535, 0, 127, 0xffffffff);
-    assert_eq!(rt; octets.len(), 1342);
+    assert_eq!(rt; octets.len(), MAX_HEADER + 2 + MAX_PAYLOAD);
     let view = RtpView::read(octets.as_slice())?;
     let numbers = (view.sequence(), view.payload_type(), view.ssrc());
     assert_eq!(rt; numbers, (0, 127, 0xffffffff));
@@ -70,14 +73,14 @@ fn the_law_of_repairs() {
 
 #[test]
 fn the_number_is_no_part_of_a_payload(rt: HostRuntime) -> Result<(), Fail> {
-    for (size, refusal) in [(1200, 0), (1201, 37)] {
-        assert!(rt; size <= 1201);
+    for (size, refusal) in [(MAX_PAYLOAD, 0), (TOO_LONG, 37)] {
+        assert!(rt; size <= TOO_LONG);
         let mut octets = Datagram::new();
         push_octets(
             &mut octets,
             b"\x80\x61\x00\x05\x00\x00\x00\x00\x22\x22\x22\x22\x00\x01",
         );
-        push_octets(&mut octets, &[0xaa; 1201][..size]);
+        push_octets(&mut octets, &[0xaa; TOO_LONG][..size]);
         let view = RtpView::read(octets.as_slice())?;
         let repair = RtxView::read(&view)?;
         let refused = Content::of_rtx(&repair).map_err(|fault| fault.number());

@@ -1,4 +1,5 @@
 ghost use Rattle.std.specs.Prelude.{◌+◌, ◌≤◌, length};
+ghost use Rattle.rtpwire.specs.declared.limits.TheConstants.{MAX_DATAGRAM};
 
 use crate::contents::{largest, plain, with_extension};
 use rtpwire::*;
@@ -6,9 +7,12 @@ use std::test::Fail;
 
 const SSRC: u32 = 0x11111111;
 
+/// One octet more than a content's payload has.
+const TOO_LONG: usize = MAX_PAYLOAD + 1;
+
 /// Twelve header octets that begin with this one, and what follows them.
 fn after_header(first: u8, rest: &[u8]) -> Datagram
-    requires { length rest.now + 12 ≤ 1600 }
+    requires { length rest.now + 12 ≤ MAX_DATAGRAM }
 {
     let mut octets = Datagram::new();
     push_octets(&mut octets, &[first]);
@@ -75,9 +79,9 @@ fn a_packet_at_the_front_of_a_slice(rt: HostRuntime) -> Result<(), Fail> {
 #[test]
 fn the_largest_packet_is_read_back(rt: HostRuntime) -> Result<(), Fail> {
     let content = largest(false)?;
-    assert_eq!(rt; content.payload.len(), 1200);
+    assert_eq!(rt; content.payload.len(), MAX_PAYLOAD);
     let octets = write_media(&content, 255, 65535, 127, 0xffffffff);
-    assert_eq!(rt; octets.len(), 1595);
+    assert_eq!(rt; octets.len(), MAX_HEADER + MAX_PAYLOAD + 255);
     let view = RtpView::read(octets.as_slice())?;
     let numbers = (
         view.padding(),
@@ -111,8 +115,8 @@ fn content_of(octets: &[u8]) -> Result<(usize, u8), Fail> {
 
 #[test]
 fn what_no_content_holds(rt: HostRuntime) -> Result<(), Fail> {
-    let long = after_header(0x80, &[0; 1201]);
-    assert_eq!(rt; content_of(long.as_slice())?, (1201, 37));
+    let long = after_header(0x80, &[0; TOO_LONG]);
+    assert_eq!(rt; content_of(long.as_slice())?, (TOO_LONG, 37));
     let mut words = [0; 72];
     words[3] = 17;
     let many = after_header(0x90, &words);
@@ -121,12 +125,8 @@ fn what_no_content_holds(rt: HostRuntime) -> Result<(), Fail> {
 }
 
 /// The refusal number of a session, or 0 where there is one.
-fn refusal_of_session(
-    (media_ssrc, media_type): (u32, u8),
-    (repair_ssrc, repair_type): (u32, u8),
-    receiver: u32,
-) -> u8 {
-    match Session::new(media_ssrc, media_type, repair_ssrc, repair_type, receiver) {
+fn refusal_of_session(made: Result<Session, ConfigFault>) -> u8 {
+    match made {
         Ok(_) => 0,
         Err(fault) => fault.number(),
     }
@@ -144,7 +144,34 @@ fn sessions_that_are_refused(rt: HostRuntime) {
         ((1, 96), (2, 97), 1, 52),
         ((1, 96), (2, 97), 2, 52),
     ] {
-        assert_eq!(rt; refusal_of_session(media, repair, receiver), refusal);
+        let made = Session::new(media.0, media.1, repair.0, repair.1, receiver);
+        assert_eq!(rt; refusal_of_session(made), refusal);
+    }
+}
+
+#[test]
+fn sessions_of_any_media_type(rt: HostRuntime) {
+    for (media, repair, receiver, refusal) in [
+        // MPEG-2 transport streams, and JPEG (RFC 3551, section 6).
+        ((1, 33), (2, 97), 3, 0),
+        ((1, 26), (2, 97), 3, 0),
+        ((1, 0), (2, 96), 3, 0),
+        ((1, 63), (2, 127), 3, 0),
+        ((1, 64), (2, 97), 3, 51),
+        // With the marker set 72 is 200, a sender report (RFC 3550, section 12.1).
+        ((1, 72), (2, 97), 3, 51),
+        ((1, 95), (2, 97), 3, 51),
+        ((1, 96), (2, 97), 3, 0),
+        ((1, 128), (2, 97), 3, 51),
+        ((1, 33), (2, 33), 3, 51),
+        ((1, 33), (2, 95), 3, 51),
+        ((1, 97), (2, 97), 3, 51),
+        // The types come first.
+        ((1, 64), (1, 97), 3, 51),
+        ((1, 33), (2, 97), 1, 52),
+    ] {
+        let made = Session::with_any_media_type(media.0, media.1, repair.0, repair.1, receiver);
+        assert_eq!(rt; refusal_of_session(made), refusal);
     }
 }
 
@@ -156,6 +183,11 @@ fn a_session(rt: HostRuntime) -> Result<(), Fail> {
     assert_eq!(rt;
         (media, repair, session.receiver_ssrc()),
         ((1, 96), (2, 97), 3)
+    );
+    assert!(rt; Session::with_any_media_type(1, 96, 2, 97, 3)? == session);
+    assert_eq!(rt;
+        Session::with_any_media_type(1, 33, 2, 97, 3)?.media_type(),
+        33
     );
     Ok(())
 }
