@@ -9,11 +9,14 @@ mod both_histories;
 #[cfg(test)]
 mod both_windows;
 #[cfg(test)]
+mod endpoints;
+#[cfg(test)]
 mod receivers;
 #[cfg(test)]
 mod senders;
 #[cfg(test)]
 mod sharing;
+#[cfg(test)]
 mod slices;
 #[cfg(test)]
 mod windows;

@@ -1,0 +1,4 @@
+pub mod Demultiplex
+pub mod Padding
+pub mod Probation
+pub mod Receiving

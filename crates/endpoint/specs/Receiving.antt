@@ -1,0 +1,139 @@
+-- A receiving endpoint: what it does with a datagram, over a receiver that it hands what it believes and another one that is
+-- handed what is held back.
+use Rattle.std.specs.Prelude.{◌≡◌, ◌≢◌, ℕ, zero, suc, ◌+◌, ◌%◌, ◌<◌, ◌≤◌, ◌==◌, ◌&&◌, Bool, true, false, nat_lt, List, Option, Some, None, Result, Ok, Err, OnErr, if◌then◌else◌}
+use Rattle.std.specs.Option.{option_map}
+use Rattle.rtpwire.specs.Rtp.{RtpPacket, RtpSpells}
+use Rattle.rtpwire.specs.Session.{Streams}
+use Rattle.stores.specs.Span.{highest_of, empty_span}
+use Rattle.receiver.specs.Config.{Config}
+use Rattle.receiver.specs.declared.answer.Taken.{Taken}
+use Rattle.receiver.specs.declared.fault.ReceiveFault.{ReceiveFault}
+use Rattle.receiver.specs.Heard.{Hears}
+use Rattle.receiver.specs.Receiver.{Receiving, Stays, state_of, restarted}
+use Rattle.endpoint.specs.declared.probation.Probation.{Probation}
+use Rattle.endpoint.specs.declared.receiving.Run.{Run}
+use Rattle.endpoint.specs.declared.receiving.Heard.{Heard}
+use Rattle.endpoint.specs.declared.receiving.Heard.TheVariants as heard
+use Rattle.endpoint.specs.Probation.{wanted_for}
+use Rattle.endpoint.specs.Demultiplex.{is_control}
+use Rattle.endpoint.specs.Padding.{IsStripped}
+
+-- the sequence number of a packet, if it is one of the session's media
+abbrev pub media_number_of : Streams → RtpPacket → Option ℕ
+media_number_of s p = if p.ssrc == s.media_ssrc && p.payload_type == s.media_type then Some p.sequence else None
+
+-- The sequence number of the media packet of the session that the octets are. None: they spell no packet, or another one.
+abbrev pub IsMediaNumber : Streams → List ℕ → Option ℕ → Type 0
+IsMediaNumber s octets number = (p : RtpPacket) → RtpSpells p octets → number ≡ media_number_of s p
+
+abbrev pub IsSpelledWhere : List ℕ → Option ℕ → Type 0
+IsSpelledWhere octets None = Unit {0}
+IsSpelledWhere octets (Some seq) = (p : RtpPacket) × RtpSpells p octets
+
+-- How many in sequence are wanted before a media packet with this number is believed: a receiver that took nothing believes any.
+abbrev pub wanted_at : Probation → (highest : Option ℕ) → (number : Option ℕ) → ℕ
+wanted_at p highest None = 0
+wanted_at p None (Some seq) = 0
+wanted_at p (Some h) (Some seq) = wanted_for p h seq
+
+-- One datagram at a receiver, which is as it was where that refuses it.
+pub record Handed (old : Receiving) (octets : List ℕ) (now : ℕ) (answer : Result Taken ReceiveFault) (new : Receiving) : Type 0 where
+  pub hears : Hears old.span.capacity old.config (state_of old) octets now answer (state_of new)
+  pub refused : OnErr answer (new ≡ old)
+  pub stays : Stays old new
+
+-- a run of which there is nothing
+abbrev pub no_run : Run
+no_run = record { count = 0; wanted = 0; next = 0 }
+
+-- the packet with this number goes on with what is held back
+abbrev pub follows : Run → (seq : ℕ) → Bool
+follows run seq = nat_lt 0 run.count && (run.next == seq)
+
+-- what is held back before this packet: the same, or nothing, by a receiver that took nothing
+abbrev pub run_before : Run → (wanted seq : ℕ) → Run
+run_before run wanted seq = if follows run seq then run else record { count = 0; wanted = wanted; next = seq }
+
+abbrev pub spare_before : Receiving → Run → (seq : ℕ) → Receiving
+spare_before spare run seq = if follows run seq then spare else restarted spare
+
+-- both receivers of an endpoint, and what is held back
+pub record Ends : Type 0 where
+  pub core : Receiving
+  pub spare : Receiving
+  pub run : Run
+
+abbrev pub ends_of : Receiving → Receiving → Run → Ends
+ends_of core spare run = record { core = core; spare = spare; run = run }
+
+-- a receiver that took nothing
+abbrev pub fresh : Config → (capacity : ℕ) → Receiving
+fresh config capacity = record { config = config; span = empty_span capacity; learnt = None }
+
+-- What becomes of a packet that the spare receiver was handed. Refused, it ends what was held back. Taken, it is held back with
+-- the others, or it is the last that was wanted: then the spare receiver, which has all of them, takes the place of the other.
+-- (The tests stand as functions of what they decide.)
+abbrev pub held_answer : Bool → Taken → Heard
+held_answer more taken = if more then heard.HeldBack else heard.Restarted taken
+
+abbrev pub held_ends : Bool → Ends → (mid : Receiving) → Run → (seq : ℕ) → Ends
+held_ends more old mid run seq =
+    if more
+    then record { core = old.core; spare = mid; run = record { count = run.count + 1; wanted = run.wanted; next = (seq + 1) % 65536 } }
+    else record { core = mid; spare = old.core; run = no_run }
+
+-- more are wanted after this one
+abbrev pub wants_more : Run → Bool
+wants_more run = nat_lt (run.count + 1) run.wanted
+
+abbrev pub AfterHeld : Ends → (mid : Receiving) → Run → (seq : ℕ) → Result Taken ReceiveFault → Result Heard ReceiveFault → Ends → Type 0
+AfterHeld old mid run seq (Err fault) answer new = (answer ≡ Err fault) × (new ≡ record { core = old.core; spare = mid; run = no_run })
+AfterHeld old mid run seq (Ok taken) answer new = (answer ≡ Ok (held_answer (wants_more run) taken)) × (new ≡ held_ends (wants_more run) old mid run seq)
+
+-- a packet that is not believed
+pub record HoldsBack (old : Ends) (wanted seq : ℕ) (octets : List ℕ) (now : ℕ) (answer : Result Heard ReceiveFault) (new : Ends) : Type 0 where
+  pub mid : Receiving
+  pub taken : Result Taken ReceiveFault
+  pub handed : Handed (spare_before old.spare old.run seq) octets now taken mid
+  pub after : AfterHeld old mid (run_before old.run wanted seq) seq taken answer new
+
+-- the answer of a receiver, as the endpoint's
+abbrev pub as_heard : Result Taken ReceiveFault → Result Heard ReceiveFault
+as_heard (Ok taken) = Ok (heard.Taken taken)
+as_heard (Err fault) = Err fault
+
+-- a packet that is believed: what was held back is not
+pub record Believes (old : Ends) (octets : List ℕ) (now : ℕ) (answer : Result Heard ReceiveFault) (new : Ends) : Type 0 where
+  pub taken : Result Taken ReceiveFault
+  pub handed : Handed old.core octets now taken new.core
+  pub answered : answer ≡ as_heard taken
+  pub spare : new.spare ≡ old.spare
+  pub run : new.run ≡ no_run
+
+-- What is heard of a packet, by how many in sequence are wanted and its number.
+abbrev pub HearsWanted : Ends → (wanted : ℕ) → (number : Option ℕ) → (octets : List ℕ) → (now : ℕ) → Result Heard ReceiveFault → Ends → Type 0
+HearsWanted old wanted None octets now answer new = Believes old octets now answer new
+HearsWanted old zero (Some seq) octets now answer new = Believes old octets now answer new
+HearsWanted old (suc more) (Some seq) octets now answer new = HoldsBack old (suc more) seq octets now answer new
+
+-- a packet, by the number that it has, if it is media
+pub record HearsPacket (p : Probation) (old : Ends) (octets : List ℕ) (now : ℕ) (answer : Result Heard ReceiveFault) (new : Ends) : Type 0 where
+  pub number : Option ℕ
+  pub is_number : IsMediaNumber old.core.config.session octets number
+  pub spelled : IsSpelledWhere octets number
+  pub heard : HearsWanted old (wanted_at p (highest_of old.core.span) number) number octets now answer new
+
+-- a packet that is all padding is heard without it
+abbrev pub HearsStripped : Probation → Ends → (plain : Option (List ℕ)) → (octets : List ℕ) → (now : ℕ) → Result Heard ReceiveFault → Ends → Type 0
+HearsStripped p old None octets now answer new = ((plain : List ℕ) → IsStripped octets plain → ⊥) × HearsPacket p old octets now answer new
+HearsStripped p old (Some plain) octets now answer new = IsStripped octets plain × HearsPacket p old plain now answer new
+
+-- RTCP changes nothing, and RTP is heard
+abbrev pub HearsKind : (control : Bool) → Probation → Ends → (plain : Option (List ℕ)) → (octets : List ℕ) → (now : ℕ) → Result Heard ReceiveFault → Ends → Type 0
+HearsKind true p old plain octets now answer new = (answer ≡ Ok heard.Control) × (new ≡ old)
+HearsKind false p old plain octets now answer new = HearsStripped p old plain octets now answer new
+
+-- One datagram of the far side at a receiving endpoint.
+pub record HearsDatagram (p : Probation) (old : Ends) (octets : List ℕ) (now : ℕ) (answer : Result Heard ReceiveFault) (new : Ends) : Type 0 where
+  pub plain : Option (List ℕ)
+  pub heard : HearsKind (is_control octets) p old plain octets now answer new
