@@ -26,11 +26,12 @@ fn packet(seq: u16) -> [u8; 12] {
     [0x80, 96, high, low, 0, 0, 0, 0, 0x11, 0x11, 0x11, 0x11]
 }
 
-/// Taken, held back, restarted, control or refused.
+/// Taken, as media or repaired, held back, restarted, control or refused.
 fn letter(heard: Result<Heard, ReceiveFault>) -> u8 {
     match heard {
-        Ok(Heard::Taken(_)) => b't',
-        Ok(Heard::HeldBack) => b'h',
+        Ok(Heard::Media(_)) => b't',
+        Ok(Heard::Repair(_)) => b'p',
+        Ok(Heard::HeldBack(_)) => b'h',
         Ok(Heard::Restarted(_)) => b'r',
         Ok(Heard::Control) => b'c',
         Err(_) => b'x',

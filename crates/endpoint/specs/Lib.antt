@@ -1,4 +1,11 @@
+pub mod Counts
 pub mod Demultiplex
+pub mod Events
+pub mod Ledger
 pub mod Padding
 pub mod Probation
+pub mod ReceiveCounts
 pub mod Receiving
+pub mod SendCounts
+pub mod Sending
+pub mod Tally

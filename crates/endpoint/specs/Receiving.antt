@@ -1,19 +1,18 @@
 -- A receiving endpoint: what it does with a datagram, over a receiver that it hands what it believes and another one that is
 -- handed what is held back.
-use Rattle.std.specs.Prelude.{◌≡◌, ◌≢◌, ℕ, zero, suc, ◌+◌, ◌%◌, ◌<◌, ◌≤◌, ◌==◌, ◌&&◌, Bool, true, false, nat_lt, List, Option, Some, None, Result, Ok, Err, OnErr, if◌then◌else◌}
-use Rattle.std.specs.Option.{option_map}
+use Rattle.std.specs.Prelude.{◌≡◌, ℕ, zero, suc, ◌+◌, ◌%◌, ◌==◌, ◌&&◌, Bool, true, false, nat_lt, List, length, Option, Some, None, Result, Ok, Err, OnErr, if◌then◌else◌}
 use Rattle.rtpwire.specs.Rtp.{RtpPacket, RtpSpells}
 use Rattle.rtpwire.specs.Session.{Streams}
-use Rattle.stores.specs.Span.{highest_of, empty_span}
+use Rattle.stores.specs.Span.{Span, highest_of, empty_span}
 use Rattle.receiver.specs.Config.{Config}
 use Rattle.receiver.specs.declared.answer.Taken.{Taken}
 use Rattle.receiver.specs.declared.fault.ReceiveFault.{ReceiveFault}
 use Rattle.receiver.specs.Heard.{Hears}
 use Rattle.receiver.specs.Receiver.{Receiving, Stays, state_of, restarted}
 use Rattle.endpoint.specs.declared.probation.Probation.{Probation}
-use Rattle.endpoint.specs.declared.receiving.Run.{Run}
-use Rattle.endpoint.specs.declared.receiving.Heard.{Heard}
-use Rattle.endpoint.specs.declared.receiving.Heard.TheVariants as heard
+use Rattle.endpoint.specs.declared.holding.Run.{Run}
+use Rattle.endpoint.specs.declared.heard.Heard.{Heard}
+use Rattle.endpoint.specs.declared.heard.Heard.TheVariants as heard
 use Rattle.endpoint.specs.Probation.{wanted_for}
 use Rattle.endpoint.specs.Demultiplex.{is_control}
 use Rattle.endpoint.specs.Padding.{IsStripped}
@@ -66,6 +65,14 @@ pub record Ends : Type 0 where
 abbrev pub ends_of : Receiving → Receiving → Run → Ends
 ends_of core spare run = record { core = core; spare = spare; run = run }
 
+-- how many places a window keeps, held or missing; one that was not started keeps none
+abbrev pub kept_at : (cursor : Option ℕ) → Span → ℕ
+kept_at None s = 0
+kept_at (Some k) s = length s.slots
+
+abbrev pub kept_in : Span → ℕ
+kept_in s = kept_at s.cursor s
+
 -- a receiver that took nothing
 abbrev pub fresh : Config → (capacity : ℕ) → Receiving
 fresh config capacity = record { config = config; span = empty_span capacity; learnt = None }
@@ -73,8 +80,9 @@ fresh config capacity = record { config = config; span = empty_span capacity; le
 -- What becomes of a packet that the spare receiver was handed. Refused, it ends what was held back. Taken, it is held back with
 -- the others, or it is the last that was wanted: then the spare receiver, which has all of them, takes the place of the other.
 -- (The tests stand as functions of what they decide.)
-abbrev pub held_answer : Bool → Taken → Heard
-held_answer more taken = if more then heard.HeldBack else heard.Restarted taken
+abbrev pub held_answer : Bool → Taken → (held abandoned : ℕ) → Heard
+held_answer more taken held abandoned =
+    if more then heard.HeldBack held else heard.Restarted (record { taken = taken; held = held; abandoned = abandoned })
 
 abbrev pub held_ends : Bool → Ends → (mid : Receiving) → Run → (seq : ℕ) → Ends
 held_ends more old mid run seq =
@@ -88,7 +96,7 @@ wants_more run = nat_lt (run.count + 1) run.wanted
 
 abbrev pub AfterHeld : Ends → (mid : Receiving) → Run → (seq : ℕ) → Result Taken ReceiveFault → Result Heard ReceiveFault → Ends → Type 0
 AfterHeld old mid run seq (Err fault) answer new = (answer ≡ Err fault) × (new ≡ record { core = old.core; spare = mid; run = no_run })
-AfterHeld old mid run seq (Ok taken) answer new = (answer ≡ Ok (held_answer (wants_more run) taken)) × (new ≡ held_ends (wants_more run) old mid run seq)
+AfterHeld old mid run seq (Ok taken) answer new = (answer ≡ Ok (held_answer (wants_more run) taken (run.count + 1) (kept_in old.core.span))) × (new ≡ held_ends (wants_more run) old mid run seq)
 
 -- a packet that is not believed
 pub record HoldsBack (old : Ends) (wanted seq : ℕ) (octets : List ℕ) (now : ℕ) (answer : Result Heard ReceiveFault) (new : Ends) : Type 0 where
@@ -97,23 +105,29 @@ pub record HoldsBack (old : Ends) (wanted seq : ℕ) (octets : List ℕ) (now : 
   pub handed : Handed (spare_before old.spare old.run seq) octets now taken mid
   pub after : AfterHeld old mid (run_before old.run wanted seq) seq taken answer new
 
--- the answer of a receiver, as the endpoint's
-abbrev pub as_heard : Result Taken ReceiveFault → Result Heard ReceiveFault
-as_heard (Ok taken) = Ok (heard.Taken taken)
-as_heard (Err fault) = Err fault
+-- the answer of a receiver as the endpoint's: what it took is media, or else a retransmission
+abbrev pub as_heard : (number : Option ℕ) → Result Taken ReceiveFault → Result Heard ReceiveFault
+as_heard (Some seq) (Ok taken) = Ok (heard.Media taken)
+as_heard None (Ok taken) = Ok (heard.Repair taken)
+as_heard number (Err fault) = Err fault
 
--- a packet that is believed: what was held back is not
-pub record Believes (old : Ends) (octets : List ℕ) (now : ℕ) (answer : Result Heard ReceiveFault) (new : Ends) : Type 0 where
+-- media that is believed ends what is held back, and no other packet does
+abbrev pub run_after : (number : Option ℕ) → Run → Run
+run_after (Some seq) run = no_run
+run_after None run = run
+
+-- a packet that is believed
+pub record Believes (old : Ends) (number : Option ℕ) (octets : List ℕ) (now : ℕ) (answer : Result Heard ReceiveFault) (new : Ends) : Type 0 where
   pub taken : Result Taken ReceiveFault
   pub handed : Handed old.core octets now taken new.core
-  pub answered : answer ≡ as_heard taken
+  pub answered : answer ≡ as_heard number taken
   pub spare : new.spare ≡ old.spare
-  pub run : new.run ≡ no_run
+  pub run : new.run ≡ run_after number old.run
 
 -- What is heard of a packet, by how many in sequence are wanted and its number.
 abbrev pub HearsWanted : Ends → (wanted : ℕ) → (number : Option ℕ) → (octets : List ℕ) → (now : ℕ) → Result Heard ReceiveFault → Ends → Type 0
-HearsWanted old wanted None octets now answer new = Believes old octets now answer new
-HearsWanted old zero (Some seq) octets now answer new = Believes old octets now answer new
+HearsWanted old wanted None octets now answer new = Believes old None octets now answer new
+HearsWanted old zero (Some seq) octets now answer new = Believes old (Some seq) octets now answer new
 HearsWanted old (suc more) (Some seq) octets now answer new = HoldsBack old (suc more) seq octets now answer new
 
 -- a packet, by the number that it has, if it is media

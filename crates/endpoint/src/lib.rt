@@ -2,13 +2,27 @@
 //! restarts then, that takes whatever datagram comes from the far side, and that counts.
 #![tactic(auto)]
 
+mod asking;
 mod demultiplex;
+mod heard;
+mod holding;
 mod judging;
+mod laws;
 mod padding;
 mod probation;
+mod receive_counts;
 mod receiving;
+mod send_counts;
+mod sending;
+mod told;
 
 pub use demultiplex::is_control;
+pub use heard::{Heard, Restart};
+pub use laws::{core_has_what_is_believed, counts_are_exact};
 pub use padding::without_padding;
 pub use probation::Probation;
-pub use receiving::{Heard, ReceivingEndpoint};
+pub use receive_counts::ReceiveCounts;
+pub use receiving::ReceivingEndpoint;
+pub use send_counts::SendCounts;
+pub use sending::SendingEndpoint;
+pub use told::Told;

@@ -1,64 +1,28 @@
 //! The receiving endpoint.
-ghost use Rattle.std.specs.Prelude.{◌≡◌, ◌↔◌, ◌+◌, ◌<◌, ◌≤◌, None, Ok, IsOk, IsNone, IfOk, OnOk, OnErr};
-ghost use Rattle.receiver.specs.Asks.{AsksMost};
+ghost use Rattle.std.specs.Prelude.{◌≡◌, ◌↔◌, ◌+◌, ◌<◌, ◌≤◌, ℕ, length, None, Ok, Err, IsOk, IsNone, IfOk, OnOk, OnErr};
+ghost use Rattle.receiver.specs.Asks.{AsksMost, AsksMostInto};
 ghost use Rattle.receiver.specs.Peeking.{play_of, receiver_passed};
-ghost use Rattle.receiver.specs.Receiver.{Receiving, Stays, begun, state_of};
+ghost use Rattle.receiver.specs.Receiver.{Stays, begun, restarted, state_of, with_times};
 ghost use Rattle.receiver.specs.Window.{PlaysAny};
-ghost use Rattle.stores.specs.Span.{highest_of};
-ghost use Rattle.endpoint.specs.Receiving.{ends_of, fresh, Handed, AfterHeld, Believes, HearsDatagram, HearsPacket, HearsWanted, HoldsBack, follows, wanted_at, no_run};
+ghost use Rattle.endpoint.specs.Receiving.{ends_of, fresh, HearsDatagram, HearsPacket, no_run};
+ghost use Rattle.endpoint.specs.ReceiveCounts.{count_heard, count_played, CountsAsk, CountsAskInto, no_counts};
 
+use crate::asking::places_in;
 use crate::demultiplex::is_control;
+use crate::heard::Heard;
+use crate::holding::{Run, hear_wanted, wanted_at};
 use crate::judging::media_number;
 use crate::padding::without_padding;
 use crate::probation::Probation;
-use receiver::{HasStarted, Played, ReceiveFault, Receiver, ReceiverConfig, Taken};
-use rtpwire::Datagram;
+use crate::receive_counts::ReceiveCounts;
+use receiver::{HasStarted, Played, ReceiveFault, Receiver, ReceiverConfig};
+use rtpwire::{ConfigFault, Datagram, TooShort};
 use std::alloc::Global;
-use std::marker::Model;
-use std::mem;
 use stores::{OutOfMemory, Window};
 
-/// What a datagram was to a receiving endpoint: [`ReceivingEndpoint::on_datagram`] answers it.
-#[derive(Clone, Copy, Debug, PartialEq, Eq)]
-pub enum Heard {
-    /// RTCP, which a receiving endpoint has no use for.
-    Control,
-    /// A packet that is believed, and was taken.
-    Taken(Taken),
-    /// A packet whose sequence number jumped: it is held back, until so many in sequence have come.
-    HeldBack,
-    /// The last of so many in sequence: the stream has restarted with them, and what was held and missed before is gone. The
-    /// place is that of this packet, which the others lie below.
-    Restarted(Taken),
-}
-
-/// Packets in sequence that are held back: how many, how many are wanted, and which number is the next.
-#[derive(Clone, Copy, Debug, PartialEq, Eq)]
-pub struct Run {
-    pub count: u16,
-    pub wanted: u16,
-    pub next: u16,
-}
-
-impl Run {
-    /// Nothing is held back.
-    const NONE: Run = Run {
-        count: 0,
-        wanted: 0,
-        next: 0,
-    };
-
-    /// Whether the packet with this number goes on with what is held back.
-    fn is_followed_by(&self, seq: u16) -> bool
-        ensures { result ≡ follows self.now seq }
-    {
-        self.count > 0 && self.next == seq
-    }
-}
-
 /// The receiving end of a session as a network wants it: it is handed every datagram that comes from the far side, believes a
-/// jump of the sequence number only after a [`Probation`], and restarts then. All that it hands the receiver below since the
-/// last restart is what was believed, so all that is promised of a [`Receiver`] holds from there on.
+/// jump of the sequence number only after a [`Probation`], restarts then, and counts. All that it hands the receiver below since
+/// the last restart is what was believed, so all that is promised of a [`Receiver`] holds from there on.
 ///
 /// It keeps two receivers over windows of one size. What is held back goes to the spare one, which takes the place of the other
 /// once it is believed; so nothing of it is lost, and no call takes memory.
@@ -68,6 +32,7 @@ pub struct ReceivingEndpoint<W: Window> {
     spare: Receiver<W>,
     probation: Probation,
     run: Run,
+    counts: ReceiveCounts,
 }
 
 impl<W: Window> ReceivingEndpoint<W> {
@@ -82,7 +47,7 @@ impl<W: Window> ReceivingEndpoint<W> {
     ) -> Result<ReceivingEndpoint<W>, OutOfMemory>
         requires nonzero { 0 < capacity }
         requires limit { capacity ≤ 8192 }
-        ensures { IfOk result (λ made. (made.core ≡ fresh config capacity) × (made.spare ≡ fresh config capacity) × (made.probation ≡ probation) × (made.run ≡ no_run)) }
+        ensures { IfOk result (λ made. (made.core ≡ fresh config capacity) × (made.spare ≡ fresh config capacity) × (made.probation ≡ probation) × (made.run ≡ no_run) × (made.counts ≡ no_counts)) }
     {
         let core = Receiver::new(config, W::new(alloc, capacity)?);
         let spare = Receiver::new(config, W::new(alloc, capacity)?);
@@ -91,32 +56,74 @@ impl<W: Window> ReceivingEndpoint<W> {
             spare,
             probation,
             run: Run::NONE,
+            counts: ReceiveCounts::NONE,
         })
     }
 
     /// Takes any datagram of the far side at the moment `now`, in milliseconds.
     ///
     /// RTCP is passed over (RFC 5761). A packet that is all padding is taken as one with an empty payload. A media packet whose
-    /// sequence number has jumped is held back, until so many in sequence have come; a packet that is believed ends what was held
-    /// back. The refusals are those of [`Receiver::on_media`].
+    /// sequence number has jumped is held back, until so many in sequence have come; one that is believed ends what was held
+    /// back. The refusals are those of [`Receiver::on_media`]; they change nothing but the counts, and a jumped packet that is
+    /// refused ends what was held back.
     pub fn on_datagram(&mut self, octets: &[u8], now: u64) -> Result<Heard, ReceiveFault>
         ensures hears { HearsDatagram self.old.probation (ends_of self.old.core self.old.spare self.old.run) octets.now now result (ends_of self.new.core self.new.spare self.new.run) }
         ensures probation { self.new.probation ≡ self.old.probation }
+        ensures counts { self.new.counts ≡ count_heard result self.old.counts }
+    {
+        let answer = self.hear_datagram(octets, now);
+        self.counts.hear(&answer);
+        answer
+    }
+
+    /// Hears a datagram, and counts nothing.
+    fn hear_datagram(&mut self, octets: &[u8], now: u64) -> Result<Heard, ReceiveFault>
+        ensures hears { HearsDatagram self.old.probation (ends_of self.old.core self.old.spare self.old.run) octets.now now result (ends_of self.new.core self.new.spare self.new.run) }
+        ensures probation { self.new.probation ≡ self.old.probation }
+        ensures counts { self.new.counts ≡ self.old.counts }
     {
         if is_control(octets) {
             return Ok(Heard::Control);
         }
         match without_padding(octets) {
-            Some(plain) => self.hear(plain.as_slice(), now),
-            None => self.hear(octets, now),
+            Some(plain) => self.hear_packet(plain.as_slice(), now),
+            None => self.hear_packet(octets, now),
         }
     }
 
-    /// The receiver that it hands what it believes, to ask when to call again, what a play would give, and what is missing.
+    /// Hears a packet.
+    fn hear_packet(&mut self, octets: &[u8], now: u64) -> Result<Heard, ReceiveFault>
+        ensures hears { HearsPacket self.old.probation (ends_of self.old.core self.old.spare self.old.run) octets.now now result (ends_of self.new.core self.new.spare self.new.run) }
+        ensures probation { self.new.probation ≡ self.old.probation }
+        ensures counts { self.new.counts ≡ self.old.counts }
+    {
+        let session = self.core.config().session();
+        let number = media_number(&session, octets);
+        let wanted = wanted_at(&self.core, &self.probation, number);
+        hear_wanted(
+            &mut self.core,
+            &mut self.spare,
+            &mut self.run,
+            wanted,
+            number,
+            octets,
+            now,
+        )
+    }
+
+    /// The receiver that it hands what it believes: to ask when to call again ([`Receiver::next_moment`]), what a play would give
+    /// ([`Receiver::peek`]), and what is missing.
     pub fn core(&self) -> &Receiver<W>
         ensures { result.now ≡ self.now.core }
     {
         &self.core
+    }
+
+    /// What it answered so far.
+    pub fn counts(&self) -> ReceiveCounts
+        ensures { result ≡ self.now.counts }
+    {
+        self.counts
     }
 
     /// [`Receiver::play`] of what was believed.
@@ -124,17 +131,22 @@ impl<W: Window> ReceivingEndpoint<W> {
         ensures plays { PlaysAny self.old.core.config.patience (state_of self.old.core) now result (state_of self.new.core) }
         ensures wait { result ≡ Played.Wait → self.new.core ≡ self.old.core }
         ensures stays { Stays self.old.core self.new.core }
-        ensures rest { self.new ≡ record self.old { core = self.new.core } }
+        ensures counts { self.new.counts ≡ count_played result self.old.counts }
+        ensures rest { self.new ≡ record self.old { core = self.new.core; counts = self.new.counts } }
     {
-        self.core.play(now)
+        let played = self.core.play(now);
+        self.counts.play(&played);
+        played
     }
 
     /// [`Receiver::pass`] of what [`core`](ReceivingEndpoint::core) lent.
     pub fn pass(&mut self, now: u64)
         ensures passes { self.new.core ≡ receiver_passed (play_of self.old.core.config.patience now self.old.core.span) self.old.core }
         ensures stays { Stays self.old.core self.new.core }
-        ensures rest { self.new ≡ record self.old { core = self.new.core } }
+        ensures counts { self.new.counts ≡ count_played (play_of self.old.core.config.patience now self.old.core.span) self.old.counts }
+        ensures rest { self.new ≡ record self.old { core = self.new.core; counts = self.new.counts } }
     {
+        let _ = self.counts.pass(self.core.peek(now));
         self.core.pass(now);
     }
 
@@ -143,9 +155,38 @@ impl<W: Window> ReceivingEndpoint<W> {
         ensures asks { AsksMost self.old.core.config (state_of self.old.core) now most result (state_of self.new.core) }
         ensures none { IsNone result → self.new.core ≡ self.old.core }
         ensures stays { Stays self.old.core self.new.core }
-        ensures rest { self.new ≡ record self.old { core = self.new.core } }
+        ensures counts { CountsAsk result self.old.counts self.new.counts }
+        ensures rest { self.new ≡ record self.old { core = self.new.core; counts = self.new.counts } }
     {
-        self.core.ask_most(now, most)
+        let asked = self.core.ask_most(now, most);
+        if let Some(nack) = &asked {
+            self.counts.ask(places_in(nack.as_slice()));
+        }
+        asked
+    }
+
+    /// [`Receiver::ask_most_into`] of what was believed.
+    ///
+    /// `TooShort` (75): the slice is shorter than this NACK; one of 268 octets never is. The slice and the endpoint are then as they were.
+    pub fn ask_most_into(
+        &mut self,
+        out: &mut [u8],
+        now: u64,
+        most: usize,
+    ) -> Result<Option<usize>, TooShort>
+        ensures asks { AsksMostInto self.old.core.config (state_of self.old.core) now most out.old result out.new (state_of self.new.core) }
+        ensures enough { 268 ≤ length out.old → IsOk result }
+        ensures err { OnErr result (self.new.core ≡ self.old.core) }
+        ensures none { result ≡ Ok None → self.new.core ≡ self.old.core }
+        ensures stays { Stays self.old.core self.new.core }
+        ensures counts { CountsAskInto out.new result self.old.counts self.new.counts }
+        ensures rest { self.new ≡ record self.old { core = self.new.core; counts = self.new.counts } }
+    {
+        let asked = self.core.ask_most_into(out, now, most);
+        if let Ok(Some(len)) = asked {
+            self.counts.ask(places_in(&out[..len]));
+        }
+        asked
     }
 
     /// [`Receiver::begin`], before any packet came.
@@ -160,126 +201,28 @@ impl<W: Window> ReceivingEndpoint<W> {
         self.core.begin(first)
     }
 
-    /// Hears a packet.
-    fn hear(&mut self, octets: &[u8], now: u64) -> Result<Heard, ReceiveFault>
-        ensures hears { HearsPacket self.old.probation (ends_of self.old.core self.old.spare self.old.run) octets.now now result (ends_of self.new.core self.new.spare self.new.run) }
-        ensures probation { self.new.probation ≡ self.old.probation }
+    /// Makes it one that took nothing, with the same memory. The counts go on.
+    pub fn restart(&mut self)
+        ensures core { self.new.core ≡ restarted self.old.core }
+        ensures run { self.new.run ≡ no_run }
+        ensures rest { self.new ≡ record self.old { core = self.new.core; run = self.new.run } }
     {
-        let session = self.core.config().session();
-        let number = media_number(&session, octets);
-        let wanted = self.wanted(number);
-        hear_wanted(
-            &mut self.core,
-            &mut self.spare,
-            &mut self.run,
-            wanted,
-            number,
-            octets,
-            now,
-        )
+        self.core.restart();
+        self.run = Run::NONE;
     }
 
-    /// How many in sequence are wanted before a media packet with this number is believed.
-    fn wanted(&self, number: Option<u16>) -> u16
-        ensures { result ≡ wanted_at self.now.probation (highest_of self.now.core.span) number }
+    /// [`Receiver::set_times`], for what is held back too.
+    ///
+    /// `BadLimit` (53): `retry` is 0. The endpoint is then as it was.
+    pub fn set_times(&mut self, patience: u64, delay: u64, retry: u64) -> Result<(), ConfigFault>
+        ensures core { OnOk result (self.new.core ≡ with_times self.old.core patience delay retry) }
+        ensures spare { OnOk result (self.new.spare ≡ with_times self.old.spare patience delay retry) }
+        ensures succeeds { IsOk result ↔ (0 < retry) }
+        ensures bad_limit { OnErr result (result ≡ Err ConfigFault.BadLimit) }
+        ensures err { OnErr result (self.new ≡ self.old) }
+        ensures rest { self.new ≡ record self.old { core = self.new.core; spare = self.new.spare } }
     {
-        match (self.core.window().highest(), number) {
-            (Some(highest), Some(seq)) => self.probation.wanted(highest, seq),
-            _ => 0,
-        }
+        self.core.set_times(patience, delay, retry)?;
+        self.spare.set_times(patience, delay, retry)
     }
-}
-
-/// Hears a packet of which so many in sequence are wanted.
-fn hear_wanted<W: Window>(
-    core: &mut Receiver<W>,
-    spare: &mut Receiver<W>,
-    run: &mut Run,
-    wanted: u16,
-    number: Option<u16>,
-    octets: &[u8],
-    now: u64,
-) -> Result<Heard, ReceiveFault>
-    ensures { HearsWanted (ends_of core.old spare.old run.old) wanted number octets.now now result (ends_of core.new spare.new run.new) }
-{
-    match number {
-        Some(seq) if wanted > 0 => hold_back(core, spare, run, wanted, seq, octets, now),
-        _ => believe(core, run, octets, now),
-    }
-}
-
-/// Hears a packet that is believed.
-fn believe<W: Window>(
-    core: &mut Receiver<W>,
-    run: &mut Run,
-    octets: &[u8],
-    now: u64,
-) -> Result<Heard, ReceiveFault>
-    ensures { (spare : Receiving) → Believes (ends_of core.old spare run.old) octets.now now result (ends_of core.new spare run.new) }
-{
-    *run = Run::NONE;
-    match hand(core, octets, now) {
-        Ok(taken) => Ok(Heard::Taken(taken)),
-        Err(fault) => Err(fault),
-    }
-}
-
-/// Hands a receiver a datagram.
-fn hand<W: Window>(
-    receiver: &mut Receiver<W>,
-    octets: &[u8],
-    now: u64,
-) -> Result<Taken, ReceiveFault>
-    ensures { Handed receiver.old octets.now now result receiver.new }
-{
-    receiver.on_media(octets, now)
-}
-
-/// Hears a packet that is not believed: the spare receiver is handed it.
-fn hold_back<W: Window>(
-    core: &mut Receiver<W>,
-    spare: &mut Receiver<W>,
-    run: &mut Run,
-    wanted: u16,
-    seq: u16,
-    octets: &[u8],
-    now: u64,
-) -> Result<Heard, ReceiveFault>
-    ensures { HoldsBack (ends_of core.old spare.old run.old) wanted seq octets.now now result (ends_of core.new spare.new run.new) }
-{
-    if !run.is_followed_by(seq) {
-        spare.restart();
-        *run = Run {
-            count: 0,
-            wanted,
-            next: seq,
-        };
-    }
-    match hand(spare, octets, now) {
-        Err(fault) => {
-            *run = Run::NONE;
-            Err(fault)
-        }
-        Ok(taken) => Ok(count_held(core, spare, run, seq, taken)),
-    }
-}
-
-/// Counts a packet that the spare receiver took: it is one more that is held back, or the last that was wanted.
-fn count_held<W: Window>(
-    core: &mut Receiver<W>,
-    spare: &mut Receiver<W>,
-    run: &mut Run,
-    seq: u16,
-    taken: Taken,
-) -> Heard
-    ensures { AfterHeld (ends_of core.old spare.old run.old) spare.old run.old seq (Ok taken) (Ok result) (ends_of core.new spare.new run.new) }
-{
-    if u32::from(run.count) + 1 < u32::from(run.wanted) {
-        run.count += 1;
-        run.next = seq.wrapping_add(1);
-        return Heard::HeldBack;
-    }
-    mem::swap(core, spare);
-    *run = Run::NONE;
-    Heard::Restarted(taken)
 }

@@ -1,4 +1,4 @@
-use Rattle.std.proofs.Common.{◌≡◌, ◌∙◌, Ok, Err, Result, ap, sym}
+use Rattle.std.proofs.Common.{◌≡◌, ◌∙◌, Ok, Err, Result, ap}
 use Rattle.rtpwire.specs.Rtp.{RtpPacket}
 use Rattle.rtpwire.specs.declared.fault.RtpFault.{RtpFault}
 use Rattle.endpoint.proofs.padding.is_empty_packet.Goals as goal

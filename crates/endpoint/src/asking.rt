@@ -1,0 +1,27 @@
+//! How many places an ask names.
+ghost use Rattle.std.specs.Prelude.{◌≡◌, ℕ, length};
+ghost use Rattle.fbwire.specs.Nack.{Nack, NackSpells, numbers_of};
+ghost use Rattle.endpoint.specs.Counts.{as_count};
+
+use fbwire::{NackView, Numbers};
+
+/// How many sequence numbers a NACK names.
+pub(crate) fn places_in(octets: &[u8]) -> u64
+    ensures { (nack : Nack) → NackSpells nack octets.now → result ≡ as_count (length (numbers_of nack.pairs)) }
+{
+    match NackView::read(octets) {
+        Ok(nack) => count(nack.numbers()),
+        Err(_) => 0,
+    }
+}
+
+/// How many there are.
+fn count(numbers: Numbers<'_>) -> u64
+    ensures { result ≡ as_count (length numbers.entry) }
+{
+    let mut count = 0u64;
+    for _ in numbers {
+        count = count.saturating_add(1);
+    }
+    count
+}

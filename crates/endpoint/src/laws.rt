@@ -1,0 +1,22 @@
+//! Laws on what a receiving endpoint is over all its calls. These functions compute nothing: their contracts are the laws.
+ghost use Rattle.std.specs.Prelude.{◌≡◌, ℕ, List};
+ghost use Rattle.receiver.specs.Config.{Config};
+ghost use Rattle.endpoint.specs.declared.probation.Probation.{Probation};
+ghost use Rattle.endpoint.specs.Events.{Event, Endpoint, RunsOver};
+ghost use Rattle.endpoint.specs.Tally.{tally};
+ghost use Rattle.endpoint.specs.Ledger.{Reached, ledger};
+
+/// The counts of an endpoint are exact.
+pub fn counts_are_exact()
+    // Whatever was called, each is the number of the answers that it counts, or the sum of what they say.
+    ensures { (c : Config) (capacity : ℕ) (p : Probation) (events : List Event) (e : Endpoint) → RunsOver c capacity p events e → e.counts ≡ tally events }
+{}
+
+/// What an endpoint believes is all that its receiver knows.
+pub fn core_has_what_is_believed()
+    // Whatever was called: the receiver is one that took exactly the packets which were believed since the last restart, those
+    // that were held back for it included, in the order in which they came, between the plays and asks since then. So what is
+    // promised of a receiver holds from there on.
+    ensures { (c : Config) (capacity : ℕ) (p : Probation) (events : List Event) (e : Endpoint)
+        → RunsOver c capacity p events e → Reached capacity (ledger events).core e.ends.core }
+{}
