@@ -9,6 +9,8 @@ mod both_histories;
 #[cfg(test)]
 mod both_windows;
 #[cfg(test)]
+mod counting;
+#[cfg(test)]
 mod endpoints;
 #[cfg(test)]
 mod receivers;

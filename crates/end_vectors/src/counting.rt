@@ -1,0 +1,185 @@
+//! What both endpoints count, over sessions in which each count rises.
+use endpoint::*;
+use receiver::{Played, ReceiverConfig};
+use rtpwire::{Carried, MAX_DATAGRAM, Session, Words};
+use sender::SenderConfig;
+use std::alloc::Global;
+use std::test::Fail;
+use stores::{History, RingHistory, RingWindow};
+
+fn session() -> Result<Session, Fail> {
+    match Session::new(0x11111111, 96, 0x22222222, 97, 0x33333333) {
+        Ok(session) => Ok(session),
+        Err(_) => Err(Fail::from("a good session")),
+    }
+}
+
+/// A window of 300 places, a patience of 100.
+fn receiving(alloc: Global) -> Result<ReceivingEndpoint<RingWindow>, Fail> {
+    let Ok(config) = ReceiverConfig::new(session()?, 100, 20, 3) else {
+        return Err(Fail::from("a good configuration"));
+    };
+    match ReceivingEndpoint::new(alloc, config, Probation::usual(), 300) {
+        Ok(made) => Ok(made),
+        Err(_) => Err(Fail::from("memory is ample")),
+    }
+}
+
+/// A history of 8, the first numbers 1 and 5, one retransmission of each packet.
+fn sending(alloc: Global) -> Result<SendingEndpoint<RingHistory>, Fail> {
+    let Ok(config) = SenderConfig::new(session()?, 1, 5, 1) else {
+        return Err(Fail::from("a good configuration"));
+    };
+    match RingHistory::new(alloc, 8) {
+        Ok(history) => Ok(SendingEndpoint::new(config, history)),
+        Err(_) => Err(Fail::from("memory is ample")),
+    }
+}
+
+/// A media packet without a payload, and the retransmission of one.
+fn media(seq: u16) -> [u8; 12] {
+    let [high, low] = seq.to_be_bytes();
+    [0x80, 96, high, low, 0, 0, 0, 0, 0x11, 0x11, 0x11, 0x11]
+}
+
+fn repair(original: u16) -> [u8; 14] {
+    let [high, low] = original.to_be_bytes();
+    [
+        0x80, 97, 0, 1, 0, 0, 0, 0, 0x22, 0x22, 0x22, 0x22, high, low,
+    ]
+}
+
+/// Plays at this moment until it waits, by both ways of playing in turn.
+fn play_all(endpoint: &mut ReceivingEndpoint<RingWindow>, now: u64) {
+    for _ in 0..400 {
+        endpoint.pass(now);
+        if endpoint.play(now) == Played::Wait {
+            return;
+        }
+    }
+}
+
+#[test]
+fn what_a_receiving_endpoint_counts(rt: HostRuntime) -> Result<(), Fail> {
+    let mut endpoint = receiving(rt.alloc())?;
+    for seq in [10, 11, 14, 14] {
+        let _ = endpoint.on_datagram(media(seq).as_slice(), 0);
+    }
+    let _ = endpoint.ask_most(0, 1);
+    let _ = endpoint.ask_most(0, 100);
+    let _ = endpoint.ask_most(0, 100);
+    let _ = endpoint.on_datagram(repair(12).as_slice(), 5);
+    play_all(&mut endpoint, 99);
+    assert_eq!(rt;
+        endpoint.counts(),
+        ReceiveCounts {
+            media: 3,
+            duplicate: 1,
+            retransmissions: 1,
+            played: 3,
+            asks: 2,
+            places_asked: 2,
+            ..ReceiveCounts::default()
+        }
+    );
+    play_all(&mut endpoint, 100);
+    // RTCP, a packet that is cut, one of another stream, one that is late, a retransmission from too far, a stray one, and the next.
+    let _ = endpoint.on_datagram(b"\x80\xc8\x00\x01\x11\x11\x11\x11", 200);
+    let _ = endpoint.on_datagram(b"\x80\x60\x00", 200);
+    let _ = endpoint.on_datagram(b"\x80\x60\x00\x01\x00\x00\x00\x00\x99\x99\x99\x99", 200);
+    let _ = endpoint.on_datagram(media(10).as_slice(), 200);
+    let _ = endpoint.on_datagram(repair(30000).as_slice(), 200);
+    let _ = endpoint.on_datagram(media(16000).as_slice(), 200);
+    let _ = endpoint.on_datagram(media(15).as_slice(), 200);
+    // Two in sequence, and one that leaves the window behind.
+    for seq in [30000, 30001, 30401] {
+        let _ = endpoint.on_datagram(media(seq).as_slice(), 200);
+    }
+    assert_eq!(rt;
+        endpoint.counts(),
+        ReceiveCounts {
+            media: 5,
+            retransmissions: 1,
+            held_back: 2,
+            restarts: 1,
+            control: 1,
+            duplicate: 1,
+            late: 1,
+            far: 1,
+            refused: 2,
+            overrun: 102,
+            abandoned: 1,
+            played: 4,
+            gaps: 1,
+            asks: 2,
+            places_asked: 2,
+        }
+    );
+    Ok(())
+}
+
+/// Sends a payload of so many octets, and says whether that was refused.
+fn sends(endpoint: &mut SendingEndpoint<RingHistory>, payload: &[u8], padding: u8) -> bool {
+    let mut out = [0; MAX_DATAGRAM];
+    match Carried::of_fields(payload, 0, false, Words::Numbers(&[]), None) {
+        Ok(carried) => matches!(
+            endpoint.send_into(out.as_mut_slice(), &carried, padding),
+            Ok(Ok(_))
+        ),
+        Err(_) => false,
+    }
+}
+
+/// Whether there is a retransmission.
+fn repairs(endpoint: &mut SendingEndpoint<RingHistory>) -> bool {
+    let mut out = [0; MAX_DATAGRAM];
+    matches!(endpoint.next_repair_into(out.as_mut_slice()), Ok(Some(_)))
+}
+
+/// A NACK for the numbers 1 and 500, which was never sent, and one for another media.
+const SHARED: &[u8] =
+    b"\x81\xcd\x00\x04\x33\x33\x33\x33\x11\x11\x11\x11\x00\x01\x00\x00\x01\xf4\x00\x00\x81\xcd\x00\x03\x77\x77\x77\x77\x55\x55\x55\x55\x00\x02\x00\x00";
+
+/// A NACK for the number 1, and one for another media alone.
+const ONE: &[u8] = b"\x81\xcd\x00\x03\x33\x33\x33\x33\x11\x11\x11\x11\x00\x01\x00\x00";
+
+const OTHER: &[u8] = b"\x81\xcd\x00\x03\x77\x77\x77\x77\x55\x55\x55\x55\x00\x02\x00\x00";
+
+#[test]
+fn what_a_sending_endpoint_counts(rt: HostRuntime) -> Result<(), Fail> {
+    let mut endpoint = sending(rt.alloc())?;
+    let sent = [
+        sends(&mut endpoint, b"abc", 0),
+        sends(&mut endpoint, b"hello", 4),
+        sends(&mut endpoint, b"", 1),
+    ];
+    assert_eq!(rt; sent, [true, true, false]);
+    // RTP, a report, RTCP that is cut, and feedback.
+    let _ = endpoint.on_datagram(media(7).as_slice());
+    let _ = endpoint.on_datagram(b"\x80\xc9\x00\x01\x33\x33\x33\x33");
+    let _ = endpoint.on_datagram(b"\x80\xc9\x00");
+    let _ = endpoint.on_datagram(SHARED);
+    let first = [repairs(&mut endpoint), repairs(&mut endpoint)];
+    let _ = endpoint.on_datagram(ONE);
+    let _ = endpoint.on_datagram(OTHER);
+    let _ = endpoint.mark_last();
+    let second = [repairs(&mut endpoint), repairs(&mut endpoint)];
+    assert_eq!(rt; [first, second], [[true, false], [true, false]]);
+    assert_eq!(rt;
+        endpoint.counts(),
+        SendCounts {
+            sent: 2,
+            octets: 8,
+            retransmissions: 2,
+            nacks: 2,
+            others: 1,
+            numbers: 3,
+            unknown: 1,
+            exhausted: 1,
+            media: 1,
+            reports: 1,
+            refused: 2,
+        }
+    );
+    Ok(())
+}
