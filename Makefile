@@ -1,0 +1,71 @@
+# Builds and installs the library for C, with the program rtxtool where that was built.
+#
+#   make lib [PAYLOAD=1460]                      proves the library with payloads of so many octets, and builds it
+#   make install [PREFIX=FOLDER] [DESTDIR=ROOT]  installs it; the packager's ROOT stands before every path
+#   make uninstall [PREFIX=FOLDER] [DESTDIR=ROOT]
+#
+# ARCHIVE and INCLUDE install another build, an archive with the folder of its headers, in the place of `make lib`.
+PAYLOAD ?= 1460
+PREFIX ?= /usr/local
+VERSION = 0.9.0
+SONAME = libgozdrit.so.0
+SHARED = libgozdrit.so.$(VERSION)
+
+BUILD ?= out/$(PAYLOAD)
+TREE = $(BUILD)/tree
+ARCHIVE ?= $(TREE)/crates/gozdrit/out/libgozdrit.a
+INCLUDE ?= $(TREE)/include
+PROGRAM ?= crates/rtxtool/out/rtxtool
+HEAP ?= $(dir $(shell rt doc))c/liblibc_c.a
+
+BINDIR = $(PREFIX)/bin
+LIBDIR = $(PREFIX)/lib
+HEADERS = $(PREFIX)/include
+PKGCONFIG = $(LIBDIR)/pkgconfig
+MAN = $(PREFIX)/share/man
+DOC = $(PREFIX)/share/doc/gozdrit
+PAGES = LIBRARY PROTOCOL MODEL CLAIMS DECISIONS SCRIPT
+
+lib: $(BUILD)/libgozdrit.a $(BUILD)/$(SHARED)
+
+$(TREE)/crates/gozdrit/out/libgozdrit.a:
+	rm -rf $(TREE)
+	tools/limits $(PAYLOAD) $(TREE)
+
+# What the header declares, a name a line.
+$(BUILD)/exports: $(ARCHIVE)
+	mkdir -p $(BUILD)
+	sed -n 's/^[a-z].*\b\(gozdrit_[a-z_]*\)(.*/\1/p' $(INCLUDE)/gozdrit.h | sort -u >$@
+
+# One object of the library and of the kit's heap functions, in which no other names than those are to be linked with.
+$(BUILD)/gozdrit.o: $(ARCHIVE) $(BUILD)/exports
+	$(LD) -r -o $@ --whole-archive $(ARCHIVE) $(HEAP)
+	objcopy --keep-global-symbols=$(BUILD)/exports $@
+
+$(BUILD)/libgozdrit.a: $(BUILD)/gozdrit.o
+	rm -f $@
+	$(AR) rcs $@ $<
+
+$(BUILD)/$(SHARED): $(BUILD)/gozdrit.o
+	$(CC) -shared -Wl,-soname,$(SONAME) -Wl,-z,defs -o $@ $<
+
+install: lib
+	install -d $(DESTDIR)$(HEADERS) $(DESTDIR)$(PKGCONFIG) $(DESTDIR)$(MAN)/man1 $(DESTDIR)$(MAN)/man3 $(DESTDIR)$(DOC)
+	install -m 644 $(INCLUDE)/gozdrit.h $(INCLUDE)/gozdrit_limits.h $(DESTDIR)$(HEADERS)
+	install -m 644 $(BUILD)/libgozdrit.a $(DESTDIR)$(LIBDIR)
+	install -m 755 $(BUILD)/$(SHARED) $(DESTDIR)$(LIBDIR)
+	ln -sf $(SHARED) $(DESTDIR)$(LIBDIR)/$(SONAME)
+	ln -sf $(SONAME) $(DESTDIR)$(LIBDIR)/libgozdrit.so
+	sed 's|@PREFIX@|$(PREFIX)|; s|@VERSION@|$(VERSION)|' include/gozdrit.pc.in >$(DESTDIR)$(PKGCONFIG)/gozdrit.pc
+	install -m 644 docs/gozdrit.3 $(DESTDIR)$(MAN)/man3
+	install -m 644 docs/rtxtool.1 $(DESTDIR)$(MAN)/man1
+	install -m 644 README.md LICENSE LICENSE-APACHE LICENSE-MIT $(PAGES:%=docs/%.md) $(DESTDIR)$(DOC)
+	[ ! -x $(PROGRAM) ] || install -D -m 755 $(PROGRAM) $(DESTDIR)$(BINDIR)/rtxtool
+
+uninstall:
+	rm -f $(DESTDIR)$(HEADERS)/gozdrit.h $(DESTDIR)$(HEADERS)/gozdrit_limits.h $(DESTDIR)$(PKGCONFIG)/gozdrit.pc
+	rm -f $(addprefix $(DESTDIR)$(LIBDIR)/,libgozdrit.a libgozdrit.so $(SONAME) $(SHARED))
+	rm -f $(DESTDIR)$(MAN)/man3/gozdrit.3 $(DESTDIR)$(MAN)/man1/rtxtool.1 $(DESTDIR)$(BINDIR)/rtxtool
+	rm -rf $(DESTDIR)$(DOC)
+
+.PHONY: lib install uninstall
