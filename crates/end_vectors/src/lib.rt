@@ -13,6 +13,8 @@ mod counting;
 #[cfg(test)]
 mod endpoints;
 #[cfg(test)]
+mod ends;
+#[cfg(test)]
 mod receivers;
 #[cfg(test)]
 mod senders;

@@ -2,18 +2,12 @@
 //! lie so far apart that a script of them would be a thousand lines.
 ghost use Rattle.std.specs.Prelude.{◌≡◌, ◌<◌, ◌≤◌, None};
 
+use crate::ends::session;
 use receiver::*;
-use rtpwire::{ConfigFault, Session};
+use rtpwire::ConfigFault;
 use std::alloc::Global;
 use std::test::Fail;
 use stores::{ListWindow, RingWindow, Window};
-
-fn session() -> Result<Session, Fail> {
-    match Session::new(0x11111111, 96, 0x22222222, 97, 0x33333333) {
-        Ok(session) => Ok(session),
-        Err(_) => Err(Fail::from("a good session")),
-    }
-}
 
 /// A patience of 100, asks 20 apart, and at most so many.
 fn config(asks: u8) -> Result<ReceiverConfig, Fail> {

@@ -1,16 +1,10 @@
 //! What a script can't say of a sender: its configurations, its laws, and a whole cycle of sequence numbers.
+use crate::ends::session;
 use arrayvec::ArrayVec;
-use rtpwire::{Content, Session};
+use rtpwire::Content;
 use sender::*;
 use std::test::Fail;
 use stores::{History, RingHistory};
-
-fn session() -> Result<Session, Fail> {
-    match Session::new(0x11111111, 96, 0x22222222, 97, 0x33333333) {
-        Ok(session) => Ok(session),
-        Err(_) => Err(Fail::from("a good session")),
-    }
-}
 
 /// A sender of the first numbers 1 and 5.
 fn config() -> Result<SenderConfig, Fail> {

@@ -1,18 +1,12 @@
 //! Packets that both ends write to the front of slices: one that is an octet too short is refused, and what lies behind a
 //! packet stays.
+use crate::ends::session;
 use receiver::{Receiver, ReceiverConfig};
-use rtpwire::{Carried, Session, TooShort, Words};
+use rtpwire::{Carried, TooShort, Words};
 use sender::{Sender, SenderConfig};
 use std::alloc::Global;
 use std::test::Fail;
 use stores::{History, RingHistory, RingWindow, Window};
-
-fn session() -> Result<Session, Fail> {
-    match Session::new(0x11111111, 96, 0x22222222, 97, 0x33333333) {
-        Ok(session) => Ok(session),
-        Err(_) => Err(Fail::from("a good session")),
-    }
-}
 
 /// A content of the one octet aa, with a marker.
 fn content() -> Result<Carried<'static>, Fail> {
