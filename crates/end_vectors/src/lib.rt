@@ -15,6 +15,8 @@ mod endpoints;
 #[cfg(test)]
 mod ends;
 #[cfg(test)]
+mod no_delay;
+#[cfg(test)]
 mod receivers;
 #[cfg(test)]
 mod senders;
