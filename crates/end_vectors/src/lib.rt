@@ -11,6 +11,8 @@ mod both_windows;
 #[cfg(test)]
 mod counting;
 #[cfg(test)]
+mod delays;
+#[cfg(test)]
 mod endpoints;
 #[cfg(test)]
 mod ends;
