@@ -27,4 +27,6 @@ mod sharing;
 #[cfg(test)]
 mod slices;
 #[cfg(test)]
+mod tails;
+#[cfg(test)]
 mod windows;
