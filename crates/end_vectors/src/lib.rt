@@ -19,6 +19,8 @@ mod ends;
 #[cfg(test)]
 mod no_delay;
 #[cfg(test)]
+mod outages;
+#[cfg(test)]
 mod receivers;
 #[cfg(test)]
 mod senders;
