@@ -31,4 +31,6 @@ mod slices;
 #[cfg(test)]
 mod tails;
 #[cfg(test)]
+mod waking;
+#[cfg(test)]
 mod windows;
