@@ -23,6 +23,8 @@ mod outages;
 #[cfg(test)]
 mod receivers;
 #[cfg(test)]
+mod restarts;
+#[cfg(test)]
 mod senders;
 #[cfg(test)]
 mod sharing;
