@@ -33,6 +33,8 @@ mod slices;
 #[cfg(test)]
 mod tails;
 #[cfg(test)]
+mod times;
+#[cfg(test)]
 mod waking;
 #[cfg(test)]
 mod windows;
