@@ -1,5 +1,6 @@
 //! Runs of a hundred thousand packets and more. Where each access is checked, under `rt try --test`, they need more than the
 //! usual time: `--seconds 600`.
+ghost use Rattle.std.specs.Prelude.{◌<◌};
 
 use crate::sessions::{does, new_world};
 use arrayvec::ArrayVec;
@@ -14,10 +15,10 @@ const PACKETS: u64 = 100_000;
 /// So many packets are sent before a round mends what is missing.
 const BLOCK: u64 = 256;
 
-type Long = World<RingHistory, RingWindow>;
+pub(crate) type Long = World<RingHistory, RingWindow>;
 
 /// Sends the empty content with a timestamp.
-fn sends(world: &mut Long, timestamp: u64) -> bool {
+pub(crate) fn sends(world: &mut Long, timestamp: u64) -> bool {
     let content = Content {
         payload: ArrayVec::new(),
         timestamp: (timestamp % 0x1_0000_0000) as u32,
@@ -52,6 +53,17 @@ fn plays(world: &mut Long, now: u64) -> Next {
     }
 }
 
+/// A number below this one, by the upper bits of a linear congruential generator.
+pub(crate) fn draw(state: &mut u64, limit: u64) -> u64
+    requires { 0 < limit }
+    ensures { result < limit }
+{
+    *state = state
+        .wrapping_mul(6364136223846793005)
+        .wrapping_add(1442695040888963407);
+    (*state >> 33) % limit
+}
+
 /// Of ten packets it loses one, delivers one twice, and keeps one back until the next was delivered.
 #[derive(Drop)]
 struct Network {
@@ -61,18 +73,9 @@ struct Network {
 }
 
 impl Network {
-    /// A number below 10, by the upper bits of a linear congruential generator.
-    fn draw(&mut self) -> u64 {
-        self.state = self
-            .state
-            .wrapping_mul(6364136223846793005)
-            .wrapping_add(1442695040888963407);
-        (self.state >> 33) % 10
-    }
-
     /// How often the packet with an index comes, and which comes behind it. The first and the last are sure to come.
     fn carries(&mut self, index: u64, now: u64) -> (u64, Option<u64>) {
-        let drawn = self.draw();
+        let drawn = draw(&mut self.state, 10);
         let mut times = 1;
         if now != 0 && now != PACKETS - 1 {
             if drawn == 0 {
@@ -113,7 +116,7 @@ fn crosses(world: &mut Long, network: &mut Network, now: u64) -> bool {
 }
 
 /// Plays until there is nothing to play. Each packet is to be the next.
-fn plays_all(world: &mut Long, next: &mut u64, now: u64) -> bool {
+pub(crate) fn plays_all(world: &mut Long, next: &mut u64, now: u64) -> bool {
     for _ in 0..PACKETS {
         match plays(world, now) {
             Next::Packet(_, timestamp) if timestamp == *next => *next = next.wrapping_add(1),
@@ -146,7 +149,7 @@ fn runs(world: &mut Long, network: &mut Network, next: &mut u64) -> bool {
 }
 
 /// How many retransmissions a log has.
-fn repairs(world: &Long) -> u64 {
+pub(crate) fn repairs(world: &Long) -> u64 {
     let repaired = |entry: &&Entry| matches!(*entry, Entry::Repaired { .. });
     world.log().iter().filter(repaired).count() as u64
 }

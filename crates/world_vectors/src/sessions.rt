@@ -177,16 +177,23 @@ fn made<H: History, W: Window>(alloc: Global, config: &Config) -> Option<World<H
     World::new(alloc, config).ok()
 }
 
-/// A new world of a config line. One whose growth is refused is made again.
+/// A new world. One whose growth is refused is made again.
+pub(crate) fn world_of<H: History, W: Window>(
+    alloc: Global,
+    config: &Config,
+) -> Result<World<H, W>, Fail> {
+    match made(alloc, config) {
+        Some(world) => Ok(world),
+        None => Ok(made(alloc, config).ok_or("memory is ample")?),
+    }
+}
+
+/// A new world of a config line.
 pub(crate) fn new_world<H: History, W: Window>(
     alloc: Global,
     line: &str,
 ) -> Result<World<H, W>, Fail> {
-    let config = config(line)?;
-    match made(alloc, &config) {
-        Some(world) => Ok(world),
-        None => Ok(made(alloc, &config).ok_or("memory is ample")?),
-    }
+    world_of(alloc, &config(line)?)
 }
 
 /// Does a session, in a new world over these stores.
