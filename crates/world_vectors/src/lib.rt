@@ -4,6 +4,8 @@
 #[cfg(test)]
 mod both_stores;
 #[cfg(test)]
+mod delayed_runs;
+#[cfg(test)]
 mod delays;
 #[cfg(test)]
 mod growths;
