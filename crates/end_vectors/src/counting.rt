@@ -1,25 +1,16 @@
 //! What both endpoints count, over sessions in which each count rises.
+use crate::ends::{config, media, repair, session};
 use endpoint::*;
-use receiver::{Played, ReceiverConfig};
-use rtpwire::{Carried, MAX_DATAGRAM, Session, Words};
+use receiver::Played;
+use rtpwire::{Carried, MAX_DATAGRAM, Words};
 use sender::SenderConfig;
 use std::alloc::Global;
 use std::test::Fail;
 use stores::{History, RingHistory, RingWindow};
 
-fn session() -> Result<Session, Fail> {
-    match Session::new(0x11111111, 96, 0x22222222, 97, 0x33333333) {
-        Ok(session) => Ok(session),
-        Err(_) => Err(Fail::from("a good session")),
-    }
-}
-
 /// A window of 300 places, a patience of 100.
 fn receiving(alloc: Global) -> Result<ReceivingEndpoint<RingWindow>, Fail> {
-    let Ok(config) = ReceiverConfig::new(session()?, 100, 20, 3) else {
-        return Err(Fail::from("a good configuration"));
-    };
-    match ReceivingEndpoint::new(alloc, config, Probation::usual(), 300) {
+    match ReceivingEndpoint::new(alloc, config(100, 0, 20, 3)?, Probation::usual(), 300) {
         Ok(made) => Ok(made),
         Err(_) => Err(Fail::from("memory is ample")),
     }
@@ -36,19 +27,6 @@ fn sending(alloc: Global) -> Result<SendingEndpoint<RingHistory>, Fail> {
     }
 }
 
-/// A media packet without a payload, and the retransmission of one.
-fn media(seq: u16) -> [u8; 12] {
-    let [high, low] = seq.to_be_bytes();
-    [0x80, 96, high, low, 0, 0, 0, 0, 0x11, 0x11, 0x11, 0x11]
-}
-
-fn repair(original: u16) -> [u8; 14] {
-    let [high, low] = original.to_be_bytes();
-    [
-        0x80, 97, 0, 1, 0, 0, 0, 0, 0x22, 0x22, 0x22, 0x22, high, low,
-    ]
-}
-
 /// Plays at this moment until it waits, by both ways of playing in turn.
 fn play_all(endpoint: &mut ReceivingEndpoint<RingWindow>, now: u64) {
     for _ in 0..400 {
@@ -63,12 +41,12 @@ fn play_all(endpoint: &mut ReceivingEndpoint<RingWindow>, now: u64) {
 fn what_a_receiving_endpoint_counts(rt: HostRuntime) -> Result<(), Fail> {
     let mut endpoint = receiving(rt.alloc())?;
     for seq in [10, 11, 14, 14] {
-        let _ = endpoint.on_datagram(media(seq).as_slice(), 0);
+        let _ = endpoint.on_datagram(media(seq, 0).as_slice(), 0);
     }
     let _ = endpoint.ask_most(0, 1);
     let _ = endpoint.ask_most(0, 100);
     let _ = endpoint.ask_most(0, 100);
-    let _ = endpoint.on_datagram(repair(12).as_slice(), 5);
+    let _ = endpoint.on_datagram(repair(12, 0).as_slice(), 5);
     play_all(&mut endpoint, 99);
     assert_eq!(rt;
         endpoint.counts(),
@@ -87,13 +65,13 @@ fn what_a_receiving_endpoint_counts(rt: HostRuntime) -> Result<(), Fail> {
     let _ = endpoint.on_datagram(b"\x80\xc8\x00\x01\x11\x11\x11\x11", 200);
     let _ = endpoint.on_datagram(b"\x80\x60\x00", 200);
     let _ = endpoint.on_datagram(b"\x80\x60\x00\x01\x00\x00\x00\x00\x99\x99\x99\x99", 200);
-    let _ = endpoint.on_datagram(media(10).as_slice(), 200);
-    let _ = endpoint.on_datagram(repair(30000).as_slice(), 200);
-    let _ = endpoint.on_datagram(media(16000).as_slice(), 200);
-    let _ = endpoint.on_datagram(media(15).as_slice(), 200);
+    let _ = endpoint.on_datagram(media(10, 0).as_slice(), 200);
+    let _ = endpoint.on_datagram(repair(30000, 0).as_slice(), 200);
+    let _ = endpoint.on_datagram(media(16000, 0).as_slice(), 200);
+    let _ = endpoint.on_datagram(media(15, 0).as_slice(), 200);
     // Two in sequence, and one that leaves the window behind.
     for seq in [30000, 30001, 30401] {
-        let _ = endpoint.on_datagram(media(seq).as_slice(), 200);
+        let _ = endpoint.on_datagram(media(seq, 0).as_slice(), 200);
     }
     assert_eq!(rt;
         endpoint.counts(),
@@ -155,7 +133,7 @@ fn what_a_sending_endpoint_counts(rt: HostRuntime) -> Result<(), Fail> {
     ];
     assert_eq!(rt; sent, [true, true, false]);
     // RTP, a report, RTCP that is cut, and feedback.
-    let _ = endpoint.on_datagram(media(7).as_slice());
+    let _ = endpoint.on_datagram(media(7, 0).as_slice());
     let _ = endpoint.on_datagram(b"\x80\xc9\x00\x01\x33\x33\x33\x33");
     let _ = endpoint.on_datagram(b"\x80\xc9\x00");
     let _ = endpoint.on_datagram(SHARED);

@@ -1,29 +1,17 @@
 //! A receiving endpoint at jumps of the sequence number (RFC 3550, appendix A.1), packets that are all padding, and RTCP.
+use crate::ends::{config, media};
 use endpoint::*;
-use receiver::{ReceiveFault, ReceiverConfig};
-use rtpwire::Session;
+use receiver::ReceiveFault;
 use std::alloc::Global;
 use std::test::Fail;
 use stores::RingWindow;
 
 /// An endpoint with the usual probation, over windows of 300 places.
 fn endpoint(alloc: Global) -> Result<ReceivingEndpoint<RingWindow>, Fail> {
-    let Ok(session) = Session::new(0x11111111, 96, 0x22222222, 97, 0x33333333) else {
-        return Err(Fail::from("a good session"));
-    };
-    let Ok(config) = ReceiverConfig::new(session, 100, 20, 3) else {
-        return Err(Fail::from("a good configuration"));
-    };
-    match ReceivingEndpoint::new(alloc, config, Probation::usual(), 300) {
+    match ReceivingEndpoint::new(alloc, config(100, 0, 20, 3)?, Probation::usual(), 300) {
         Ok(made) => Ok(made),
-        Err(_) => Err(Fail::from("memory")),
+        Err(_) => Err(Fail::from("memory is ample")),
     }
-}
-
-/// A media packet with this number and no payload.
-fn packet(seq: u16) -> [u8; 12] {
-    let [high, low] = seq.to_be_bytes();
-    [0x80, 96, high, low, 0, 0, 0, 0, 0x11, 0x11, 0x11, 0x11]
 }
 
 /// Taken, as media or repaired, held back, restarted, control or refused.
@@ -43,7 +31,7 @@ fn heard(alloc: Global, numbers: &[u16]) -> Result<Vec<u8>, Fail> {
     let mut endpoint = endpoint(alloc)?;
     let mut letters = Vec::new(alloc);
     for seq in numbers {
-        letters.push(letter(endpoint.on_datagram(packet(*seq).as_slice(), 0)))?;
+        letters.push(letter(endpoint.on_datagram(media(*seq, 0).as_slice(), 0)))?;
     }
     Ok(letters)
 }
@@ -52,18 +40,18 @@ fn heard(alloc: Global, numbers: &[u16]) -> Result<Vec<u8>, Fail> {
 /// 5001: held back, restarted, and what that one was.
 fn repeated(alloc: Global, count: u16) -> Result<(u32, u32, u8), Fail> {
     let mut endpoint = endpoint(alloc)?;
-    let _ = endpoint.on_datagram(packet(5000).as_slice(), 0);
+    let _ = endpoint.on_datagram(media(5000, 0).as_slice(), 0);
     let mut held = 0u32;
     let mut restarted = 0u32;
     for step in 0..count {
-        let told = letter(endpoint.on_datagram(packet(4000u16.wrapping_add(step)).as_slice(), 0));
+        let told = letter(endpoint.on_datagram(media(4000u16.wrapping_add(step), 0).as_slice(), 0));
         held = held.wrapping_add(u32::from(told == b'h'));
         restarted = restarted.wrapping_add(u32::from(told == b'r'));
     }
     Ok((
         held,
         restarted,
-        letter(endpoint.on_datagram(packet(5001).as_slice(), 0)),
+        letter(endpoint.on_datagram(media(5001, 0).as_slice(), 0)),
     ))
 }
 
@@ -94,7 +82,7 @@ fn old_packets_once_more(rt: HostRuntime) -> Result<(), Fail> {
 #[test]
 fn what_is_no_media(rt: HostRuntime) -> Result<(), Fail> {
     let mut endpoint = endpoint(rt.alloc())?;
-    let _ = endpoint.on_datagram(packet(7).as_slice(), 0);
+    let _ = endpoint.on_datagram(media(7, 0).as_slice(), 0);
     let probe = [0xa0, 96, 0, 8, 0, 0, 0, 0, 0x11, 0x11, 0x11, 0x11, 0, 0, 3];
     let report = [0x80, 200, 0, 1, 0x11, 0x11, 0x11, 0x11];
     let cut = [0x80, 96, 0, 9];
@@ -102,7 +90,7 @@ fn what_is_no_media(rt: HostRuntime) -> Result<(), Fail> {
         letter(endpoint.on_datagram(probe.as_slice(), 0)),
         letter(endpoint.on_datagram(report.as_slice(), 0)),
         letter(endpoint.on_datagram(cut.as_slice(), 0)),
-        letter(endpoint.on_datagram(packet(9).as_slice(), 0)),
+        letter(endpoint.on_datagram(media(9, 0).as_slice(), 0)),
     ];
     assert_eq!(rt; told, [b't', b'c', b'x', b't']);
     assert_eq!(rt; endpoint.core().missing(), 0);

@@ -3,6 +3,8 @@
 #![tactic(auto)]
 
 #[cfg(test)]
+mod as_receiver;
+#[cfg(test)]
 mod both_ends;
 #[cfg(test)]
 mod both_histories;

@@ -54,9 +54,9 @@ impl Ending {
     /// Counts what a datagram was.
     fn counts(&mut self, heard: Result<Heard, ReceiveFault>) {
         match heard {
-            Ok(Heard::HeldBack) => count(&mut self.told.held_back),
+            Ok(Heard::HeldBack(_)) => count(&mut self.told.held_back),
             Ok(Heard::Restarted(_)) => count(&mut self.told.restarted),
-            Ok(Heard::Taken(_)) | Ok(Heard::Control) => {}
+            Ok(Heard::Media(_) | Heard::Repair(_) | Heard::Control) => {}
             Err(_) => count(&mut self.told.refused),
         }
     }
