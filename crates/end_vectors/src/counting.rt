@@ -37,9 +37,9 @@ fn play_all(endpoint: &mut ReceivingEndpoint<RingWindow>, now: u64) {
     }
 }
 
-#[test]
-fn what_a_receiving_endpoint_counts(rt: HostRuntime) -> Result<(), Fail> {
-    let mut endpoint = receiving(rt.alloc())?;
+/// An endpoint that took three packets and a retransmission, asked for two places, and played what it could until moment 99.
+fn asked(alloc: Global) -> Result<ReceivingEndpoint<RingWindow>, Fail> {
+    let mut endpoint = receiving(alloc)?;
     for seq in [10, 11, 14, 14] {
         let _ = endpoint.on_datagram(media(seq, 0).as_slice(), 0);
     }
@@ -48,8 +48,13 @@ fn what_a_receiving_endpoint_counts(rt: HostRuntime) -> Result<(), Fail> {
     let _ = endpoint.ask_most(0, 100);
     let _ = endpoint.on_datagram(repair(12, 0).as_slice(), 5);
     play_all(&mut endpoint, 99);
+    Ok(endpoint)
+}
+
+#[test]
+fn what_is_taken_asked_and_played(rt: HostRuntime) -> Result<(), Fail> {
     assert_eq!(rt;
-        endpoint.counts(),
+        asked(rt.alloc())?.counts(),
         ReceiveCounts {
             media: 3,
             duplicate: 1,
@@ -60,6 +65,12 @@ fn what_a_receiving_endpoint_counts(rt: HostRuntime) -> Result<(), Fail> {
             ..ReceiveCounts::default()
         }
     );
+    Ok(())
+}
+
+#[test]
+fn what_is_given_up_refused_and_held_back(rt: HostRuntime) -> Result<(), Fail> {
+    let mut endpoint = asked(rt.alloc())?;
     play_all(&mut endpoint, 100);
     // RTCP, a packet that is cut, one of another stream, one that is late, a retransmission from too far, a stray one, and the next.
     let _ = endpoint.on_datagram(b"\x80\xc8\x00\x01\x11\x11\x11\x11", 200);

@@ -1,2 +1,4 @@
+pub mod Adding
 pub mod Tallied
+pub mod SendTallied
 pub mod Believed

@@ -1,7 +1,6 @@
 -- The counts of an endpoint are those of all that it answered.
-use Rattle.std.proofs.Common.{◌≡◌, ℕ, ◌+◌, List, [], ◌∷◌, Option, Some, None, Result, Ok, Err, refl, sym, ap, subst, ◌∙◌, arith}
+use Rattle.std.proofs.Common.{◌≡◌, ℕ, List, [], ◌∷◌, Option, Some, None, Result, Ok, Err, refl, sym, ap, subst, ◌∙◌, arith}
 use Rattle.std.specs.List.{sum_by}
-use Rattle.std.proofs.lemmas.List.Sums.{sum_by-cons}
 use Rattle.arrayvec.specs.ArrayVec.{ArrayVec}
 use Rattle.places.specs.declared.nearness.PlaceFault.TheVariants.{Far, PastEnd}
 use Rattle.rtpwire.specs.declared.fault.RtpFault.TheVariants as rtp
@@ -23,16 +22,7 @@ use Rattle.endpoint.specs.Counts.{as_count, more}
 use Rattle.endpoint.specs.ReceiveCounts.{count_heard, count_played, count_ask, NamesMany, CountsAsk}
 use Rattle.endpoint.specs.Events.{Event, Endpoint, Steps, RunsOver, heard, played, asked, begun_at, restarted_by_call, timed}
 use Rattle.endpoint.specs.Tally.{tally, media_in, repairs_in, held_in, restarts_in, control_in, refused_as, refused_else, overrun_in, abandoned_in, played_in, gaps_in, asks_in, places_in}
-
-pair : {A B : Type 0} {a b : A} {c d : B} → a ≡ b → c ≡ d → ◌≡◌ {A = A × B} (a, c) (b, d)
-pair p q = cc
-
-counted_once : (count total many sum : ℕ) → count ≡ as_count total → sum ≡ many + total → more count many ≡ as_count sum
-counted_once count total many sum = omega arith
-
--- an event adds to one count what it says
-adds : (f : Event → ℕ) (event : Event) (before : List Event) → more (as_count (sum_by f before)) (f event) ≡ as_count (sum_by f (event ∷ before))
-adds f event before = counted_once _ (sum_by f before) (f event) _ refl (sum_by-cons f event before)
+use Rattle.endpoint.proofs.Adding.{pair, adds}
 
 module _ (octets : List ℕ) (now : ℕ) (before : List Event) where
   -- a refusal that has no count of its own

@@ -7,5 +7,6 @@ pub mod Probation
 pub mod ReceiveCounts
 pub mod Receiving
 pub mod SendCounts
+pub mod SendTally
 pub mod Sending
 pub mod Tally

@@ -1,15 +1,22 @@
-//! Laws on what a receiving endpoint is over all its calls. These functions compute nothing: their contracts are the laws.
+//! Laws on what an endpoint is over all its calls. These functions compute nothing: their contracts are the laws.
 ghost use Rattle.std.specs.Prelude.{◌≡◌, ℕ, List};
 ghost use Rattle.receiver.specs.Config.{Config};
 ghost use Rattle.endpoint.specs.declared.probation.Probation.{Probation};
 ghost use Rattle.endpoint.specs.Events.{Event, Endpoint, RunsOver};
 ghost use Rattle.endpoint.specs.Tally.{tally};
 ghost use Rattle.endpoint.specs.Ledger.{Reached, ledger};
+ghost use Rattle.endpoint.specs.declared.send_counts.SendCounts.{SendCounts};
+ghost use Rattle.endpoint.specs.SendTally as sending;
 
-/// The counts of an endpoint are exact.
+/// The counts of a receiving endpoint are exact.
 pub fn counts_are_exact()
     // Whatever was called, each is the number of the answers that it counts, or the sum of what they say.
     ensures { (c : Config) (capacity : ℕ) (p : Probation) (events : List Event) (e : Endpoint) → RunsOver c capacity p events e → e.counts ≡ tally events }
+{}
+
+/// So are those of a sending endpoint.
+pub fn sending_counts_are_exact()
+    ensures { (events : List sending.Event) (counts : SendCounts) → sending.RunsOver events counts → counts ≡ sending.tally events }
 {}
 
 /// What an endpoint believes is all that its receiver knows.

@@ -18,7 +18,7 @@ mod told;
 
 pub use demultiplex::is_control;
 pub use heard::{Heard, Restart};
-pub use laws::{core_has_what_is_believed, counts_are_exact};
+pub use laws::{core_has_what_is_believed, counts_are_exact, sending_counts_are_exact};
 pub use padding::without_padding;
 pub use probation::Probation;
 pub use receive_counts::ReceiveCounts;
