@@ -1,5 +1,5 @@
 //! A receiving endpoint at jumps of the sequence number (RFC 3550, appendix A.1), packets that are all padding, and RTCP.
-use crate::ends::{config, media};
+use crate::ends::{config, media, repair};
 use endpoint::*;
 use receiver::ReceiveFault;
 use std::alloc::Global;
@@ -94,5 +94,27 @@ fn what_is_no_media(rt: HostRuntime) -> Result<(), Fail> {
     ];
     assert_eq!(rt; told, [b't', b'c', b'x', b't']);
     assert_eq!(rt; endpoint.core().missing(), 0);
+    Ok(())
+}
+
+/// Between two packets that jumped comes what is no media of the session: another stream's packet, a retransmission, RTCP, and what
+/// is cut. The two are still in sequence. Behind media that is believed they are not.
+#[test]
+fn what_leaves_what_is_held_back(rt: HostRuntime) -> Result<(), Fail> {
+    let mut endpoint = endpoint(rt.alloc())?;
+    let foreign = [0x80, 96, 0, 9, 0, 0, 0, 0, 0x99, 0x99, 0x99, 0x99];
+    let told = [
+        letter(endpoint.on_datagram(media(1, 0).as_slice(), 0)),
+        letter(endpoint.on_datagram(media(3, 0).as_slice(), 0)),
+        letter(endpoint.on_datagram(media(20000, 0).as_slice(), 0)),
+        letter(endpoint.on_datagram(media(4, 0).as_slice(), 0)),
+        letter(endpoint.on_datagram(media(20001, 0).as_slice(), 0)),
+        letter(endpoint.on_datagram(foreign.as_slice(), 0)),
+        letter(endpoint.on_datagram(repair(2, 0).as_slice(), 0)),
+        letter(endpoint.on_datagram(b"\x80\xc8\x00\x01\x11\x11\x11\x11", 0)),
+        letter(endpoint.on_datagram(b"\x80\x60\x00", 0)),
+        letter(endpoint.on_datagram(media(20002, 0).as_slice(), 0)),
+    ];
+    assert_eq!(rt; told, *b"tththxpcxr");
     Ok(())
 }

@@ -142,6 +142,7 @@ impl<W: Window> ReceivingEndpoint<W> {
     /// [`Receiver::pass`] of what [`core`](ReceivingEndpoint::core) lent.
     pub fn pass(&mut self, now: u64)
         ensures passes { self.new.core ≡ receiver_passed (play_of self.old.core.config.patience now self.old.core.span) self.old.core }
+        ensures plays { PlaysAny self.old.core.config.patience (state_of self.old.core) now (play_of self.old.core.config.patience now self.old.core.span) (state_of self.new.core) }
         ensures stays { Stays self.old.core self.new.core }
         ensures counts { self.new.counts ≡ count_played (play_of self.old.core.config.patience now self.old.core.span) self.old.counts }
         ensures rest { self.new ≡ record self.old { core = self.new.core; counts = self.new.counts } }
