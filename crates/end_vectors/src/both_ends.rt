@@ -15,7 +15,7 @@ const FIRST: u64 = 130936;
 const RETRY: u64 = 20;
 
 /// A content that its index tells from the others.
-pub(crate) fn content(index: u32) -> Content {
+fn content(index: u32) -> Content {
     let mut payload = ArrayVec::new();
     payload.push((index % 251) as u8);
     Content {

@@ -3,40 +3,18 @@
 #![tactic(auto)]
 
 #[cfg(test)]
-mod as_receiver;
-#[cfg(test)]
 mod both_ends;
 #[cfg(test)]
 mod both_histories;
 #[cfg(test)]
 mod both_windows;
 #[cfg(test)]
-mod counting;
-#[cfg(test)]
-mod delays;
-#[cfg(test)]
-mod endpoints;
-#[cfg(test)]
-mod ends;
-#[cfg(test)]
-mod no_delay;
-#[cfg(test)]
-mod outages;
-#[cfg(test)]
 mod receivers;
-#[cfg(test)]
-mod restarts;
 #[cfg(test)]
 mod senders;
 #[cfg(test)]
-mod sharing;
+mod session;
 #[cfg(test)]
 mod slices;
-#[cfg(test)]
-mod tails;
-#[cfg(test)]
-mod times;
-#[cfg(test)]
-mod waking;
 #[cfg(test)]
 mod windows;

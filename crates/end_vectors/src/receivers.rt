@@ -2,7 +2,7 @@
 //! lie so far apart that a script of them would be a thousand lines.
 ghost use Rattle.std.specs.Prelude.{◌≡◌, ◌<◌, ◌≤◌, None};
 
-use crate::ends::session;
+use crate::session::session;
 use receiver::*;
 use rtpwire::ConfigFault;
 use std::alloc::Global;

@@ -1,5 +1,5 @@
 //! What a script can't say of a sender: its configurations, its laws, and a whole cycle of sequence numbers.
-use crate::ends::session;
+use crate::session::session;
 use arrayvec::ArrayVec;
 use rtpwire::Content;
 use sender::*;
@@ -62,7 +62,7 @@ fn the_number_of_no_place_left(rt: HostRuntime) {
 }
 
 /// Sends a content whose payload is aa, and tells whether it was sent.
-pub(crate) fn sends<H: History>(sender: &mut Sender<H>) -> bool {
+fn sends<H: History>(sender: &mut Sender<H>) -> bool {
     let mut payload = ArrayVec::new();
     payload.push(0xaa);
     let content = Content {

@@ -1,6 +1,6 @@
 //! Packets that both ends write to the front of slices: one that is an octet too short is refused, and what lies behind a
 //! packet stays.
-use crate::ends::session;
+use crate::session::session;
 use receiver::{Receiver, ReceiverConfig};
 use rtpwire::{Carried, TooShort, Words};
 use sender::{Sender, SenderConfig};

@@ -1,6 +1,5 @@
 -- A list from an index on, and then its beginning: what is read, replaced and added.
-use Rattle.std.proofs.Common.{◌≡◌, ℕ, zero, suc, ◌+◌, ◌-◌, ◌<◌, ◌≤◌, ◌++◌, Bool, true, false, cond, List, [], ◌∷◌, length, take, drop, slice_get, slice_set, nat_lt, Option, Some, None, IsSomeAnd, subst, ap, sym, ◌∙◌, refl, arith, ltb-true, ltb-false, length-drop, length-set, length-append, append-nil, append_assoc, take-append-drop}
-use Rattle.std.specs.Prelude.{if◌then◌else◌}
+use Rattle.std.proofs.Common.{◌≡◌, ℕ, zero, suc, ◌+◌, ◌-◌, ◌<◌, ◌≤◌, ◌++◌, List, [], ◌∷◌, length, take, drop, slice_get, slice_set, nat_lt, Option, Some, None, IsSomeAnd, subst, ap, sym, ◌∙◌, refl, arith, ltb-true, ltb-false, length-drop, length-set, length-append, append-nil, append_assoc}
 use Rattle.std.proofs.lemmas.Bool.{cond_both}
 use Rattle.std.proofs.lemmas.List.{drop_all, take_all}
 use Rattle.circular_buffer.specs.Buffer.{Buffer, buffer}

@@ -1,5 +1,5 @@
 -- A slot that is held comes, in two steps: a buffer is made where none is free, and then the last free one is filled.
-use Rattle.std.proofs.Common.{◌≡◌, ℕ, ◌+◌, ◌<◌, ◌≤◌, ◌++◌, List, [], ◌∷◌, length, slice_get, slice_set, Some, All, ap, sym, subst, ◌∙◌, refl, arith, length-append, length-set}
+use Rattle.std.proofs.Common.{◌≡◌, ℕ, ◌<◌, ◌≤◌, ◌++◌, List, [], ◌∷◌, length, slice_get, slice_set, Some, All, ap, sym, subst, ◌∙◌, refl, arith, length-append, length-set}
 use Rattle.std.proofs.lemmas.List.{length-map}
 use Rattle.circular_buffer.specs.Buffer.{Buffer, buffer}
 use Rattle.rtpwire.specs.declared.content.Content.{Content}

@@ -1,13 +1,12 @@
 -- The least moment at which a slot is due: how a loop meets it, and what it says of places.
-use Rattle.std.proofs.Common.{◌≡◌, ℕ, zero, suc, ◌+◌, ◌-◌, ◌^◌, ◌<◌, ◌≤◌, ◌||◌, List, [], ◌∷◌, length, slice_get, Bool, true, false, Option, Some, None, ap, sym, ◌∙◌, refl, arith, ⊎_elim}
+use Rattle.std.proofs.Common.{◌≡◌, ℕ, zero, suc, ◌+◌, ◌-◌, ◌^◌, ◌<◌, ◌≤◌, ◌||◌, List, [], length, slice_get, Bool, true, false, Option, Some, None, ap, sym, ◌∙◌, refl, arith, ⊎_elim}
 use Rattle.std.specs.Option.{ForNone}
 use Rattle.std.proofs.lemmas.Bool.{cases_eq, cases_Bool, or_parts, or_from}
 use Rattle.std.proofs.Math.Bool.{or-false}
 use Rattle.stores.proofs.Passing.{passing, passing_yes, passing_no, passing_none}
-use Rattle.std.specs.List.{filter, range_with_len}
 use Rattle.stores.specs.declared.slot.Slot.{Slot}
 use Rattle.stores.specs.ByPlace.{slot_from}
-use Rattle.stores.specs.Asking.{is_due, due_places, has_come, any_below, IsNextDue}
+use Rattle.stores.specs.Asking.{is_due, has_come, any_below, IsNextDue}
 use Rattle.stores.proofs.SlotPlaces.{slot_from_index}
 
 -- one number more

@@ -136,6 +136,9 @@ impl Window for RingWindow {
     fn due_into(&self, due: &mut ArrayVec<Place, LONGEST_ASK>, now: u64, rule: AskRule) {
         match self.cursor {
             None => due.clear(),
+            Some(cursor) if self.missing.count() > self.slots.len() / 2 => {
+                due_of_all(due, cursor, &self.slots, now, rule);
+            }
             Some(cursor) => due_among(due, cursor, &self.slots, &self.missing, now, rule),
         }
     }
@@ -188,6 +191,9 @@ fn add_missing(slots: &mut Slots, missing: &mut Bits, count: u64, now: u64)
     ensures words { length missing.new.words.items ≡ length missing.old.words.items }
     ensures index { IsIndex missing.new.words.items missing.new.front slots.new.items }
 {
+    if count == 0 {
+        return;
+    }
     missing.set_range(slots.len(), count as usize);
     'added: for _ in 0..count {
         slots.append_missing(now);
@@ -218,6 +224,28 @@ fn due_among(
             due.push(Place::new(first + next as u64).unwrap());
         }
         index = next + 1;
+    }
+}
+
+/// The same by a walk over every slot. Where most are missing that takes less than to look for each among the bits.
+fn due_of_all(
+    due: &mut ArrayVec<Place, LONGEST_ASK>,
+    first: u64,
+    slots: &Slots,
+    now: u64,
+    rule: AskRule,
+)
+    requires { first + length slots.now.items ≤ 2 ^ 48 }
+    ensures { due.new.items ≡ take longest_ask (filter (λ q. is_due now rule.delay rule.retry rule.asks (slot_from first slots.now.items q)) (range_with_len first (length slots.now.items))) }
+{
+    due.clear();
+    for index in 0..slots.len() {
+        if due.is_full() {
+            return;
+        }
+        if slots.get(index).unwrap().is_due(now, rule) {
+            due.push(Place::new(first + index as u64).unwrap());
+        }
     }
 }
 

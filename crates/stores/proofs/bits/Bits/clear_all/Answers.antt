@@ -1,4 +1,4 @@
-use Rattle.std.proofs.Common.{length, ap, sym, ◌∙◌, rules}
+use Rattle.std.proofs.Common.{length, ap, sym, ◌∙◌}
 use Rattle.stores.specs.Bits.{size_of}
 use Rattle.stores.proofs.BitCounts.{size_of_zeros}
 use Rattle.stores.proofs.bits.Bits.clear_all.Goals as goal

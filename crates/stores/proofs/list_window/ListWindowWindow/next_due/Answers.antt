@@ -1,4 +1,4 @@
-use Rattle.std.proofs.Common.{◌≡◌, ℕ, ◌^◌, ◌<◌, List, length, slice_get, subst, sym}
+use Rattle.std.proofs.Common.{◌≡◌, ℕ, ◌^◌, ◌<◌, List, length, slice_get, subst}
 use Rattle.stores.specs.declared.slot.Slot.{Slot}
 use Rattle.stores.specs.Asking.{is_due, has_come, any_below}
 use Rattle.stores.proofs.NextDue.{next_of_slots}

@@ -1,8 +1,8 @@
-use Rattle.std.proofs.Common.{◌≡◌, ◌+◌, ◌<◌, ◌≤◌, IsSomeAnd, ◌^◌, length, ap, sym, subst, ◌∙◌, refl, arith}
+use Rattle.std.proofs.Common.{◌+◌, ◌<◌, ◌≤◌, IsSomeAnd, ◌^◌, length, ap, sym, subst, ◌∙◌, refl, arith}
 use Rattle.circular_buffer.specs.Buffer.{Buffer}
 use Rattle.stores.specs.declared.entry.HistoryEntry.{HistoryEntry}
 use Rattle.stores.specs.Bits.{IsSetOf}
-use Rattle.stores.specs.Past.{Past, IsRun, repeated, CanBeRepeated}
+use Rattle.stores.specs.Past.{IsRun, repeated, CanBeRepeated}
 use Rattle.stores.specs.PastByPlace.{is_marked}
 use Rattle.stores.proofs.Begun.{entry_changed}
 use Rattle.stores.proofs.Runs.{set_is_change, run_set, ends_set}

@@ -1,8 +1,8 @@
-use Rattle.std.proofs.Common.{◌≡◌, ◌+◌, ◌≤◌, ◌^◌, length, ap, sym, subst, ◌∙◌, refl}
+use Rattle.std.proofs.Common.{◌+◌, ◌≤◌, ◌^◌, length, ap, sym, subst, ◌∙◌, refl}
 use Rattle.circular_buffer.specs.Buffer.{Buffer}
 use Rattle.stores.specs.declared.entry.HistoryEntry.{HistoryEntry}
 use Rattle.stores.specs.Bits.{IsSetOf}
-use Rattle.stores.specs.Past.{Past, IsRun, marked}
+use Rattle.stores.specs.Past.{IsRun, marked}
 use Rattle.stores.specs.PastByPlace.{is_marked}
 use Rattle.stores.proofs.Begun.{entry_changed}
 use Rattle.stores.proofs.Runs.{set_is_change, run_set, ends_set}

@@ -1,4 +1,4 @@
-use Rattle.std.proofs.Common.{◌+◌, ◌-◌, ◌++◌, [], ◌∷◌, length, drop, ap, sym, ◌∙◌, subst, refl, arith, length-drop, length-append}
+use Rattle.std.proofs.Common.{◌+◌, ◌-◌, [], ◌∷◌, length, drop, ap, sym, ◌∙◌, subst, refl, arith, length-append}
 use Rattle.circular_buffer.specs.Buffer.{Buffer}
 use Rattle.stores.specs.declared.entry.HistoryEntry.{HistoryEntry}
 use Rattle.stores.specs.Past.{fresh}

@@ -1,8 +1,9 @@
 //! One session's ends, its packets, and the draws of a network: what the rows of losses, restarts and times begin with.
 ghost use Rattle.std.specs.Prelude.{◌<◌, ◌≤◌};
 
+use arrayvec::ArrayVec;
 use receiver::{Receiver, ReceiverConfig};
-use rtpwire::Session;
+use rtpwire::{Content, Session};
 use sender::{Sender, SenderConfig};
 use std::alloc::Global;
 use std::test::Fail;
@@ -52,6 +53,19 @@ pub(crate) fn sender(alloc: Global, first: u16) -> Result<Sender<RingHistory>, F
         return Err(Fail::from("good limits and ample memory"));
     };
     Ok(Sender::new(config, history))
+}
+
+/// A content that its index tells from the others.
+pub(crate) fn content(index: u32) -> Content {
+    let mut payload = ArrayVec::new();
+    payload.push((index % 251) as u8);
+    Content {
+        payload,
+        timestamp: index,
+        marker: index % 2 == 0,
+        sources: ArrayVec::new(),
+        extension: None,
+    }
 }
 
 /// A media packet with this number and timestamp, and no payload.

@@ -1,5 +1,5 @@
 //! Feedback that several senders share, reporters that are not known, and the last packet of a sender that falls silent.
-use crate::senders::sends;
+use crate::ends::content;
 use rtpwire::Session;
 use sender::*;
 use std::alloc::Global;
@@ -23,8 +23,8 @@ fn sent(alloc: Global, config: SenderConfig) -> Result<Sender<RingHistory>, Fail
         return Err(Fail::from("memory is ample"));
     };
     let mut sender = Sender::new(config, history);
-    for _ in 0..3 {
-        if !sends(&mut sender) {
+    for index in 0..3 {
+        if sender.send(content(index), 0).is_err() {
             return Err(Fail::from("a send"));
         }
     }

@@ -1,7 +1,6 @@
 //! Losses at the two ends of a stream: the first packets, whose number was signalled, and the last ones before a sender falls
 //! silent. No packet from below shows the first that they are missing, and none from above the last.
-use crate::both_ends::content;
-use crate::ends::{config, named, receiver, sender};
+use crate::ends::{config, content, named, receiver, sender};
 use receiver::{Played, Receiver};
 use sender::Sender;
 use std::alloc::Global;
