@@ -7,8 +7,8 @@
 # ARCHIVE and INCLUDE install another build, an archive with the folder of its headers, in the place of `make lib`.
 PAYLOAD ?= 1460
 PREFIX ?= /usr/local
-VERSION = 0.9.0
-SONAME = libgozdrit.so.0
+VERSION = 1.0.0
+SONAME = libgozdrit.so.1
 SHARED = libgozdrit.so.$(VERSION)
 
 BUILD ?= out/$(PAYLOAD)
@@ -24,7 +24,7 @@ HEADERS = $(PREFIX)/include
 PKGCONFIG = $(LIBDIR)/pkgconfig
 MAN = $(PREFIX)/share/man
 DOC = $(PREFIX)/share/doc/gozdrit
-PAGES = LIBRARY PROTOCOL MODEL CLAIMS DECISIONS SCRIPT
+PAGES = LIBRARY PROTOCOL MODEL CLAIMS DECISIONS COSTS SCRIPT
 
 lib: $(BUILD)/libgozdrit.a $(BUILD)/$(SHARED)
 
@@ -35,7 +35,7 @@ $(TREE)/crates/gozdrit/out/libgozdrit.a:
 # What the header declares, a name a line.
 $(BUILD)/exports: $(ARCHIVE)
 	mkdir -p $(BUILD)
-	sed -n 's/^[a-z].*\b\(gozdrit_[a-z_]*\)(.*/\1/p' $(INCLUDE)/gozdrit.h | sort -u >$@
+	sed -n 's/^u*int32_t \(gozdrit_[a-z_]*\)(.*/\1/p' $(INCLUDE)/gozdrit.h | sort -u >$@
 
 # One object of the library and of the kit's heap functions, in which no other names than those are to be linked with.
 $(BUILD)/gozdrit.o: $(ARCHIVE) $(BUILD)/exports

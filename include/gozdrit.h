@@ -1,37 +1,42 @@
 /*
  * Gozdrit for C: both ends of an RTP session (RFC 3550) that repairs losses by generic NACK (RFC 4585) and
  * retransmission with SSRC multiplexing (RFC 4588). The library makes datagrams and takes them; sockets, clocks and
- * threads are the caller's. C99 and C++. docs/LIBRARY.md tells how to build and link it, and has the loop of each end.
+ * threads are the caller's. C99 and C++. docs/LIBRARY.md tells how to build and link it, and follows a stream.
  *
- * Words
+ * Words, with those of the standards and of this project's other documents
  *
- *   place    an extended sequence number (RFC 3550, appendix A.1): 48 bits that never wrap, whose lowest 16 a packet
- *            carries. An end begins at 65536 + the first packet's sequence number. The places of the two ends differ by
- *            a multiple of 65536.
- *   moment   a time in milliseconds that the caller hands in as `now`, of one clock for one receiver. Moments need not
- *            rise: at one before its beginning, no span of time has passed.
- *   missing  a place is missing from the packet on that shows that it was passed over, and until it is taken, given up
- *            or overrun.
- *   number   of a refusal: docs/PROTOCOL.md has them all.
+ *   sequence        an extended sequence number (RFC 3550, appendix A.1), a "place" in the documents: 48 bits that never
+ *                   wrap, whose lowest 16 a packet carries. An end begins at 65536 + the first packet's sequence number.
+ *                   The extended numbers of the two ends differ by a multiple of 65536.
+ *   retransmission  a packet of the second stream, with the original sequence number in front (RFC 4588, section 4): a
+ *                   "repair". `rtx` in names, as in SDP.
+ *   NACK            a generic NACK (RFC 4585, section 6.2.1): an "ask".
+ *   reorder delay   how long a missing packet is waited for before the first NACK for it: `delay`.
+ *   patience        how long a missing packet is waited for at all, from its notice: what a jitter buffer calls its latency.
+ *   missing         a packet is missing from the one on that shows that it was passed over, and until it is taken, given up
+ *                   or overrun.
+ *   moment          a time in milliseconds that the caller hands in as `now`, of one clock for one receiver. Moments need
+ *                   not rise: at one before its beginning, no span of time has passed.
  *
  * Answers
  *
- *   Each call answers 0 (GOZDRIT_OK) or the number of the first check that it fails. The checks of how it was called
- *   come first, in this order; then those that stand at the call.
+ *   Each call answers 0 (GOZDRIT_OK), or the number of the first check that it fails. Only what the caller did wrong, or
+ *   what leaves the call nothing to do, is such a number: what the network did is told in the struct that the call fills.
+ *   These checks come first, in this order; then those that stand at the call.
  *
  *     76  GOZDRIT_NULL       a pointer is null: see below
  *     71  GOZDRIT_NO_END     the handle holds no end; for both `new`:
  *     72  GOZDRIT_HELD       the handle holds an end already
  *     74  GOZDRIT_TOO_LARGE  a length or a count is above its largest
- *     75  GOZDRIT_NO_ROOM    a buffer has less room than the call may need, however much it needs this time
+ *     75  GOZDRIT_NO_ROOM    a buffer has less room than this datagram or payload needs
  *
- *   After any refusal the end is as it was, and so is each struct and each buffer that was lent. After 0 a buffer is
- *   as it was behind what was written at its front.
+ *   After any such answer but 0 the end is as it was, and so is each struct and each buffer that was lent. After 0 a
+ *   buffer is as it was behind what was written at its front. gozdrit_refusal_name gives each number's name.
  *
  * Null
  *
- *   A pointer may be null where the `length` or `room` beside it is 0, since no octet stands behind it. (A room of 0 fails
- *   the check for 75.) Each other null pointer is refused with 76.
+ *   A pointer may be null where the `length` or `room` beside it is 0, since no octet stands behind it. Each other null
+ *   pointer is refused with 76.
  *
  * Memory
  *
@@ -43,7 +48,7 @@
  *
  *   - A handle is zeroed before its first call ( = {0} ). From then on its fields are the library's, and it is not
  *     copied and used twice.
- *   - One call at a time on a handle, each on the thread that made its end. Two handles are independent of each other.
+ *   - One call at a time on a handle, from whatever thread. Two handles are independent of each other.
  *   - A pointer that is not null is aligned for its type and valid for all that it stands for: one struct or number, or
  *     as many octets as the `length` or `room` beside it says. What is read through it was written before.
  *   - No two of a call's pointers overlap, and nobody else reads or writes what they point to while the call runs. What
@@ -54,7 +59,6 @@
 #ifndef GOZDRIT_H
 #define GOZDRIT_H
 
-#include <stdbool.h>
 #include <stddef.h>
 #include <stdint.h>
 
@@ -63,6 +67,18 @@
 #ifdef __cplusplus
 extern "C" {
 #endif
+
+/* ---- the version: that of this header, and that of the library that is linked */
+
+#define GOZDRIT_VERSION_MAJOR 1
+#define GOZDRIT_VERSION_MINOR 0
+#define GOZDRIT_VERSION_PATCH 0
+#define GOZDRIT_VERSION (GOZDRIT_VERSION_MAJOR * 10000 + GOZDRIT_VERSION_MINOR * 100 + GOZDRIT_VERSION_PATCH)
+
+uint32_t gozdrit_version(void);
+
+/* GOZDRIT_MAX_PAYLOAD of the library. A program checks that it is the header's. */
+uint32_t gozdrit_max_payload(void);
 
 /* ---- the numbers of refusals */
 
@@ -84,26 +100,27 @@ extern "C" {
 #define GOZDRIT_NOT_NACK 15         /* none of those is a generic NACK */
 #define GOZDRIT_FEEDBACK_LENGTH 16  /* a packet's length passes the end */
 #define GOZDRIT_FEEDBACK_EMPTY 17   /* a NACK names nothing */
-#define GOZDRIT_WRONG_MEDIA 18      /* a NACK is for another source than the session's media */
-#define GOZDRIT_WRONG_REPORTER 19   /* a NACK is from another SSRC than the session's receiver */
+#define GOZDRIT_WRONG_MEDIA 18      /* no NACK is of this session, and the first is for another source than its media */
+#define GOZDRIT_WRONG_REPORTER 19   /* the same, and the first is from another SSRC than its receiver */
 
-/* 31 to 39: a receiver does not take a packet */
+/* 31 to 40: a receiver does not take a packet, or does not begin */
 #define GOZDRIT_UNKNOWN_SOURCE 31 /* the SSRC is of neither stream */
 #define GOZDRIT_UNKNOWN_TYPE 32   /* the payload type is not that of the SSRC's stream */
-#define GOZDRIT_NOT_STARTED 33    /* a retransmission came before any media */
-#define GOZDRIT_FAR 34            /* the sequence number is 16384 or more from the highest place, on both sides */
-#define GOZDRIT_LATE 35           /* the place was played, given up or overrun, or lies before the first one */
-#define GOZDRIT_DUPLICATE 36      /* the place is held already */
+#define GOZDRIT_NOT_STARTED 33    /* a retransmission came before any media, and the receiver did not begin */
+#define GOZDRIT_FAR 34            /* the sequence number is 16384 or more from the highest one, on both sides */
+#define GOZDRIT_LATE 35           /* the packet was played, given up or overrun, or lies before the first one */
+#define GOZDRIT_DUPLICATE 36      /* the packet is held already */
 #define GOZDRIT_TOO_LONG 37       /* a payload or an extension is above its largest */
-#define GOZDRIT_UNASKED 38        /* while the SSRC is learnt: a retransmission of a place that was not asked for */
-#define GOZDRIT_PAST_END 39       /* the place would lie below 0, or not below 2^48 */
+#define GOZDRIT_UNASKED 38        /* while the SSRC is learnt: a retransmission of a packet that no NACK named */
+#define GOZDRIT_PAST_END 39       /* the extended sequence number would lie below 0, or not below 2^48 */
+#define GOZDRIT_HAS_STARTED 40    /* a packet was taken already, or the receiver began before */
 
 /* 44, 45: a sender does not send */
 #define GOZDRIT_PADDED_EMPTY 44 /* padding is wanted, and the payload is empty */
-#define GOZDRIT_EXHAUSTED 45    /* the next place would be 2^48 */
+#define GOZDRIT_EXHAUSTED 45    /* the next extended sequence number would be 2^48 */
 
 /* 51 to 53: a configuration */
-#define GOZDRIT_BAD_TYPE 51  /* a payload type is not in 96 to 127, or both are equal */
+#define GOZDRIT_BAD_TYPE 51  /* a payload type is out of its bounds, or both are equal */
 #define GOZDRIT_SAME_SSRC 52 /* two of the three SSRCs are equal */
 #define GOZDRIT_BAD_LIMIT 53 /* another number is out of its bounds */
 
@@ -112,56 +129,116 @@ extern "C" {
 #define GOZDRIT_HELD 72          /* the handle holds an end already */
 #define GOZDRIT_OUT_OF_MEMORY 73 /* malloc gave none */
 #define GOZDRIT_TOO_LARGE 74     /* a length or a count is above its largest */
-#define GOZDRIT_NO_ROOM 75       /* a buffer has less room than the call may need */
+#define GOZDRIT_NO_ROOM 75       /* a buffer has less room than this datagram or payload needs */
 #define GOZDRIT_NULL 76          /* a pointer is null */
+
+/* The name of each number above, as docs/PROTOCOL.md has it ("UnknownSource" for 31), "OK" for 0, and "" for any other. */
+static inline const char *gozdrit_refusal_name(int32_t number) {
+    switch (number) {
+    case GOZDRIT_OK: return "OK";
+    case GOZDRIT_RTP_SHORT: return "Short";
+    case GOZDRIT_RTP_VERSION: return "Version";
+    case GOZDRIT_RTP_CSRC_LIST: return "CsrcList";
+    case GOZDRIT_RTP_EXTENSION: return "Extension";
+    case GOZDRIT_RTP_PADDING: return "Padding";
+    case GOZDRIT_NO_OSN: return "NoOsn";
+    case GOZDRIT_FEEDBACK_SHORT: return "Short";
+    case GOZDRIT_FEEDBACK_VERSION: return "Version";
+    case GOZDRIT_FEEDBACK_PADDED: return "Padded";
+    case GOZDRIT_NOT_RTPFB: return "NotRtpfb";
+    case GOZDRIT_NOT_NACK: return "NotNack";
+    case GOZDRIT_FEEDBACK_LENGTH: return "Length";
+    case GOZDRIT_FEEDBACK_EMPTY: return "Empty";
+    case GOZDRIT_WRONG_MEDIA: return "WrongMedia";
+    case GOZDRIT_WRONG_REPORTER: return "WrongReporter";
+    case GOZDRIT_UNKNOWN_SOURCE: return "UnknownSource";
+    case GOZDRIT_UNKNOWN_TYPE: return "UnknownType";
+    case GOZDRIT_NOT_STARTED: return "NotStarted";
+    case GOZDRIT_FAR: return "Far";
+    case GOZDRIT_LATE: return "Late";
+    case GOZDRIT_DUPLICATE: return "Duplicate";
+    case GOZDRIT_TOO_LONG: return "TooLong";
+    case GOZDRIT_UNASKED: return "Unasked";
+    case GOZDRIT_PAST_END: return "PastEnd";
+    case GOZDRIT_HAS_STARTED: return "HasStarted";
+    case GOZDRIT_PADDED_EMPTY: return "PaddedEmpty";
+    case GOZDRIT_EXHAUSTED: return "Exhausted";
+    case GOZDRIT_BAD_TYPE: return "BadType";
+    case GOZDRIT_SAME_SSRC: return "SameSsrc";
+    case GOZDRIT_BAD_LIMIT: return "BadLimit";
+    case GOZDRIT_NO_END: return "NoEnd";
+    case GOZDRIT_HELD: return "Held";
+    case GOZDRIT_OUT_OF_MEMORY: return "OutOfMemory";
+    case GOZDRIT_TOO_LARGE: return "TooLarge";
+    case GOZDRIT_NO_ROOM: return "NoRoom";
+    case GOZDRIT_NULL: return "Null";
+    default: return "";
+    }
+}
 
 /* ---- limits */
 
 /* GOZDRIT_MAX_PAYLOAD, GOZDRIT_MAX_SOURCES, GOZDRIT_MAX_WORDS and GOZDRIT_MAX_DATAGRAM are those that the library was
  * built with: gozdrit_limits.h. */
 #define GOZDRIT_MAX_STORE 8192 /* packets that an end keeps */
-#define GOZDRIT_MAX_NAME 16    /* the room of gozdrit_refusal_name */
+#define GOZDRIT_MAX_NACK 268   /* octets of a datagram that gozdrit_nack makes */
+#define GOZDRIT_MOST 1088      /* packets that one NACK can name at most */
 
 /* ---- what is passed */
 
+/* What is true or false: 0 is false, and all else true. The library writes 0 or 1. */
+typedef uint8_t gozdrit_bool;
+
 /* A handle of one sender, or of none. Zero it first ( = {0} ), and leave its fields to the library. */
-struct gozdrit_sending; /* never defined */
 typedef struct gozdrit_sender {
-    struct gozdrit_sending *at;
-    bool held;
+    void *at;
+    gozdrit_bool held;
 } gozdrit_sender;
 
 /* The same of one receiver. */
-struct gozdrit_receiving; /* never defined */
 typedef struct gozdrit_receiver {
-    struct gozdrit_receiving *at;
-    bool held;
+    void *at;
+    gozdrit_bool held;
 } gozdrit_receiver;
 
-/* The streams of a session (RFC 4588, section 5.3): three SSRCs that differ, and two payload types of 96 to 127. */
+/* The streams of a session (RFC 4588, section 5.3): three SSRCs that differ, and two payload types that do. */
 typedef struct gozdrit_session {
     uint32_t media_ssrc;    /* of the media */
-    uint32_t repair_ssrc;   /* of the retransmissions */
+    uint32_t rtx_ssrc;      /* of the retransmissions */
     uint32_t receiver_ssrc; /* of the receiver's feedback */
-    uint8_t media_type;
-    uint8_t repair_type;
+    uint8_t media_type;     /* 96 to 127 */
+    uint8_t rtx_type;       /* 96 to 127 */
+    gozdrit_bool any_media_type; /* then media_type may be a static type too, as 33: 0 to 127 but 64 to 95 (RFC 5761) */
 } gozdrit_session;
 
+/* Make a configuration by gozdrit_sender_defaults, and set what differs: fields that a later version has are set then. */
 typedef struct gozdrit_sender_config {
     gozdrit_session session;
-    uint32_t history;      /* packets that are kept: 1 to GOZDRIT_MAX_STORE */
-    uint16_t first;        /* the first packet's sequence number */
-    uint16_t repair_first; /* the first retransmission's */
-    uint8_t repeats;       /* how often one packet is retransmitted at most: 1 to 255 */
+    uint32_t history;          /* packets that are kept: 1 to GOZDRIT_MAX_STORE */
+    uint16_t first;            /* the first packet's sequence number */
+    uint16_t rtx_first;        /* the first retransmission's */
+    uint8_t repeats;           /* how often one packet is retransmitted at most: 1 to 255 */
+    gozdrit_bool any_reporter; /* NACKs from any SSRC are heard, not the session's receiver's alone */
+    uint64_t reserved;         /* 0 */
 } gozdrit_sender_config;
 
+/* The same by gozdrit_receiver_defaults. */
 typedef struct gozdrit_receiver_config {
     gozdrit_session session;
-    uint64_t patience; /* milliseconds from the notice of a missing place until it is given up; 0: at once */
-    uint64_t retry;    /* milliseconds from one ask for a place to the next, from 1 on */
-    uint32_t window;   /* places that are kept: 1 to GOZDRIT_MAX_STORE */
-    uint8_t asks;      /* how often one place is asked for at most: 1 to 255 */
-    uint8_t learns;    /* 0: retransmissions come under session.repair_ssrc; else their SSRC is learnt */
+    uint64_t patience;     /* milliseconds from the notice of a missing packet until it is given up; 0: at its notice */
+    uint64_t retry;        /* milliseconds from one NACK for a packet to the next, from 1 on */
+    uint32_t window;       /* packets that are kept: 1 to GOZDRIT_MAX_STORE */
+    uint8_t nacks;         /* how often a NACK names one packet at most: 1 to 255 */
+    gozdrit_bool learns;   /* the SSRC of the retransmissions is learnt; rtx_ssrc is then not used */
+    /* When a media packet is believed whose sequence number has jumped (RFC 3550, appendix A.1): one that lies
+     * max_dropout or more ahead of the highest one, or max_misorder or more behind it, is held back until so many in
+     * sequence came, and then the stream restarts with them. 0 is the usual number: 3000, 100, 2 and 256. */
+    uint16_t max_dropout;
+    uint16_t max_misorder;
+    uint16_t min_ahead;
+    uint16_t min_behind;
+    uint64_t delay;        /* the reorder delay: milliseconds from the notice of a missing packet to the first NACK; 0: none */
+    uint64_t reserved;     /* 0 */
 } gozdrit_receiver_config;
 
 /* What a packet carries beside its payload (RFC 3550, sections 5.1 and 5.3.1). */
@@ -172,54 +249,136 @@ typedef struct gozdrit_header {
     uint16_t profile;                      /* of the header extension: the 16 bits that the profile defines */
     uint8_t source_count;                  /* 0 to GOZDRIT_MAX_SOURCES */
     uint8_t word_count;                    /* 0 to GOZDRIT_MAX_WORDS */
-    uint8_t has_extension;                 /* 0: none; profile, words and word_count are not looked at */
-    uint8_t marker;                        /* 0: the marker bit is not set; else it is */
+    gozdrit_bool has_extension;            /* else profile, words and word_count are not looked at */
+    gozdrit_bool marker;                   /* the marker bit */
 } gozdrit_header;
 
 /* A datagram that was made. */
 typedef struct gozdrit_sent {
-    uint64_t place; /* of the packet, also where it is retransmitted */
-    size_t length;  /* of the datagram, which stands at the front of `out` */
+    uint64_t sequence; /* of the packet, also where it is retransmitted */
+    size_t length;     /* of the datagram, which stands at the front of `out` */
 } gozdrit_sent;
 
-/* A packet that was taken. */
-typedef struct gozdrit_taken {
-    uint64_t place;
-    uint64_t overrun; /* how many places the window dropped for good to make room for it; mostly 0 */
-} gozdrit_taken;
+/* What a datagram was to an end: gozdrit_heard.kind and gozdrit_told.kind. */
+#define GOZDRIT_NOT_TAKEN 0      /* it was not taken, for the reason `refusal` */
+#define GOZDRIT_MEDIA 1          /* a media packet that a receiver took; RTP, which a sender passes over */
+#define GOZDRIT_RETRANSMISSION 2 /* a retransmission that was taken */
+#define GOZDRIT_RTCP 3           /* RTCP, which a receiver passes over */
+#define GOZDRIT_HELD_BACK 4      /* a media packet whose number has jumped: the `held`-th in sequence that is held back */
+#define GOZDRIT_RESTARTED 5      /* the last one that was wanted in sequence: the stream restarted with `held` of them */
+#define GOZDRIT_REPORTS 6        /* RTCP without a generic NACK, which a sender passes over */
+#define GOZDRIT_FEEDBACK 7       /* RTCP with a generic NACK of this session */
+
+/* What a datagram was to a receiver. What its kind has no use for is 0. */
+typedef struct gozdrit_heard {
+    uint64_t sequence;  /* MEDIA, RETRANSMISSION, RESTARTED: of the packet that was taken */
+    uint64_t overrun;   /* the same: how many packets the window dropped for good to make room for this one; mostly 0 */
+    uint64_t abandoned; /* RESTARTED: how many packets of the stream before were left that were neither played nor given up */
+    uint32_t held;      /* HELD_BACK, RESTARTED: how many in sequence */
+    uint8_t kind;
+    uint8_t refusal; /* NOT_TAKEN: the reason, 1 to 6 or 31 to 39; GOZDRIT_LATE and GOZDRIT_DUPLICATE are part of any session */
+} gozdrit_heard;
+
+/* What a datagram was to a sender. What its kind has no use for is 0. */
+typedef struct gozdrit_told {
+    uint32_t marked;    /* FEEDBACK: packets that are to be retransmitted, and were not before */
+    uint32_t nacks;     /* NACKs of this session */
+    uint32_t others;    /* NACKs for other media, or from other reporters, which were passed over */
+    uint32_t numbers;   /* sequence numbers that the session's NACKs name */
+    uint32_t unknown;   /* of these, the numbers that no packet of the history has */
+    uint32_t exhausted; /* of these, the numbers of packets that were retransmitted as often as they may be */
+    uint8_t kind;
+    uint8_t refusal; /* NOT_TAKEN: the reason, 11 to 13 or 16 to 19 */
+} gozdrit_told;
 
 /* What gozdrit_play did: gozdrit_played.kind */
 #define GOZDRIT_WAIT 0   /* nothing */
-#define GOZDRIT_PACKET 1 /* it played the next place */
-#define GOZDRIT_GAP 2    /* it gave the next place up */
+#define GOZDRIT_PACKET 1 /* it played the next packet */
+#define GOZDRIT_GAP 2    /* it gave the next packet up */
 
 typedef struct gozdrit_played {
-    uint64_t place;
+    uint64_t sequence;
     size_t length; /* of the payload */
     gozdrit_header header;
     uint8_t kind; /* GOZDRIT_WAIT, GOZDRIT_PACKET or GOZDRIT_GAP */
 } gozdrit_played;
 
-/* A place, if there is one: known is 1, or 0 where there is none. */
-typedef struct gozdrit_place {
-    uint64_t place;
-    uint8_t known;
-} gozdrit_place;
+/* An extended sequence number, an SSRC, and a moment, if there is one: `known` tells. */
+typedef struct gozdrit_sequence {
+    uint64_t sequence;
+    gozdrit_bool known;
+} gozdrit_sequence;
 
-/* An SSRC, if there is one. */
 typedef struct gozdrit_source {
     uint32_t ssrc;
-    uint8_t known;
+    gozdrit_bool known;
 } gozdrit_source;
 
+typedef struct gozdrit_moment {
+    uint64_t moment;
+    gozdrit_bool known;
+} gozdrit_moment;
+
+/* What a receiver counted since it was made: a restart starts no count anew, and each stays at 2^64 - 1 once it is there.
+ * Each datagram is in one of the first nine. */
+typedef struct gozdrit_receive_counts {
+    uint64_t media;           /* media packets that were taken as they came */
+    uint64_t retransmissions; /* that were taken */
+    uint64_t held_back;       /* media packets that were held back */
+    uint64_t restarts;        /* of the stream */
+    uint64_t rtcp;            /* datagrams */
+    uint64_t duplicate;       /* 36 */
+    uint64_t late;            /* 35 */
+    uint64_t far;             /* 34 */
+    uint64_t refused;         /* for another reason */
+    uint64_t overrun;         /* packets that the window dropped for good to make room, but for those of a run held back */
+    uint64_t abandoned;       /* packets that a restart left behind, neither played nor given up */
+    uint64_t played;
+    uint64_t gaps;            /* packets that were given up */
+    uint64_t nacks;           /* that were made */
+    uint64_t nacked;          /* packets that they named, each as often as it was */
+} gozdrit_receive_counts;
+
+/* The same of a sender. The first two are the packet and the octet count of a sender report (RFC 3550, section 6.4.1). */
+typedef struct gozdrit_send_counts {
+    uint64_t sent;            /* media packets */
+    uint64_t octets;          /* of their payloads, without headers and padding */
+    uint64_t retransmissions; /* that were made */
+    uint64_t nacks;           /* of this session */
+    uint64_t others;          /* NACKs for other media, or from other reporters, in datagrams with one of this session */
+    uint64_t numbers;         /* sequence numbers that the session's NACKs named, each as often as it was */
+    uint64_t unknown;         /* of these, the numbers that no packet of the history had */
+    uint64_t exhausted;       /* of these, the numbers of packets that were retransmitted as often as they may be */
+    uint64_t media;           /* RTP datagrams, which were passed over */
+    uint64_t reports;         /* RTCP datagrams without a generic NACK */
+    uint64_t refused;         /* RTCP datagrams */
+} gozdrit_send_counts;
+
+/* An RTP packet, and where its payload lies. */
+typedef struct gozdrit_packet {
+    size_t payload; /* where the payload begins, in octets from the packet's first one: gozdrit_rtp_read tells it */
+    size_t length;  /* of the payload: the same */
+    gozdrit_header header;
+    uint32_t ssrc;
+    uint16_t sequence; /* as the packet carries it */
+    uint8_t payload_type;
+    uint8_t padding; /* how many octets of padding there are, their count included; 0 for none */
+} gozdrit_packet;
+
 /* ---- the sending end */
+
+/*
+ * Fills a configuration: a history of 1024 packets, each retransmitted 4 times at most, and all else 0. The session is
+ * to be set, and both first sequence numbers, which are to be drawn at random (RFC 3550, section 5.1).
+ */
+int32_t gozdrit_sender_defaults(gozdrit_sender_config *config);
 
 /*
  * Makes a sender that sent nothing so far, and puts it into the handle. It takes the memory for `history` packets,
  * some 200 octets more than GOZDRIT_MAX_PAYLOAD each.
  *
  *   51, 52  the session, as gozdrit_session says
- *   53      history is not in 1 to GOZDRIT_MAX_STORE, or repeats is 0
+ *   53      history is not in 1 to GOZDRIT_MAX_STORE, repeats is 0, or reserved is not
  *   73      there is no memory for it
  */
 int32_t gozdrit_sender_new(const gozdrit_sender_config *config, gozdrit_sender *sender);
@@ -228,47 +387,60 @@ int32_t gozdrit_sender_new(const gozdrit_sender_config *config, gozdrit_sender *
 int32_t gozdrit_sender_free(gozdrit_sender *sender);
 
 /*
- * Sends a packet: gives it the next place, writes its datagram to the front of `out`, and keeps what it carries. A full
- * history drops its oldest packet for it. `length` is the payload's. `padding` is how many octets of padding the packet
- * gets, their count included, and 0 for none. The caller sends the sent->length octets of `out`, or loses them.
+ * Sends a packet: gives it the next sequence number, writes its datagram to the front of `out`, and keeps what it carries.
+ * A full history drops its oldest packet for it. `length` is the payload's. `padding` is how many octets of padding the
+ * packet gets, their count included, and 0 for none. The caller sends the sent->length octets of `out`, or loses them.
  *
  *   74  length is above GOZDRIT_MAX_PAYLOAD, header->source_count above GOZDRIT_MAX_SOURCES, or header->word_count
  *       above GOZDRIT_MAX_WORDS where header->has_extension is not 0
- *   75  room is below GOZDRIT_MAX_DATAGRAM
+ *   75  room is less than the packet has; GOZDRIT_MAX_DATAGRAM is enough for any
  *   44  padding is not 0, and length is
- *   45  there is no place left
+ *   45  there is no sequence number left
  */
 int32_t gozdrit_send(gozdrit_sender *sender, const gozdrit_header *header, const uint8_t *payload, size_t length,
                      uint8_t padding, gozdrit_sent *sent, uint8_t *out, size_t room);
 
 /*
- * Takes a datagram of feedback: one or more RTCP packets, of which the generic NACKs count and the others are skipped
- * (RFC 4585, section 6.2.1; RFC 5506). Each packet of the history whose sequence number a NACK names is from then on to
- * be retransmitted, unless that was done `repeats` times already. `marked` gets how many are to be retransmitted that
- * were not before. A number that no packet of the history has is passed over.
- *
- *   11 to 17  the octets are no such datagram with a NACK
- *   18, 19    a NACK is for another media SSRC, or else from another SSRC than the session's receiver
+ * Takes a datagram that came from the receiver's side, whatever it is, and tells what it was. In RTCP the generic NACKs of
+ * this session count, whatever stands beside them (RFC 3550, section 6.1; RFC 5506): each packet of the history that
+ * one names is from then on to be retransmitted, unless that was done `repeats` times already. Several senders may be
+ * handed one datagram, and each hears what is its own.
  */
-int32_t gozdrit_on_feedback(gozdrit_sender *sender, const uint8_t *octets, size_t length, uint32_t *marked);
+int32_t gozdrit_feedback(gozdrit_sender *sender, const uint8_t *octets, size_t length, gozdrit_told *told);
 
 /*
- * Writes the next retransmission to the front of `out` (RFC 4588, section 4): that of the least place that is to be
- * retransmitted. Where there is none, sent->length is 0, and sent->place and `out` are as they were. Call it until
+ * Writes the next retransmission to the front of `out` (RFC 4588, section 4): that of the least sequence number that is to
+ * be retransmitted. Where there is none, sent->length is 0, and sent->sequence and `out` are as they were. Call it until
  * then.
  *
- *   75  room is below GOZDRIT_MAX_DATAGRAM
+ *   75  room is less than the retransmission has; GOZDRIT_MAX_DATAGRAM is enough for any
  */
-int32_t gozdrit_next_repair(gozdrit_sender *sender, gozdrit_sent *sent, uint8_t *out, size_t room);
+int32_t gozdrit_retransmit(gozdrit_sender *sender, gozdrit_sent *sent, uint8_t *out, size_t room);
+
+/*
+ * For a sender that falls silent: its newest packet is to be retransmitted, as if a NACK had named it, so that the receiver
+ * notices all that it lacks below it. `marked` gets 1, or 0 where that was so already, where the packet was
+ * retransmitted as often as it may be, or where nothing was sent.
+ */
+int32_t gozdrit_mark_last(gozdrit_sender *sender, uint32_t *marked);
+
+/* What it counted. */
+int32_t gozdrit_sender_counts(const gozdrit_sender *sender, gozdrit_send_counts *counts);
 
 /* ---- the receiving end */
 
 /*
- * Makes a receiver that took nothing so far, and puts it into the handle. It takes the memory for `window` packets,
- * some 200 octets more than GOZDRIT_MAX_PAYLOAD each.
+ * Fills a configuration: a window of 512 packets, a patience of 200 ms, a reorder delay of 20 ms, NACKs 40 ms apart and 4 for
+ * one packet at most, the usual numbers of a jump, and all else 0. The session is to be set.
+ */
+int32_t gozdrit_receiver_defaults(gozdrit_receiver_config *config);
+
+/*
+ * Makes a receiver that took nothing so far, and puts it into the handle. It takes the memory for twice `window` packets,
+ * some 200 octets more than GOZDRIT_MAX_PAYLOAD each, of which it touches what follows the most packets that it held.
  *
  *   51, 52  the session, as gozdrit_session says
- *   53      window is not in 1 to GOZDRIT_MAX_STORE, or retry or asks is 0
+ *   53      window is not in 1 to GOZDRIT_MAX_STORE, retry or nacks is 0, or reserved is not
  *   73      there is no memory for it
  */
 int32_t gozdrit_receiver_new(const gozdrit_receiver_config *config, gozdrit_receiver *receiver);
@@ -277,12 +449,16 @@ int32_t gozdrit_receiver_new(const gozdrit_receiver_config *config, gozdrit_rece
 int32_t gozdrit_receiver_free(gozdrit_receiver *receiver);
 
 /*
- * Takes a datagram, of media or of a retransmission, and copies what it carries. The first media packet starts the
- * receiver: what lies before it is never missing. A packet that lies `window` places or more above the next one to
- * play drops the places that it leaves no room for: taken->overrun says how many.
+ * Takes a datagram that came from the sender's side, whatever it is, copies what a packet of its carries, and tells what it
+ * was. The first media packet starts the receiver: what lies before it is never missing, unless gozdrit_begin said so. A
+ * packet that lies `window` or more above the next one to play drops what it leaves no room for: heard->overrun.
  *
- * A receiver that learns takes as a retransmission what it asked for, under any SSRC but the media's and its own; the
- * SSRC of the first that it takes is the one of the retransmissions from then on.
+ * A packet that is all padding is taken as one with an empty payload.
+ *
+ * A receiver that learns takes as a retransmission what a NACK of its named, under any SSRC but the media's and its own;
+ * the SSRC of the first that it takes is the one of the retransmissions from then on, until the stream restarts.
+ *
+ * heard->refusal, where heard->kind is GOZDRIT_NOT_TAKEN, is the first of:
  *
  *   1 to 5  the octets are no RTP packet
  *   31      the SSRC is neither that of the media nor that of the retransmissions; where the latter is not learnt so
@@ -290,63 +466,144 @@ int32_t gozdrit_receiver_free(gozdrit_receiver *receiver);
  *   32      the payload type is not that of the SSRC's stream
  *   6       a retransmission without an original sequence number
  *   37      the payload has more than GOZDRIT_MAX_PAYLOAD octets, or the extension more than GOZDRIT_MAX_WORDS words
- *   33      a retransmission, before any media packet
- *   34, 39  the sequence number stands for no place near the highest one
- *   38      the SSRC is to be learnt, and the place is not one that is missing and was asked for
- *   35, 36  the place lies below the next one to play, or is held already
+ *   33      a retransmission, before any media packet and gozdrit_begin
+ *   34, 39  the sequence number stands for none near the highest one
+ *   38      the SSRC is to be learnt, and the packet is not one that is missing and that a NACK named
+ *   35, 36  the packet lies below the next one to play, or is held already
  */
-int32_t gozdrit_on_media(gozdrit_receiver *receiver, const uint8_t *octets, size_t length, uint64_t now,
-                         gozdrit_taken *taken);
+int32_t gozdrit_receive(gozdrit_receiver *receiver, const uint8_t *octets, size_t length, uint64_t now,
+                        gozdrit_heard *heard);
 
 /*
- * Plays the next place, gives it up, or waits. played->kind says which:
+ * Plays the next packet, gives it up, or waits. played->kind says which:
  *
- *   GOZDRIT_PACKET  it was held. Its place, the payload's length and the header stand in `played`, its payload at the
- *                   front of `payload`. has_extension and marker are 0 or 1. The header's arrays behind their counts
- *                   are as they were. Where has_extension is 0, word_count is too, and profile is as it was.
- *   GOZDRIT_GAP     it was missing, and its patience has passed. Its place stands in `played`; all else of it, and
- *                   `payload`, is as it was.
+ *   GOZDRIT_PACKET  it was held. Its extended sequence number, the payload's length and the header stand in `played`, its
+ *                   payload at the front of `payload`. The header's arrays behind their counts are as they were. Where
+ *                   has_extension is 0, word_count is too, and profile is as it was.
+ *   GOZDRIT_GAP     it was missing, and its patience has passed. Its extended sequence number stands in `played`; all else
+ *                   of it, and `payload`, is as it was.
  *   GOZDRIT_WAIT    it is missing, and its patience has not passed, or nothing is held. All else of `played`, and
  *                   `payload`, is as it was.
  *
- * Places are played or given up in their order, each once. Call it until it waits.
+ * Packets are played or given up in their order, each once. Call it until it waits.
  *
- *   75  room is below GOZDRIT_MAX_PAYLOAD
+ *   75  room is less than the payload has; GOZDRIT_MAX_PAYLOAD is enough for any
  */
 int32_t gozdrit_play(gozdrit_receiver *receiver, uint64_t now, gozdrit_played *played, uint8_t *payload, size_t room);
 
 /*
- * Asks for missing places: writes the datagram of one generic NACK to the front of `out`, and its length to `length`.
- * A place is due that was asked for fewer than `asks` times, and never or at least `retry` milliseconds ago. Where
- * none is due, `length` is 0, and `out` is as it was. One datagram may leave some that are due: call it until then.
+ * Writes a datagram with one generic NACK to the front of `out`, for missing packets that are due, and its length to
+ * `length`. A packet is due that was named fewer than `nacks` times, and never, and `delay` milliseconds ago or more
+ * it was noticed, or at least `retry` milliseconds ago. It names `most` packets at most; GOZDRIT_MOST is as many as
+ * it can. Where none is due, `length` is 0, and `out` is as it was. One datagram may leave some that are due: call it
+ * until then, or as often as feedback may be sent (RFC 4585, section 3.5).
  *
- *   75  room is below GOZDRIT_MAX_DATAGRAM
+ *   75  room is less than the datagram has; GOZDRIT_MAX_NACK is enough for any
  */
-int32_t gozdrit_ask(gozdrit_receiver *receiver, uint64_t now, size_t *length, uint8_t *out, size_t room);
+int32_t gozdrit_nack(gozdrit_receiver *receiver, uint64_t now, size_t most, size_t *length, uint8_t *out, size_t room);
 
-/* How many places are missing. */
-int32_t gozdrit_missing(gozdrit_receiver *receiver, size_t *count);
+/*
+ * The least moment from which on gozdrit_play does not wait or gozdrit_nack makes a datagram, if nothing more comes: a
+ * loop sleeps until then, or until a datagram comes. Where there is none, moment->known is 0, and moment->moment is as it
+ * was. A moment in the past is one that has come.
+ */
+int32_t gozdrit_next_moment(const gozdrit_receiver *receiver, gozdrit_moment *moment);
+
+/*
+ * Begins at a sequence number that was signalled, before any packet came: what is lost of the first packets is then missing
+ * as any other.
+ *
+ *   40  a packet was taken already, or it began before
+ */
+int32_t gozdrit_begin(gozdrit_receiver *receiver, uint16_t first);
+
+/* Makes the receiver one that took nothing, with the same memory. What it holds is gone, and in no count; the counts go on. */
+int32_t gozdrit_restart(gozdrit_receiver *receiver);
+
+/*
+ * Sets the three times, as a round-trip time changes. What was noticed, and what NACKs named, stays.
+ *
+ *   53  retry is 0
+ */
+int32_t gozdrit_set_times(gozdrit_receiver *receiver, uint64_t patience, uint64_t delay, uint64_t retry);
+
+/* How many packets are missing. */
+int32_t gozdrit_missing(const gozdrit_receiver *receiver, size_t *count);
 
 /* The SSRC of the retransmissions: the session's, or the one that was learnt, where the receiver learns it. Until it
  * has, source->known is 0, and source->ssrc is as it was. */
-int32_t gozdrit_repair_source(gozdrit_receiver *receiver, gozdrit_source *source);
+int32_t gozdrit_rtx_source(const gozdrit_receiver *receiver, gozdrit_source *source);
 
-/* The next place to play. Before the first packet place->known is 0, and place->place is as it was. */
-int32_t gozdrit_cursor(gozdrit_receiver *receiver, gozdrit_place *place);
+/* The extended sequence number of the next packet to play. Before the first packet, and before gozdrit_begin,
+ * sequence->known is 0, and sequence->sequence is as it was. */
+int32_t gozdrit_next_sequence(const gozdrit_receiver *receiver, gozdrit_sequence *sequence);
 
-/* The highest place that was taken. Before the first packet place->known is 0, and place->place is as it was. */
-int32_t gozdrit_highest(gozdrit_receiver *receiver, gozdrit_place *place);
+/* The highest one that was taken, and from gozdrit_begin until then the one before the first: the extended highest sequence
+ * number received of a report (RFC 3550, section 6.4.1), but for a multiple of 65536. Else as above. */
+int32_t gozdrit_highest_sequence(const gozdrit_receiver *receiver, gozdrit_sequence *sequence);
 
-/* ---- names */
+/* What it counted. */
+int32_t gozdrit_receiver_counts(const gozdrit_receiver *receiver, gozdrit_receive_counts *counts);
+
+/* ---- one RTP packet, for programs that have one to hand on (RFC 3550, section 5.1) */
 
 /*
- * Writes the name of a refusal, as docs/PROTOCOL.md has it ("UnknownSource" for 31), with a zero octet behind it, to
- * the front of `name`. `length` gets its length without the zero, 15 at most. The name of 0 is "OK". For a number that
- * is no refusal's `length` is 0, and `name` is as it was.
+ * Reads an RTP packet: its header, its numbers, and where its payload lies. The header's arrays behind their counts are as
+ * they were, and so is profile where there is no extension.
  *
- *   75  room is below GOZDRIT_MAX_NAME
+ *   1 to 5  the octets are no RTP packet
+ *   37      the header extension has more than GOZDRIT_MAX_WORDS words
  */
-int32_t gozdrit_refusal_name(int32_t number, uint8_t *name, size_t room, size_t *length);
+int32_t gozdrit_rtp_read(const uint8_t *octets, size_t length, gozdrit_packet *packet);
+
+/*
+ * Writes the RTP packet of a header and a payload to the front of `out`, and its length to `written`. packet->payload and
+ * packet->length are not looked at.
+ *
+ *   74  as for gozdrit_send
+ *   75  room is less than the packet has
+ *   51  packet->payload_type is above 127
+ *   44  packet->padding is not 0, and length is
+ */
+int32_t gozdrit_rtp_write(const gozdrit_packet *packet, const uint8_t *payload, size_t length, size_t *written,
+                          uint8_t *out, size_t room);
+
+/* ---- calls of version 0.9, for programs that have them: over those above. What is passed over or held back answers 0, with
+ * 0 in `place` and `marked`. */
+
+typedef struct gozdrit_taken {
+    uint64_t place;
+    uint64_t overrun;
+} gozdrit_taken;
+
+static inline int32_t gozdrit_on_media(gozdrit_receiver *receiver, const uint8_t *octets, size_t length, uint64_t now,
+                                       gozdrit_taken *taken) {
+    gozdrit_heard heard;
+    int32_t number = gozdrit_receive(receiver, octets, length, now, &heard);
+    if (number != GOZDRIT_OK) return number;
+    if (heard.kind == GOZDRIT_NOT_TAKEN) return heard.refusal;
+    taken->place = heard.sequence;
+    taken->overrun = heard.overrun;
+    return GOZDRIT_OK;
+}
+
+static inline int32_t gozdrit_on_feedback(gozdrit_sender *sender, const uint8_t *octets, size_t length,
+                                          uint32_t *marked) {
+    gozdrit_told told;
+    int32_t number = gozdrit_feedback(sender, octets, length, &told);
+    if (number != GOZDRIT_OK) return number;
+    if (told.kind == GOZDRIT_NOT_TAKEN) return told.refusal;
+    *marked = told.marked;
+    return GOZDRIT_OK;
+}
+
+static inline int32_t gozdrit_next_repair(gozdrit_sender *sender, gozdrit_sent *sent, uint8_t *out, size_t room) {
+    return gozdrit_retransmit(sender, sent, out, room);
+}
+
+static inline int32_t gozdrit_ask(gozdrit_receiver *receiver, uint64_t now, size_t *length, uint8_t *out, size_t room) {
+    return gozdrit_nack(receiver, now, GOZDRIT_MOST, length, out, room);
+}
 
 #ifdef __cplusplus
 }

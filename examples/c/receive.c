@@ -3,8 +3,8 @@
  *   receive FILE PORT [--loss N] [--seed N] [--seconds N]
  *
  * The packets are described at the top of send.c. Feedback goes to where the first packet came from. The options are
- * those of `send`: here it is feedback that is lost. At the end one line of counts is printed: the packets and
- * retransmissions that were taken, what was played and given up, the datagrams that were refused, and octets written.
+ * those of `send`: here it is feedback that is lost. At the end one line of counts is printed: the library's, and how many octets
+ * were written.
  *
  * The status is 0 where the whole file was received and written, 2 for a wrong command line, and else 1. */
 #define _POSIX_C_SOURCE 200809L
@@ -14,7 +14,7 @@
 
 enum {
     BURST = 64,     /* datagrams taken at once at most */
-    ASK = 5,        /* milliseconds between two looks for what is due */
+    SLEEP = 100,    /* milliseconds that are slept at most where nothing is to be done */
     GOODBYES = 40,  /* how often BYE is said, since some of them may be lost */
     PATIENCE = 5000 /* milliseconds that a missing packet is waited for: long, since a busy machine may halt `send` */
 };
@@ -27,32 +27,25 @@ typedef struct receiving {
     bool heard; /* a packet was taken, and the socket sends to where it came from */
     bool ended; /* the packet that ends the file was played, or the file can't be written */
     bool whole; /* nothing of the file is missing so far */
-    uint64_t packets, repairs, played, gaps, refused, octets;
+    uint64_t octets;
 } receiving;
 
-/* Takes what came. What is refused is counted, and nothing else: late and double packets are no failure. */
+/* Takes what came. What is not taken is counted by the library: late and double packets are part of a session. */
 static void take_packets(receiving *r, uint64_t now) {
     static uint8_t octets[65536];
     for (int i = 0; i < BURST; i++) {
         struct sockaddr_storage from;
         socklen_t size = sizeof from;
-        gozdrit_taken taken;
+        gozdrit_heard heard;
         ssize_t length = recvfrom(r->at, octets, sizeof octets, MSG_DONTWAIT, (struct sockaddr *)&from, &size);
-        if (length < 0) return;
-        if (gozdrit_on_media(&r->end, octets, (size_t)length, now, &taken) != GOZDRIT_OK) {
-            r->refused++;
-            continue;
-        }
-        if ((octets[1] & 0x7f) == SESSION.repair_type) r->repairs++;
-        else r->packets++;
-        if (taken.overrun > 0) fprintf(stderr, "overrun: %" PRIu64 " places\n", taken.overrun);
-        if (!r->heard) r->heard = connect(r->at, (struct sockaddr *)&from, size) == 0;
+        if (length < 0 || gozdrit_receive(&r->end, octets, (size_t)length, now, &heard) != GOZDRIT_OK) return;
+        if (heard.overrun > 0) fprintf(stderr, "overrun: %" PRIu64 " packets\n", heard.overrun);
+        if (heard.kind != GOZDRIT_NOT_TAKEN && !r->heard) r->heard = connect(r->at, (struct sockaddr *)&from, size) == 0;
     }
 }
 
 /* Writes what a packet carries. Its timestamp shows whether anything before it was lost. */
 static void write_packet(receiving *r, const gozdrit_played *played, const uint8_t *payload) {
-    r->played++;
     if (played->header.timestamp != (uint32_t)r->octets) r->whole = false;
     if (fwrite(payload, 1, played->length, r->file) != played->length) {
         perror("receive");
@@ -68,41 +61,40 @@ static int32_t play(receiving *r, uint64_t now) {
         gozdrit_played played;
         uint8_t payload[GOZDRIT_MAX_PAYLOAD];
         int32_t number = gozdrit_play(&r->end, now, &played, payload, sizeof payload);
-        if (number != GOZDRIT_OK) return number;
-        if (played.kind == GOZDRIT_WAIT) return GOZDRIT_OK;
-        if (played.kind == GOZDRIT_PACKET) {
-            write_packet(r, &played, payload);
-        } else {
-            r->gaps++;
-            fprintf(stderr, "gap: place %" PRIu64 "\n", played.place);
-        }
+        if (number != GOZDRIT_OK || played.kind == GOZDRIT_WAIT) return number;
+        if (played.kind == GOZDRIT_PACKET) write_packet(r, &played, payload);
+        else fprintf(stderr, "gap: %" PRIu64 "\n", played.sequence);
     }
     return GOZDRIT_OK;
 }
 
-/* Asks for all that is due. */
-static int32_t ask(receiving *r, uint64_t now) {
+/* Sends the NACKs that are due. */
+static int32_t send_nacks(receiving *r, uint64_t now) {
     for (;;) {
-        uint8_t out[GOZDRIT_MAX_DATAGRAM];
+        uint8_t out[GOZDRIT_MAX_NACK];
         size_t length;
-        int32_t number = gozdrit_ask(&r->end, now, &length, out, sizeof out);
+        int32_t number = gozdrit_nack(&r->end, now, GOZDRIT_MOST, &length, out, sizeof out);
         if (number != GOZDRIT_OK || length == 0) return number;
         lossy_send(r->at, &r->chosen, out, length);
     }
 }
 
+/* How many milliseconds nothing is to be done, if nothing comes. */
+static int sleep_from(const receiving *r, uint64_t now) {
+    gozdrit_moment next;
+    if (gozdrit_next_moment(&r->end, &next) != GOZDRIT_OK || !next.known || next.moment > now + SLEEP) return SLEEP;
+    return next.moment <= now ? 0 : (int)(next.moment - now);
+}
+
 /* Receives until the file has ended, the time is over, or something fails. */
 static void receive_file(receiving *r) {
-    uint64_t start = moment(), asked = start;
-    while (!r->ended && moment() - start < r->chosen.seconds * 1000) {
-        wait_for_datagram(r->at);
-        uint64_t now = moment();
+    uint64_t start = moment(), now = start;
+    while (!r->ended && now - start < r->chosen.seconds * 1000) {
+        wait_for_datagram(r->at, sleep_from(r, now));
+        now = moment();
         take_packets(r, now);
         int32_t number = play(r, now);
-        if (number == GOZDRIT_OK && now - asked >= ASK) {
-            asked = now;
-            number = ask(r, now);
-        }
+        if (number == GOZDRIT_OK) number = send_nacks(r, now);
         if (number != GOZDRIT_OK) {
             tell_refusal("receive", number);
             return;
@@ -121,22 +113,37 @@ static void say_goodbye(receiving *r) {
     }
 }
 
-/* Makes the receiver, receives the file with it, and gives its memory back. */
-static void run(receiving *r) {
-    gozdrit_receiver_config config = {SESSION, PATIENCE, 20, 4096, 255, 0};
+/* Makes the receiver, and begins at the first packet's number, so that what is lost of the first packets is missed. */
+static int32_t make_receiver(receiving *r) {
+    gozdrit_receiver_config config;
+    gozdrit_receiver_defaults(&config);
+    config.session = SESSION;
+    config.patience = PATIENCE;
+    config.delay = 0; /* this network reorders nothing */
+    config.retry = 20;
+    config.nacks = 255;
+    config.window = 4096;
     int32_t number = gozdrit_receiver_new(&config, &r->end);
+    return number == GOZDRIT_OK ? gozdrit_begin(&r->end, FIRST) : number;
+}
+
+/* Receives the file, tells the counts, and gives the memory back. */
+static void run(receiving *r) {
+    gozdrit_receive_counts counts;
+    int32_t number = make_receiver(r);
     if (number != GOZDRIT_OK) {
         tell_refusal("gozdrit_receiver_new", number);
         return;
     }
     r->whole = true;
     receive_file(r);
+    gozdrit_receiver_counts(&r->end, &counts);
     gozdrit_receiver_free(&r->end);
     if (fflush(r->file) != 0) r->whole = false;
     say_goodbye(r);
-    printf("receive: packets %" PRIu64 " retransmissions %" PRIu64, r->packets, r->repairs);
-    printf(" played %" PRIu64 " gaps %" PRIu64, r->played, r->gaps);
-    printf(" refused %" PRIu64 " octets %" PRIu64 "\n", r->refused, r->octets);
+    printf("receive: packets %" PRIu64 " retransmissions %" PRIu64, counts.media, counts.retransmissions);
+    printf(" duplicate %" PRIu64 " late %" PRIu64 " nacks %" PRIu64, counts.duplicate, counts.late, counts.nacks);
+    printf(" played %" PRIu64 " gaps %" PRIu64 " octets %" PRIu64 "\n", counts.played, counts.gaps, r->octets);
 }
 
 int main(int count, char **words) {

@@ -3,16 +3,12 @@
  *   send FILE HOST PORT [--loss N] [--seed N] [--seconds N]
  *
  * It loses N in 1000 of the datagrams that it sends (0), drawn by a seed (1), and ends after so many seconds (60) at
- * the latest. At the end one line of counts is printed.
+ * the latest. At the end one line of counts is printed: the library's.
  *
- * How a file becomes packets: a packet's timestamp says where in the file its payload begins, modulo 2^32.
- *
- *   - First come LEAD packets without payload. A receiver starts at the first packet that it gets, and never asks for
- *     one before it. So the packets that may get lost unnoticed carry nothing.
- *   - Then comes the file, CHUNK octets a packet.
- *   - Then come packets without payload whose marker is set and whose timestamp is the file's length. A receiver
- *     notices only what is missing below the highest packet that it got, so these show it the last ones of the file.
- *     They are repeated, each as a packet of its own, until the receiver says BYE (RFC 3550, section 6.6).
+ * How a file becomes packets: CHUNK octets a packet, whose timestamp says where in the file they begin, modulo 2^32. Behind
+ * them comes a packet without payload, whose marker is set. A receiver notices only what is missing below the highest
+ * packet that it got: so the sender, once it is silent, marks its last packet again and again until the receiver says
+ * BYE (RFC 3550, section 6.6), and that retransmission shows what is missing at the end.
  *
  * The status is 0 where that BYE says that the whole file was received, 2 for a wrong command line, and else 1. */
 #define _POSIX_C_SOURCE 200809L
@@ -23,8 +19,7 @@
 enum {
     CHUNK = 1000, /* octets of the file in a packet: with its headers less than the MTU of most networks */
     BURST = 4,    /* datagrams sent in a millisecond at most */
-    LEAD = 50,    /* packets before the file */
-    PACE = 10     /* milliseconds between packets without payload */
+    PACE = 20     /* milliseconds between two marks of the last packet */
 };
 
 typedef struct sending {
@@ -33,64 +28,59 @@ typedef struct sending {
     FILE *file;
     int at;
     options chosen;
-    uint64_t packets, repairs;
-    uint64_t paced; /* when the last packet without payload was sent */
+    uint64_t marked; /* when the last packet was marked */
     bool ended, whole;
 } sending;
 
-/* Takes what came. NACKs are the library's, which refuses all other feedback; of that only BYE counts here. */
+/* Takes what came. NACKs are the library's; of other reports only BYE counts here. */
 static void take_feedback(sending *s) {
     static uint8_t octets[65536];
     for (int i = 0; i < BURST; i++) {
+        gozdrit_told told;
         ssize_t length = recv(s->at, octets, sizeof octets, MSG_DONTWAIT);
         if (length < 0) return;
-        uint32_t marked;
-        int32_t number = gozdrit_on_feedback(&s->end, octets, (size_t)length, &marked);
-        if (number != GOZDRIT_NOT_RTPFB) continue;
-        bool whole = is_same(octets, (size_t)length, BYE_WHOLE);
-        s->whole = whole;
-        s->ended = whole || is_same(octets, (size_t)length, BYE_BROKEN);
+        if (gozdrit_feedback(&s->end, octets, (size_t)length, &told) != GOZDRIT_OK || told.kind != GOZDRIT_REPORTS) continue;
+        s->whole = is_same(octets, (size_t)length, BYE_WHOLE);
+        s->ended = s->whole || is_same(octets, (size_t)length, BYE_BROKEN);
         if (s->ended) return;
     }
 }
 
-/* Makes the next packet, if one is due: sent->length is 0 where none is. */
-static int32_t next_packet(sending *s, uint64_t now, gozdrit_sent *sent, uint8_t *out, size_t room) {
+/* Sends the next packet of the file, or the one behind it. */
+static int32_t send_next(sending *s, gozdrit_sent *sent, uint8_t *out, size_t room) {
     uint8_t payload[CHUNK];
-    size_t length = 0;
-    bool leads = s->packets < LEAD;
+    size_t length = fread(payload, 1, sizeof payload, s->file);
     sent->length = 0;
-    if (!leads && !s->header.marker) {
-        length = fread(payload, 1, sizeof payload, s->file);
-        if (ferror(s->file)) return GOZDRIT_OK; /* it is no end of the file, and send_file tells it */
-        s->header.marker = length == 0;
-    }
-    if (length == 0) {
-        if (now - s->paced < PACE) return GOZDRIT_OK;
-        s->paced = now;
-    }
+    if (ferror(s->file)) return GOZDRIT_OK; /* it is no end of the file, and send_file tells it */
+    s->header.marker = length == 0;
     int32_t number = gozdrit_send(&s->end, &s->header, payload, length, 0, sent, out, room);
-    if (number != GOZDRIT_OK) return number;
     s->header.timestamp += (uint32_t)length;
-    s->packets++;
-    return GOZDRIT_OK;
+    return number;
+}
+
+/* Once all was sent: marks the last packet from time to time. Where it was retransmitted as often as it may be, another one
+ * like it follows. */
+static int32_t mark_last(sending *s, uint64_t now, gozdrit_sent *sent, uint8_t *out, size_t room) {
+    uint32_t marked;
+    sent->length = 0;
+    if (now - s->marked < PACE) return GOZDRIT_OK;
+    s->marked = now;
+    int32_t number = gozdrit_mark_last(&s->end, &marked);
+    if (number != GOZDRIT_OK || marked > 0) return number;
+    return gozdrit_send(&s->end, &s->header, NULL, 0, 0, sent, out, room);
 }
 
 /* Sends what is due in this millisecond: retransmissions first, since somebody waits for them. */
 static int32_t send_burst(sending *s, uint64_t now) {
-    uint8_t out[GOZDRIT_MAX_DATAGRAM];
     for (int i = 0; i < BURST; i++) {
+        uint8_t out[GOZDRIT_MAX_DATAGRAM];
         gozdrit_sent sent;
-        int32_t number = gozdrit_next_repair(&s->end, &sent, out, sizeof out);
-        if (number != GOZDRIT_OK) return number;
-        if (sent.length > 0) {
-            s->repairs++;
-        } else {
-            number = next_packet(s, now, &sent, out, sizeof out);
-            if (number != GOZDRIT_OK) return number;
-            if (sent.length == 0) break;
+        int32_t number = gozdrit_retransmit(&s->end, &sent, out, sizeof out);
+        if (number == GOZDRIT_OK && sent.length == 0) {
+            number = s->header.marker ? mark_last(s, now, &sent, out, sizeof out) : send_next(s, &sent, out, sizeof out);
         }
-        lossy_send(s->at, &s->chosen, out, sent.length);
+        if (number != GOZDRIT_OK) return number;
+        if (sent.length > 0) lossy_send(s->at, &s->chosen, out, sent.length);
     }
     return GOZDRIT_OK;
 }
@@ -99,7 +89,7 @@ static int32_t send_burst(sending *s, uint64_t now) {
 static void send_file(sending *s) {
     uint64_t start = moment(), last = start;
     while (!s->ended && moment() - start < s->chosen.seconds * 1000) {
-        wait_for_datagram(s->at);
+        wait_for_datagram(s->at, 1);
         take_feedback(s);
         uint64_t now = moment();
         if (now == last) continue;
@@ -119,15 +109,24 @@ static void send_file(sending *s) {
 
 /* Makes the sender, sends the file with it, and gives its memory back. */
 static void run(sending *s) {
-    gozdrit_sender_config config = {SESSION, GOZDRIT_MAX_STORE, 1, 1, 255};
+    gozdrit_sender_config config;
+    gozdrit_send_counts counts;
+    gozdrit_sender_defaults(&config);
+    config.session = SESSION;
+    config.history = GOZDRIT_MAX_STORE;
+    config.first = FIRST;
+    config.repeats = 255;
     int32_t number = gozdrit_sender_new(&config, &s->end);
     if (number != GOZDRIT_OK) {
         tell_refusal("gozdrit_sender_new", number);
         return;
     }
     send_file(s);
+    gozdrit_sender_counts(&s->end, &counts);
     gozdrit_sender_free(&s->end);
-    printf("send: packets %" PRIu64 " retransmissions %" PRIu64 "\n", s->packets, s->repairs);
+    printf("send: packets %" PRIu64 " octets %" PRIu64 " retransmissions %" PRIu64, counts.sent, counts.octets,
+           counts.retransmissions);
+    printf(" nacks %" PRIu64 " exhausted %" PRIu64 "\n", counts.nacks, counts.exhausted);
 }
 
 int main(int count, char **words) {

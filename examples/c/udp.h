@@ -7,6 +7,7 @@
 
 #include <netdb.h>
 #include <poll.h>
+#include <stdbool.h>
 #include <stdio.h>
 #include <stdlib.h>
 #include <string.h>
@@ -14,9 +15,10 @@
 #include <time.h>
 #include <unistd.h>
 
-/* The streams of the session. Real ends draw SSRCs at random, and agree on them and on the types by signalling
- * (RFC 4588, section 8). */
-static const gozdrit_session SESSION = {0x11111111, 0x22222222, 0x33333333, 96, 97};
+/* The streams of the session, and the first packet's sequence number. Real ends draw SSRCs and numbers at random, and
+ * agree on them and on the types by signalling (RFC 4588, section 8). */
+static const gozdrit_session SESSION = {0x11111111, 0x22222222, 0x33333333, 96, 97, 0};
+enum { FIRST = 65000 };
 
 /* The receiver's last word: RTCP BYE from its SSRC (RFC 3550, section 6.6), with the reason "all" where it has the
  * whole file, and "gap" where not. The library makes and takes generic NACKs alone, so the examples write these. */
@@ -49,10 +51,10 @@ static inline void lossy_send(int at, options *o, const uint8_t *octets, size_t 
     (void)send(at, octets, length, 0);
 }
 
-/* Waits a millisecond at most for a datagram. */
-static inline void wait_for_datagram(int at) {
+/* Waits for a datagram, so many milliseconds at most. */
+static inline void wait_for_datagram(int at, int milliseconds) {
     struct pollfd one = {at, POLLIN, 0};
-    poll(&one, 1, 1);
+    poll(&one, 1, milliseconds);
 }
 
 /* A whole number in decimal of 0 to the largest one. */
@@ -96,10 +98,7 @@ static inline int open_socket(const char *host, const char *port) {
 
 /* Says which call of the library was refused, by the refusal's name. */
 static inline void tell_refusal(const char *call, int32_t number) {
-    uint8_t name[GOZDRIT_MAX_NAME];
-    size_t length = 0;
-    gozdrit_refusal_name(number, name, sizeof name, &length);
-    fprintf(stderr, "%s: refused %d %.*s\n", call, (int)number, (int)length, (const char *)name);
+    fprintf(stderr, "%s: refused %d %s\n", call, (int)number, gozdrit_refusal_name(number));
 }
 
 #endif

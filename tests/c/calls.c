@@ -34,7 +34,7 @@ bool is_pattern(const void *from, size_t length) {
 uint8_t *boxed(const uint8_t *octets, size_t length) {
     uint8_t *lent = (uint8_t *)malloc(length);
     if (!lent) abort();
-    memcpy(lent, octets, length);
+    if (length > 0) memcpy(lent, octets, length);
     return lent;
 }
 
@@ -58,21 +58,34 @@ size_t write_rtp(uint8_t *out, uint8_t type, uint16_t seq, uint32_t ssrc, const 
     return 12 + length;
 }
 
-void write_nack(uint8_t *out, uint32_t reporter, uint32_t media, uint16_t pid, uint16_t blp) {
-    static const uint8_t front[4] = {0x81, 205, 0, 3};
-    memcpy(out, front, sizeof front);
+size_t write_pairs(uint8_t *out, uint32_t reporter, uint32_t media, const uint16_t *pairs, size_t count) {
+    out[0] = 0x81;
+    out[1] = 205;
+    write_u16(out + 2, (uint16_t)(2 + count));
     write_u32(out + 4, reporter);
     write_u32(out + 8, media);
-    write_u16(out + 12, pid);
-    write_u16(out + 14, blp);
+    for (size_t i = 0; i < 2 * count; i++) write_u16(out + 12 + 2 * i, pairs[i]);
+    return 12 + 4 * count;
+}
+
+void write_nack(uint8_t *out, uint32_t reporter, uint32_t media, uint16_t pid, uint16_t blp) {
+    const uint16_t pair[2] = {pid, blp};
+    write_pairs(out, reporter, media, pair, 1);
 }
 
 int main(void) {
     test_sender();
+    test_feedback();
     test_receiver();
+    test_times();
+    test_begin();
+    test_jumps();
     test_refused_media();
     test_learning();
     test_sessions();
+    test_queries();
+    test_rtp();
+    test_old();
     test_null();
     test_memory();
     test_names();

@@ -4,6 +4,7 @@
 
 #include "gozdrit.h"
 
+#include <stdbool.h>
 #include <string.h>
 
 /* Counts a check, and tells its line where it does not hold. */
@@ -23,21 +24,89 @@ bool is_pattern(const void *from, size_t length);
 uint8_t *boxed(const uint8_t *octets, size_t length);
 
 /* The session of the tests, as the initializer of a gozdrit_session. */
-#define SESSION {0x11111111, 0x22222222, 0x33333333, 96, 97}
+#define SESSION {0x11111111, 0x22222222, 0x33333333, 96, 97, 0}
 
 /* Writes an RTP packet without CSRC list, extension and padding (RFC 3550, section 5.1), and answers its length. */
 size_t write_rtp(uint8_t *out, uint8_t type, uint16_t seq, uint32_t ssrc, const void *payload, size_t length);
 
-/* Writes a generic NACK of one pair (RFC 4585, section 6.2.1), which has 16 octets. */
+/* Writes a generic NACK of so many pairs (RFC 4585, section 6.2.1), and answers its length. The other has one pair, and
+ * thus 16 octets. */
 enum { NACK_LENGTH = 16 };
+size_t write_pairs(uint8_t *out, uint32_t reporter, uint32_t media, const uint16_t *pairs, size_t count);
 void write_nack(uint8_t *out, uint32_t reporter, uint32_t media, uint16_t pid, uint16_t blp);
+
+/* ---- ends.c: a call and all that it must give. What does not hold is told with the line of who called. */
+
+/* A datagram, and what it must be to a receiver. */
+#define HEARS(...) hears(__FILE__, __LINE__, __VA_ARGS__)
+void hears(const char *file, int line, gozdrit_receiver *r, const uint8_t *octets, size_t length, uint64_t now,
+           gozdrit_heard expected);
+#define MEDIA(at) ((gozdrit_heard){.kind = GOZDRIT_MEDIA, .sequence = (at)})
+#define OVERRUNS(at, dropped) ((gozdrit_heard){.kind = GOZDRIT_MEDIA, .sequence = (at), .overrun = (dropped)})
+#define RETRANSMITTED(at) ((gozdrit_heard){.kind = GOZDRIT_RETRANSMISSION, .sequence = (at)})
+#define HELD_BACK(count) ((gozdrit_heard){.kind = GOZDRIT_HELD_BACK, .held = (count)})
+#define RESTARTED(at, count, left)                                                                                     \
+    ((gozdrit_heard){.kind = GOZDRIT_RESTARTED, .sequence = (at), .held = (count), .abandoned = (left)})
+#define NOT_HEARD(number) ((gozdrit_heard){.kind = GOZDRIT_NOT_TAKEN, .refusal = (number)})
+
+/* The same of a media packet whose payload is the low octet of its number, and of a retransmission of such a one. */
+#define HEARS_MEDIA(...) hears_media(__FILE__, __LINE__, __VA_ARGS__)
+void hears_media(const char *file, int line, gozdrit_receiver *r, uint16_t seq, uint64_t now, gozdrit_heard expected);
+#define HEARS_RTX(...) hears_rtx(__FILE__, __LINE__, __VA_ARGS__)
+void hears_rtx(const char *file, int line, gozdrit_receiver *r, uint32_t ssrc, uint16_t original, uint64_t now,
+               gozdrit_heard expected);
+
+/* A datagram, and what it must be to a sender. */
+#define TOLD(...) is_told(__FILE__, __LINE__, __VA_ARGS__)
+void is_told(const char *file, int line, gozdrit_sender *s, const uint8_t *octets, size_t length, gozdrit_told expected);
+#define NOT_TOLD(number) ((gozdrit_told){.kind = GOZDRIT_NOT_TAKEN, .refusal = (number)})
+
+/* A play. Of a packet the payload is one octet. */
+#define PLAYS(...) plays(__FILE__, __LINE__, __VA_ARGS__)
+void plays(const char *file, int line, gozdrit_receiver *r, uint64_t now, uint8_t kind, uint64_t sequence, uint8_t octet);
+
+/* A NACK of so many pairs, and none where there are none. */
+#define NACKS(...) nacks(__FILE__, __LINE__, __VA_ARGS__)
+void nacks(const char *file, int line, gozdrit_receiver *r, uint64_t now, size_t most, const uint16_t *pairs,
+           size_t count);
+#define PAIR(pid, blp) ((const uint16_t[]){(pid), (blp)}), 1
+#define NO_PAIR NULL, 0
+
+/* What a receiver tells of itself. */
+typedef struct state {
+    gozdrit_sequence next, highest;
+    gozdrit_source source;
+    gozdrit_moment moment;
+    size_t missing;
+    gozdrit_receive_counts counts;
+} state;
+state state_of(const gozdrit_receiver *r);
+/* Both but for the counts. */
+bool is_same_state(const state *a, const state *b);
+
+/* What a receiver must tell: the next and the highest one, 0 for none, and how many are missing. */
+#define TELLS(...) tells(__FILE__, __LINE__, __VA_ARGS__)
+void tells(const char *file, int line, const gozdrit_receiver *r, uint64_t next, uint64_t highest, size_t missing);
+/* The moment to call it again, or none. */
+#define CALLS_AT(...) calls_at(__FILE__, __LINE__, __VA_ARGS__)
+void calls_at(const char *file, int line, const gozdrit_receiver *r, bool known, uint64_t moment);
+
+bool is_counted(const gozdrit_receiver *r, gozdrit_receive_counts expected);
+bool is_counted_sent(const gozdrit_sender *s, gozdrit_send_counts expected);
 
 /* Each is a file. */
 void test_sender(void);
+void test_feedback(void);
 void test_receiver(void);
+void test_times(void);
+void test_begin(void);
+void test_jumps(void);
 void test_refused_media(void);
 void test_learning(void);
 void test_sessions(void);
+void test_queries(void);
+void test_rtp(void);
+void test_old(void);
 void test_null(void);
 void test_memory(void);
 void test_names(void);

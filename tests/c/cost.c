@@ -1,8 +1,9 @@
-/* What a packet costs a receiver: gozdrit_on_media and gozdrit_play of packets with the longest payload, in order, in
+/* What a packet costs a receiver: gozdrit_receive and gozdrit_play of packets with the longest payload, in order, in
  * nanoseconds of the processor. It prints the median of its rounds. */
 #define _POSIX_C_SOURCE 200809L
 #include "gozdrit.h"
 
+#include <stdbool.h>
 #include <stdio.h>
 #include <stdlib.h>
 #include <time.h>
@@ -24,14 +25,14 @@ static int is_below(const void *a, const void *b) {
 static bool take(gozdrit_receiver *receiver, uint16_t *seq, uint32_t *sum) {
     static uint8_t datagram[LENGTH] = {0x80, 96, 0, 0, 0, 0, 0, 0, 0, 0, 0, 1};
     for (int i = 0; i < PACKETS; i++) {
-        gozdrit_taken taken;
+        gozdrit_heard heard;
         gozdrit_played played;
         uint8_t payload[GOZDRIT_MAX_PAYLOAD];
         ++*seq;
         datagram[2] = (uint8_t)(*seq >> 8);
         datagram[3] = (uint8_t)*seq;
         datagram[LENGTH - 1] = (uint8_t)i;
-        if (gozdrit_on_media(receiver, datagram, sizeof datagram, 0, &taken)) return false;
+        if (gozdrit_receive(receiver, datagram, sizeof datagram, 0, &heard) || heard.kind != GOZDRIT_MEDIA) return false;
         if (gozdrit_play(receiver, 0, &played, payload, sizeof payload) || played.kind != GOZDRIT_PACKET) return false;
         *sum += payload[played.length - 1];
     }
@@ -39,11 +40,15 @@ static bool take(gozdrit_receiver *receiver, uint16_t *seq, uint32_t *sum) {
 }
 
 int main(void) {
-    static const gozdrit_receiver_config config = {{1, 2, 3, 96, 97}, 100, 20, 1024, 2, 0};
+    static const gozdrit_session session = {1, 2, 3, 96, 97, 0};
     static double spent[ROUNDS];
-    gozdrit_receiver receiver = {NULL, false};
+    gozdrit_receiver_config config;
+    gozdrit_receiver receiver = {NULL, 0};
     uint16_t seq = 0;
     uint32_t sum = 0;
+    if (gozdrit_receiver_defaults(&config)) return 1;
+    config.session = session;
+    config.window = 1024;
     if (gozdrit_receiver_new(&config, &receiver)) return 1;
     for (int round = 0; round < ROUNDS; round++) {
         const double start = nanoseconds();
@@ -52,6 +57,6 @@ int main(void) {
     }
     if (gozdrit_receiver_free(&receiver) || sum != (uint32_t)ROUNDS * (PACKETS * (PACKETS - 1) / 2)) return 1;
     qsort(spent, ROUNDS, sizeof *spent, is_below);
-    printf("on_media and play of %d octets: %.0f ns\n", GOZDRIT_MAX_PAYLOAD, spent[ROUNDS / 2]);
+    printf("receive and play of %d octets: %.0f ns\n", GOZDRIT_MAX_PAYLOAD, spent[ROUNDS / 2]);
     return 0;
 }

@@ -42,44 +42,73 @@ void __wrap_free(void *at) {
 
 /* Every call of a sender that holds an end, but for the free. */
 static void use_sender(gozdrit_sender *sender) {
-    static const gozdrit_header header = {0, {0}, {0}, 0, 0, 0, 0, 0};
+    static const gozdrit_header header = {.timestamp = 0};
     static const uint8_t payload[GOZDRIT_MAX_PAYLOAD];
     uint8_t out[GOZDRIT_MAX_DATAGRAM], nack[NACK_LENGTH];
     gozdrit_sent sent;
+    gozdrit_told told;
+    gozdrit_send_counts counts;
     uint32_t marked;
     write_nack(nack, 0x33333333, 0x11111111, 50, 0xffff);
     for (int i = 0; i < 100; i++) {
         ANSWERS(GOZDRIT_OK, gozdrit_send(sender, &header, payload, sizeof payload, 0, &sent, out, sizeof out));
     }
-    ANSWERS(GOZDRIT_OK, gozdrit_on_feedback(sender, nack, sizeof nack, &marked));
-    CHECK(marked == 17);
-    ANSWERS(GOZDRIT_OK, gozdrit_next_repair(sender, &sent, out, sizeof out));
+    ANSWERS(GOZDRIT_OK, gozdrit_feedback(sender, nack, sizeof nack, &told));
+    CHECK(told.marked == 17);
+    ANSWERS(GOZDRIT_OK, gozdrit_retransmit(sender, &sent, out, sizeof out));
+    ANSWERS(GOZDRIT_OK, gozdrit_mark_last(sender, &marked));
+    CHECK(marked == 1);
+    ANSWERS(GOZDRIT_OK, gozdrit_sender_counts(sender, &counts));
+    CHECK(counts.sent == 100 && counts.retransmissions == 1);
 }
 
-/* The same of a receiver. */
-static void use_receiver(gozdrit_receiver *receiver) {
+/* What comes to a receiver at a moment, and what it does then. */
+static void use_at(gozdrit_receiver *receiver, uint16_t seq, uint64_t now, uint8_t kind) {
     uint8_t out[GOZDRIT_MAX_DATAGRAM], payload[GOZDRIT_MAX_PAYLOAD] = {0};
-    gozdrit_taken put;
+    gozdrit_heard heard;
     gozdrit_played played;
-    gozdrit_source source;
-    gozdrit_place place;
+    size_t length = write_rtp(out, 96, seq, 0x11111111, payload, sizeof payload);
+    ANSWERS(GOZDRIT_OK, gozdrit_receive(receiver, out, length, now, &heard));
+    CHECK(heard.kind == kind);
+    ANSWERS(GOZDRIT_OK, gozdrit_nack(receiver, now, GOZDRIT_MOST, &length, out, sizeof out));
+    ANSWERS(GOZDRIT_OK, gozdrit_play(receiver, now, &played, payload, sizeof payload));
+}
+
+/* Every call of a receiver that holds an end, but for the free, with a jump, and with a window that it has to leave. */
+static void use_receiver(gozdrit_receiver *receiver) {
+    ANSWERS(GOZDRIT_OK, gozdrit_begin(receiver, 0));
+    ANSWERS(GOZDRIT_OK, gozdrit_set_times(receiver, 100, 0, 20));
+    for (uint16_t i = 0; i < 100; i++) use_at(receiver, (uint16_t)(7 * i), i, GOZDRIT_MEDIA);
+    use_at(receiver, 9000, 100, GOZDRIT_HELD_BACK);
+    use_at(receiver, 9001, 100, GOZDRIT_RESTARTED);
+    for (uint16_t i = 0; i < 100; i++) use_at(receiver, (uint16_t)(9002 + 7 * i), 100u + i, GOZDRIT_MEDIA);
+    const state told = state_of(receiver);
+    CHECK(told.next.known && told.highest.known && told.moment.known && told.missing > 0);
+    CHECK(told.counts.media == 200 && told.counts.restarts == 1);
+    ANSWERS(GOZDRIT_OK, gozdrit_restart(receiver));
+    use_at(receiver, 1, 0, GOZDRIT_MEDIA);
+}
+
+/* The calls without an end take none either. */
+static void test_calls_without_end(void) {
+    const long made = taken, before = held;
+    gozdrit_sender_config sending;
+    gozdrit_receiver_config receiving;
+    gozdrit_packet packet = {.payload_type = 96};
+    uint8_t out[64];
     size_t length;
-    for (uint16_t i = 0; i < 100; i++) {
-        length = write_rtp(out, 96, (uint16_t)(7 * i), 0x11111111, payload, sizeof payload);
-        ANSWERS(GOZDRIT_OK, gozdrit_on_media(receiver, out, length, i, &put));
-        ANSWERS(GOZDRIT_OK, gozdrit_ask(receiver, i, &length, out, sizeof out));
-        ANSWERS(GOZDRIT_OK, gozdrit_play(receiver, i, &played, payload, sizeof payload));
-    }
-    ANSWERS(GOZDRIT_OK, gozdrit_missing(receiver, &length));
-    ANSWERS(GOZDRIT_OK, gozdrit_repair_source(receiver, &source));
-    ANSWERS(GOZDRIT_OK, gozdrit_cursor(receiver, &place));
-    ANSWERS(GOZDRIT_OK, gozdrit_highest(receiver, &place));
+    ANSWERS(GOZDRIT_OK, gozdrit_sender_defaults(&sending));
+    ANSWERS(GOZDRIT_OK, gozdrit_receiver_defaults(&receiving));
+    ANSWERS(GOZDRIT_OK, gozdrit_rtp_write(&packet, NULL, 0, &length, out, sizeof out));
+    ANSWERS(GOZDRIT_OK, gozdrit_rtp_read(out, length, &packet));
+    CHECK(gozdrit_version() > 0 && gozdrit_max_payload() > 0);
+    CHECK(taken == made && held == before);
 }
 
 static void test_sender_memory(uint32_t history) {
-    const gozdrit_sender_config config = {SESSION, history, 0, 0, 1};
+    const gozdrit_sender_config config = {.session = SESSION, .history = history, .repeats = 1};
     const long before = held;
-    gozdrit_sender sender = {NULL, false};
+    gozdrit_sender sender = {NULL, 0};
     for (long given = 0; !sender.held && given < 100; given++) {
         left = given;
         const int32_t number = gozdrit_sender_new(&config, &sender);
@@ -97,9 +126,10 @@ static void test_sender_memory(uint32_t history) {
 }
 
 static void test_receiver_memory(uint32_t window) {
-    const gozdrit_receiver_config config = {SESSION, 100, 20, window, 2, 0};
+    const gozdrit_receiver_config config = {
+        .session = SESSION, .patience = 100, .retry = 20, .window = window, .nacks = 2};
     const long before = held;
-    gozdrit_receiver receiver = {NULL, false};
+    gozdrit_receiver receiver = {NULL, 0};
     for (long given = 0; !receiver.held && given < 100; given++) {
         left = given;
         const int32_t number = gozdrit_receiver_new(&config, &receiver);
@@ -117,6 +147,7 @@ static void test_receiver_memory(uint32_t window) {
 }
 
 void test_memory(void) {
+    test_calls_without_end();
     test_sender_memory(64);
     test_sender_memory(GOZDRIT_MAX_STORE);
     test_receiver_memory(64);

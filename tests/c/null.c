@@ -1,16 +1,21 @@
 /* Null pointers: each one is refused, whatever else is wrong with the call, but for those of a length or room of 0. */
 #include "checks.h"
 
-static gozdrit_sender sender = {NULL, false};
-static gozdrit_receiver receiver = {NULL, false};
+static gozdrit_sender sender = {NULL, 0};
+static gozdrit_receiver receiver = {NULL, 0};
 
 /* What the calls are lent, filled with a pattern. */
 static struct lent {
     gozdrit_sent sent;
-    gozdrit_taken taken;
+    gozdrit_heard heard;
+    gozdrit_told told;
     gozdrit_played played;
     gozdrit_source source;
-    gozdrit_place place;
+    gozdrit_sequence sequence;
+    gozdrit_moment moment;
+    gozdrit_receive_counts received;
+    gozdrit_send_counts counted;
+    gozdrit_packet packet;
     size_t length;
     uint32_t marked;
     uint8_t out[GOZDRIT_MAX_DATAGRAM];
@@ -18,23 +23,32 @@ static struct lent {
 
 /* Null comes before a handle that holds no end. */
 static void test_no_end(void) {
-    const gozdrit_header header = {0, {0}, {0}, 0, 0, 0, 0, 0};
+    const gozdrit_header header = {.timestamp = 0};
     ANSWERS(GOZDRIT_NULL, gozdrit_send(&sender, &header, NULL, 1, 0, &l.sent, l.out, sizeof l.out));
-    ANSWERS(GOZDRIT_NULL, gozdrit_on_feedback(&sender, NULL, 1, &l.marked));
-    ANSWERS(GOZDRIT_NULL, gozdrit_next_repair(&sender, NULL, l.out, sizeof l.out));
-    ANSWERS(GOZDRIT_NULL, gozdrit_on_media(&receiver, NULL, 1, 0, &l.taken));
+    ANSWERS(GOZDRIT_NULL, gozdrit_feedback(&sender, NULL, 1, &l.told));
+    ANSWERS(GOZDRIT_NULL, gozdrit_retransmit(&sender, NULL, l.out, sizeof l.out));
+    ANSWERS(GOZDRIT_NULL, gozdrit_mark_last(&sender, NULL));
+    ANSWERS(GOZDRIT_NULL, gozdrit_sender_counts(&sender, NULL));
+    ANSWERS(GOZDRIT_NULL, gozdrit_receive(&receiver, NULL, 1, 0, &l.heard));
     ANSWERS(GOZDRIT_NULL, gozdrit_play(&receiver, 0, &l.played, NULL, sizeof l.out));
-    ANSWERS(GOZDRIT_NULL, gozdrit_ask(&receiver, 0, NULL, l.out, sizeof l.out));
+    ANSWERS(GOZDRIT_NULL, gozdrit_nack(&receiver, 0, 1, NULL, l.out, sizeof l.out));
     ANSWERS(GOZDRIT_NULL, gozdrit_missing(&receiver, NULL));
-    ANSWERS(GOZDRIT_NO_END, gozdrit_on_feedback(&sender, NULL, 0, &l.marked));
-    ANSWERS(GOZDRIT_NO_END, gozdrit_on_media(&receiver, NULL, 0, 0, &l.taken));
-    ANSWERS(GOZDRIT_NO_END, gozdrit_ask(&receiver, 0, &l.length, NULL, 0));
+    ANSWERS(GOZDRIT_NULL, gozdrit_next_moment(&receiver, NULL));
+    ANSWERS(GOZDRIT_NULL, gozdrit_receiver_counts(&receiver, NULL));
+    ANSWERS(GOZDRIT_NO_END, gozdrit_feedback(&sender, NULL, 0, &l.told));
+    ANSWERS(GOZDRIT_NO_END, gozdrit_retransmit(&sender, &l.sent, NULL, 0));
+    ANSWERS(GOZDRIT_NO_END, gozdrit_receive(&receiver, NULL, 0, 0, &l.heard));
+    ANSWERS(GOZDRIT_NO_END, gozdrit_play(&receiver, 0, &l.played, NULL, 0));
+    ANSWERS(GOZDRIT_NO_END, gozdrit_nack(&receiver, 0, 1, &l.length, NULL, 0));
     CHECK(UNTOUCHED(l));
 }
 
 static void test_new(void) {
-    const gozdrit_sender_config sending = {SESSION, 4, 0, 0, 1};
-    const gozdrit_receiver_config receiving = {SESSION, 100, 20, 4, 2, 0};
+    const gozdrit_sender_config sending = {.session = SESSION, .history = 4, .repeats = 1};
+    const gozdrit_receiver_config receiving = {
+        .session = SESSION, .patience = 100, .retry = 20, .window = 4, .nacks = 2};
+    ANSWERS(GOZDRIT_NULL, gozdrit_sender_defaults(NULL));
+    ANSWERS(GOZDRIT_NULL, gozdrit_receiver_defaults(NULL));
     ANSWERS(GOZDRIT_NULL, gozdrit_sender_new(NULL, &sender));
     ANSWERS(GOZDRIT_NULL, gozdrit_sender_new(&sending, NULL));
     ANSWERS(GOZDRIT_NULL, gozdrit_sender_new(NULL, NULL));
@@ -43,7 +57,7 @@ static void test_new(void) {
     ANSWERS(GOZDRIT_NULL, gozdrit_receiver_new(NULL, NULL));
     ANSWERS(GOZDRIT_NULL, gozdrit_sender_free(NULL));
     ANSWERS(GOZDRIT_NULL, gozdrit_receiver_free(NULL));
-    CHECK(!sender.held && sender.at == NULL && !receiver.held && receiver.at == NULL);
+    CHECK(sender.held == 0 && sender.at == NULL && receiver.held == 0 && receiver.at == NULL);
     ANSWERS(GOZDRIT_OK, gozdrit_sender_new(&sending, &sender));
     ANSWERS(GOZDRIT_OK, gozdrit_receiver_new(&receiving, &receiver));
     /* null comes before held */
@@ -53,7 +67,7 @@ static void test_new(void) {
 
 static void test_sending(void) {
     static const uint8_t octets[GOZDRIT_MAX_PAYLOAD + 1];
-    const gozdrit_header header = {0, {0}, {0}, 0, 0, 0, 0, 0};
+    const gozdrit_header header = {.timestamp = 0};
     ANSWERS(GOZDRIT_NULL, gozdrit_send(NULL, &header, octets, 1, 0, &l.sent, l.out, sizeof l.out));
     ANSWERS(GOZDRIT_NULL, gozdrit_send(&sender, NULL, octets, 1, 0, &l.sent, l.out, sizeof l.out));
     ANSWERS(GOZDRIT_NULL, gozdrit_send(&sender, &header, NULL, 1, 0, &l.sent, l.out, sizeof l.out));
@@ -63,46 +77,94 @@ static void test_sending(void) {
     ANSWERS(GOZDRIT_NULL, gozdrit_send(&sender, &header, octets, sizeof octets, 0, &l.sent, NULL, 1));
     ANSWERS(GOZDRIT_TOO_LARGE, gozdrit_send(&sender, &header, octets, sizeof octets, 0, &l.sent, NULL, 0));
     ANSWERS(GOZDRIT_NO_ROOM, gozdrit_send(&sender, &header, octets, 1, 0, &l.sent, NULL, 0));
-    ANSWERS(GOZDRIT_NULL, gozdrit_on_feedback(NULL, octets, 1, &l.marked));
-    ANSWERS(GOZDRIT_NULL, gozdrit_on_feedback(&sender, NULL, 1, &l.marked));
-    ANSWERS(GOZDRIT_NULL, gozdrit_on_feedback(&sender, octets, 1, NULL));
-    ANSWERS(GOZDRIT_NULL, gozdrit_next_repair(NULL, &l.sent, l.out, sizeof l.out));
-    ANSWERS(GOZDRIT_NULL, gozdrit_next_repair(&sender, NULL, l.out, sizeof l.out));
-    ANSWERS(GOZDRIT_NULL, gozdrit_next_repair(&sender, &l.sent, NULL, 1));
-    ANSWERS(GOZDRIT_NULL, gozdrit_next_repair(&sender, &l.sent, NULL, sizeof l.out));
-    ANSWERS(GOZDRIT_NO_ROOM, gozdrit_next_repair(&sender, &l.sent, NULL, 0));
-    ANSWERS(GOZDRIT_FEEDBACK_SHORT, gozdrit_on_feedback(&sender, NULL, 0, &l.marked));
+    ANSWERS(GOZDRIT_NO_ROOM, gozdrit_send(&sender, &header, NULL, 0, 0, &l.sent, NULL, 0));
+    ANSWERS(GOZDRIT_NULL, gozdrit_feedback(NULL, octets, 1, &l.told));
+    ANSWERS(GOZDRIT_NULL, gozdrit_feedback(&sender, NULL, 1, &l.told));
+    ANSWERS(GOZDRIT_NULL, gozdrit_feedback(&sender, octets, 1, NULL));
+    ANSWERS(GOZDRIT_NULL, gozdrit_retransmit(NULL, &l.sent, l.out, sizeof l.out));
+    ANSWERS(GOZDRIT_NULL, gozdrit_retransmit(&sender, NULL, l.out, sizeof l.out));
+    ANSWERS(GOZDRIT_NULL, gozdrit_retransmit(&sender, &l.sent, NULL, 1));
+    ANSWERS(GOZDRIT_NULL, gozdrit_retransmit(&sender, &l.sent, NULL, sizeof l.out));
+    ANSWERS(GOZDRIT_NULL, gozdrit_mark_last(NULL, &l.marked));
+    ANSWERS(GOZDRIT_NULL, gozdrit_mark_last(&sender, NULL));
+    ANSWERS(GOZDRIT_NULL, gozdrit_sender_counts(NULL, &l.counted));
+    ANSWERS(GOZDRIT_NULL, gozdrit_sender_counts(&sender, NULL));
     CHECK(UNTOUCHED(l));
-    /* nothing was sent so far */
+    /* nothing was sent so far, and no datagram was heard */
+    CHECK(is_counted_sent(&sender, (gozdrit_send_counts){.sent = 0}));
     ANSWERS(GOZDRIT_OK, gozdrit_send(&sender, &header, NULL, 0, 0, &l.sent, l.out, sizeof l.out));
-    CHECK(l.sent.place == 65536 && l.sent.length == 12);
+    CHECK(l.sent.sequence == 65536 && l.sent.length == 12);
 }
 
 static void test_receiving(void) {
     static const uint8_t octets[12];
-    ANSWERS(GOZDRIT_NULL, gozdrit_on_media(NULL, octets, sizeof octets, 0, &l.taken));
-    ANSWERS(GOZDRIT_NULL, gozdrit_on_media(&receiver, NULL, 1, 0, &l.taken));
-    ANSWERS(GOZDRIT_NULL, gozdrit_on_media(&receiver, octets, sizeof octets, 0, NULL));
+    ANSWERS(GOZDRIT_NULL, gozdrit_receive(NULL, octets, sizeof octets, 0, &l.heard));
+    ANSWERS(GOZDRIT_NULL, gozdrit_receive(&receiver, NULL, 1, 0, &l.heard));
+    ANSWERS(GOZDRIT_NULL, gozdrit_receive(&receiver, octets, sizeof octets, 0, NULL));
     ANSWERS(GOZDRIT_NULL, gozdrit_play(NULL, 0, &l.played, l.out, sizeof l.out));
     ANSWERS(GOZDRIT_NULL, gozdrit_play(&receiver, 0, NULL, l.out, sizeof l.out));
     ANSWERS(GOZDRIT_NULL, gozdrit_play(&receiver, 0, &l.played, NULL, 1));
     ANSWERS(GOZDRIT_NULL, gozdrit_play(&receiver, 0, &l.played, NULL, sizeof l.out));
-    ANSWERS(GOZDRIT_NO_ROOM, gozdrit_play(&receiver, 0, &l.played, NULL, 0));
-    ANSWERS(GOZDRIT_NULL, gozdrit_ask(NULL, 0, &l.length, l.out, sizeof l.out));
-    ANSWERS(GOZDRIT_NULL, gozdrit_ask(&receiver, 0, NULL, l.out, sizeof l.out));
-    ANSWERS(GOZDRIT_NULL, gozdrit_ask(&receiver, 0, &l.length, NULL, 1));
-    ANSWERS(GOZDRIT_NULL, gozdrit_ask(&receiver, 0, &l.length, NULL, sizeof l.out));
-    ANSWERS(GOZDRIT_NO_ROOM, gozdrit_ask(&receiver, 0, &l.length, NULL, 0));
+    ANSWERS(GOZDRIT_NULL, gozdrit_nack(NULL, 0, 1, &l.length, l.out, sizeof l.out));
+    ANSWERS(GOZDRIT_NULL, gozdrit_nack(&receiver, 0, 1, NULL, l.out, sizeof l.out));
+    ANSWERS(GOZDRIT_NULL, gozdrit_nack(&receiver, 0, 1, &l.length, NULL, 1));
+    ANSWERS(GOZDRIT_NULL, gozdrit_nack(&receiver, 0, 0, &l.length, NULL, sizeof l.out));
+    ANSWERS(GOZDRIT_NULL, gozdrit_begin(NULL, 1));
+    ANSWERS(GOZDRIT_NULL, gozdrit_restart(NULL));
+    ANSWERS(GOZDRIT_NULL, gozdrit_set_times(NULL, 1, 1, 1));
+    ANSWERS(GOZDRIT_NULL, gozdrit_set_times(NULL, 1, 1, 0));
+    CHECK(UNTOUCHED(l));
+    CHECK(is_counted(&receiver, (gozdrit_receive_counts){.media = 0}));
+}
+
+static void test_asking(void) {
     ANSWERS(GOZDRIT_NULL, gozdrit_missing(NULL, &l.length));
     ANSWERS(GOZDRIT_NULL, gozdrit_missing(&receiver, NULL));
-    ANSWERS(GOZDRIT_NULL, gozdrit_repair_source(NULL, &l.source));
-    ANSWERS(GOZDRIT_NULL, gozdrit_repair_source(&receiver, NULL));
-    ANSWERS(GOZDRIT_NULL, gozdrit_cursor(NULL, &l.place));
-    ANSWERS(GOZDRIT_NULL, gozdrit_cursor(&receiver, NULL));
-    ANSWERS(GOZDRIT_NULL, gozdrit_highest(NULL, &l.place));
-    ANSWERS(GOZDRIT_NULL, gozdrit_highest(&receiver, NULL));
-    ANSWERS(GOZDRIT_RTP_SHORT, gozdrit_on_media(&receiver, NULL, 0, 0, &l.taken));
+    ANSWERS(GOZDRIT_NULL, gozdrit_rtx_source(NULL, &l.source));
+    ANSWERS(GOZDRIT_NULL, gozdrit_rtx_source(&receiver, NULL));
+    ANSWERS(GOZDRIT_NULL, gozdrit_next_sequence(NULL, &l.sequence));
+    ANSWERS(GOZDRIT_NULL, gozdrit_next_sequence(&receiver, NULL));
+    ANSWERS(GOZDRIT_NULL, gozdrit_highest_sequence(NULL, &l.sequence));
+    ANSWERS(GOZDRIT_NULL, gozdrit_highest_sequence(&receiver, NULL));
+    ANSWERS(GOZDRIT_NULL, gozdrit_next_moment(NULL, &l.moment));
+    ANSWERS(GOZDRIT_NULL, gozdrit_next_moment(&receiver, NULL));
+    ANSWERS(GOZDRIT_NULL, gozdrit_receiver_counts(NULL, &l.received));
+    ANSWERS(GOZDRIT_NULL, gozdrit_receiver_counts(&receiver, NULL));
     CHECK(UNTOUCHED(l));
+}
+
+/* A packet's pointers, also where its payload type is bad. */
+static void test_packet(void) {
+    static const uint8_t octets[12] = {0x80};
+    const gozdrit_packet good = {.payload_type = 96}, bad = {.payload_type = 255};
+    ANSWERS(GOZDRIT_NULL, gozdrit_rtp_read(NULL, 1, &l.packet));
+    ANSWERS(GOZDRIT_NULL, gozdrit_rtp_read(octets, sizeof octets, NULL));
+    ANSWERS(GOZDRIT_NULL, gozdrit_rtp_read(NULL, 0, NULL));
+    ANSWERS(GOZDRIT_RTP_SHORT, gozdrit_rtp_read(NULL, 0, &l.packet));
+    ANSWERS(GOZDRIT_NULL, gozdrit_rtp_write(NULL, octets, 1, &l.length, l.out, sizeof l.out));
+    ANSWERS(GOZDRIT_NULL, gozdrit_rtp_write(&good, NULL, 1, &l.length, l.out, sizeof l.out));
+    ANSWERS(GOZDRIT_NULL, gozdrit_rtp_write(&good, octets, 1, NULL, l.out, sizeof l.out));
+    ANSWERS(GOZDRIT_NULL, gozdrit_rtp_write(&good, octets, 1, &l.length, NULL, 1));
+    ANSWERS(GOZDRIT_NULL, gozdrit_rtp_write(&bad, NULL, 1, &l.length, l.out, sizeof l.out));
+    ANSWERS(GOZDRIT_NULL, gozdrit_rtp_write(&bad, octets, 1, NULL, l.out, 0));
+    ANSWERS(GOZDRIT_BAD_TYPE, gozdrit_rtp_write(&bad, NULL, 0, &l.length, l.out, sizeof l.out));
+    ANSWERS(GOZDRIT_NO_ROOM, gozdrit_rtp_write(&good, NULL, 0, &l.length, NULL, 0));
+    CHECK(UNTOUCHED(l));
+}
+
+/* An empty datagram behind a null pointer is a datagram, and where nothing is to be written no buffer is wanted. */
+static void test_nothing(void) {
+    ANSWERS(GOZDRIT_OK, gozdrit_feedback(&sender, NULL, 0, &l.told));
+    CHECK(l.told.kind == GOZDRIT_MEDIA && l.told.refusal == 0);
+    ANSWERS(GOZDRIT_OK, gozdrit_retransmit(&sender, &l.sent, NULL, 0));
+    CHECK(l.sent.length == 0);
+    ANSWERS(GOZDRIT_OK, gozdrit_receive(&receiver, NULL, 0, 0, &l.heard));
+    CHECK(l.heard.kind == GOZDRIT_NOT_TAKEN && l.heard.refusal == GOZDRIT_RTP_SHORT);
+    ANSWERS(GOZDRIT_OK, gozdrit_play(&receiver, 0, &l.played, NULL, 0));
+    CHECK(l.played.kind == GOZDRIT_WAIT);
+    ANSWERS(GOZDRIT_OK, gozdrit_nack(&receiver, 0, GOZDRIT_MOST, &l.length, NULL, 0));
+    CHECK(l.length == 0);
+    CHECK(is_counted(&receiver, (gozdrit_receive_counts){.refused = 1}));
 }
 
 void test_null(void) {
@@ -110,14 +172,11 @@ void test_null(void) {
     test_no_end();
     test_new();
     test_receiving();
+    test_asking();
+    test_packet();
     test_sending();
     FILL(l);
-    ANSWERS(GOZDRIT_NULL, gozdrit_refusal_name(1, NULL, GOZDRIT_MAX_NAME, &l.length));
-    ANSWERS(GOZDRIT_NULL, gozdrit_refusal_name(1, NULL, 1, &l.length));
-    ANSWERS(GOZDRIT_NULL, gozdrit_refusal_name(1, NULL, 0, NULL));
-    ANSWERS(GOZDRIT_NO_ROOM, gozdrit_refusal_name(1, NULL, 0, &l.length));
-    ANSWERS(GOZDRIT_NULL, gozdrit_refusal_name(1, l.out, sizeof l.out, NULL));
-    CHECK(UNTOUCHED(l));
+    test_nothing();
     ANSWERS(GOZDRIT_OK, gozdrit_sender_free(&sender));
     ANSWERS(GOZDRIT_OK, gozdrit_receiver_free(&receiver));
 }

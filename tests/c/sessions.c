@@ -6,11 +6,12 @@ enum { PACKETS = 2000, ROUND = 8 };
 typedef struct session {
     gozdrit_sender sender;
     gozdrit_receiver receiver;
-    uint64_t first;   /* the place of the first packet */
+    uint64_t first;   /* the extended sequence number of the first packet */
     uint32_t drawn;   /* the state of the generator of losses */
     uint32_t loss;    /* of 1000 datagrams so many are lost */
-    uint64_t now;
-    uint32_t played, repairs;
+    bool is_last_lost;
+    uint64_t now, octets;
+    uint32_t played, repairs, nacks, nacked;
 } session;
 
 static bool is_lost(session *s) {
@@ -36,41 +37,50 @@ static size_t content(uint32_t index, gozdrit_header *header, uint8_t *payload) 
     return length;
 }
 
-/* Sends the packet of an index; the first and the last one are never lost. */
+/* Sends the packet of an index; the first one is never lost, and the last one is or is not. */
 static void send_packet(session *s, uint32_t index) {
     gozdrit_header header;
     gozdrit_sent sent;
-    gozdrit_taken taken;
     uint8_t payload[GOZDRIT_MAX_PAYLOAD], out[GOZDRIT_MAX_DATAGRAM];
     const size_t length = content(index, &header, payload);
     const uint8_t padding = length > 0 && index % 5 == 0 ? (uint8_t)(index % 256) : 0;
     ANSWERS(GOZDRIT_OK, gozdrit_send(&s->sender, &header, payload, length, padding, &sent, out, sizeof out));
-    CHECK(sent.place == s->first + index);
-    if (is_lost(s) && index > 0 && index < PACKETS - 1) return;
-    ANSWERS(GOZDRIT_OK, gozdrit_on_media(&s->receiver, out, sent.length, s->now, &taken));
-    CHECK(taken.place == sent.place && taken.overrun == 0);
+    CHECK(sent.sequence == s->first + index);
+    s->octets += length;
+    if (index == PACKETS - 1 ? s->is_last_lost : is_lost(s) && index > 0) return;
+    HEARS(&s->receiver, out, sent.length, s->now, MEDIA(sent.sequence));
 }
 
-/* The receiver asks, and the sender retransmits. */
+/* The receiver names what it misses, and the sender hears it. */
+static void ask(session *s) {
+    uint8_t out[GOZDRIT_MAX_NACK];
+    size_t length;
+    gozdrit_told told;
+    for (;;) {
+        ANSWERS(GOZDRIT_OK, gozdrit_nack(&s->receiver, s->now, 100, &length, out, sizeof out));
+        if (length == 0) return;
+        if (is_lost(s)) continue;
+        ANSWERS(GOZDRIT_OK, gozdrit_feedback(&s->sender, out, length, &told));
+        CHECK(told.kind == GOZDRIT_FEEDBACK && told.nacks == 1 && told.others == 0 && told.numbers <= 100);
+        CHECK(told.marked > 0 && told.marked <= told.numbers && told.unknown == 0 && told.exhausted == 0);
+        s->nacks++;
+        s->nacked += told.numbers;
+    }
+}
+
+/* The sender retransmits, and the receiver takes it, once each. */
 static void repair(session *s) {
     uint8_t out[GOZDRIT_MAX_DATAGRAM];
-    size_t length;
-    uint32_t marked;
-    for (;;) {
-        ANSWERS(GOZDRIT_OK, gozdrit_ask(&s->receiver, s->now, &length, out, sizeof out));
-        if (length == 0) break;
-        if (!is_lost(s)) ANSWERS(GOZDRIT_OK, gozdrit_on_feedback(&s->sender, out, length, &marked));
-    }
     for (;;) {
         gozdrit_sent sent;
-        gozdrit_taken taken;
-        ANSWERS(GOZDRIT_OK, gozdrit_next_repair(&s->sender, &sent, out, sizeof out));
+        gozdrit_heard heard;
+        ANSWERS(GOZDRIT_OK, gozdrit_retransmit(&s->sender, &sent, out, sizeof out));
         if (sent.length == 0) return;
         s->repairs++;
         CHECK((out[0] & 0x20) == 0); /* it has no padding, whether the original had or not */
         if (is_lost(s)) continue;
-        ANSWERS(GOZDRIT_OK, gozdrit_on_media(&s->receiver, out, sent.length, s->now, &taken));
-        CHECK(taken.place == sent.place && taken.overrun == 0);
+        ANSWERS(GOZDRIT_OK, gozdrit_receive(&s->receiver, out, sent.length, s->now, &heard));
+        CHECK(heard.kind == GOZDRIT_RETRANSMISSION && heard.sequence == sent.sequence && heard.overrun == 0);
     }
 }
 
@@ -83,7 +93,7 @@ static void play(session *s) {
         ANSWERS(GOZDRIT_OK, gozdrit_play(&s->receiver, s->now, &played, payload, sizeof payload));
         if (played.kind == GOZDRIT_WAIT) return;
         const size_t length = content(s->played, &sent, expected);
-        CHECK(played.kind == GOZDRIT_PACKET && played.place == s->first + s->played);
+        CHECK(played.kind == GOZDRIT_PACKET && played.sequence == s->first + s->played);
         CHECK(played.length == length && memcmp(payload, expected, length) == 0);
         CHECK(came->timestamp == sent.timestamp && came->marker == sent.marker);
         CHECK(came->source_count == sent.source_count);
@@ -95,34 +105,80 @@ static void play(session *s) {
     }
 }
 
-/* A run with so many of 1000 datagrams lost, and a receiver that learns or does not. */
-static void run(uint32_t loss, uint8_t learns, uint32_t seed) {
-    const gozdrit_sender_config sender = {SESSION, 1024, 65000, 65500, 255};
-    const gozdrit_receiver_config receiver = {SESSION, 1000000, 1, 1024, 255, learns};
-    session s = {{NULL, false}, {NULL, false}, 65536 + 65000, seed, loss, 0, 0, 0};
-    size_t missing;
-    ANSWERS(GOZDRIT_OK, gozdrit_sender_new(&sender, &s.sender));
-    ANSWERS(GOZDRIT_OK, gozdrit_receiver_new(&receiver, &s.receiver));
-    for (uint32_t i = 0; i < PACKETS; i++, s.now++) {
-        send_packet(&s, i);
-        if (i % ROUND == 0) repair(&s);
-        play(&s);
+/* The moment to go on at, where nothing comes until then: all that could be done now was done. */
+static uint64_t next_moment(const session *s) {
+    gozdrit_moment moment;
+    ANSWERS(GOZDRIT_OK, gozdrit_next_moment(&s->receiver, &moment));
+    if (!moment.known) return s->now + 1;
+    CHECK(moment.moment > s->now);
+    return moment.moment;
+}
+
+/* A sender that falls silent marks its last packet, as long as the receiver does not know of it. */
+static void mark_last(session *s) {
+    gozdrit_sequence highest;
+    uint32_t marked;
+    ANSWERS(GOZDRIT_OK, gozdrit_highest_sequence(&s->receiver, &highest));
+    if (highest.sequence == s->first + PACKETS - 1) return;
+    ANSWERS(GOZDRIT_OK, gozdrit_mark_last(&s->sender, &marked));
+    CHECK(marked == 1);
+}
+
+/* All packets are sent, and then all that is lost is repaired, to the last one. */
+static void run_to_end(session *s) {
+    for (uint32_t i = 0; i < PACKETS; i++, s->now++) {
+        send_packet(s, i);
+        if (i % ROUND == 0) ask(s), repair(s);
+        play(s);
     }
-    for (int i = 0; i < 1000 && s.played < PACKETS; i++, s.now++) {
-        repair(&s);
-        play(&s);
+    for (int i = 0; i < 1000 && s->played < PACKETS; i++) {
+        ask(s);
+        mark_last(s);
+        play(s);
+        s->now = next_moment(s);
+        repair(s);
+        play(s);
     }
-    CHECK(s.played == PACKETS);
+    CHECK(s->played == PACKETS);
+}
+
+static void is_all_counted(const session *s) {
+    gozdrit_receive_counts c;
+    gozdrit_send_counts sent;
+    ANSWERS(GOZDRIT_OK, gozdrit_receiver_counts(&s->receiver, &c));
+    ANSWERS(GOZDRIT_OK, gozdrit_sender_counts(&s->sender, &sent));
+    CHECK(c.media + c.retransmissions == PACKETS && c.played == PACKETS && c.gaps == 0);
+    CHECK(c.duplicate + c.late + c.far + c.refused + c.rtcp + c.held_back + c.restarts + c.overrun + c.abandoned == 0);
+    CHECK(c.nacks >= s->nacks && c.nacked >= s->nacked);
+    CHECK(sent.sent == PACKETS && sent.octets == s->octets && sent.retransmissions == s->repairs);
+    CHECK(sent.nacks == s->nacks && sent.numbers == s->nacked);
+    CHECK(sent.others + sent.unknown + sent.exhausted + sent.media + sent.reports + sent.refused == 0);
+}
+
+/* A run with so many of 1000 datagrams lost, a receiver that learns or does not, and this type of the media. */
+static void run(uint32_t loss, uint8_t learns, uint32_t seed, uint8_t type) {
+    gozdrit_sender_config sending;
+    gozdrit_receiver_config receiving;
+    session s = {.first = 65536 + 65000, .drawn = seed, .loss = loss, .is_last_lost = loss > 0 && !learns};
+    const gozdrit_session streams = {0x11111111, 0x22222222, 0x33333333, type, 97, type < 96};
+    ANSWERS(GOZDRIT_OK, gozdrit_sender_defaults(&sending));
+    ANSWERS(GOZDRIT_OK, gozdrit_receiver_defaults(&receiving));
+    sending.session = streams, sending.first = 65000, sending.rtx_first = 65500, sending.repeats = 255;
+    receiving.session = streams, receiving.patience = 1000000, receiving.window = 1024, receiving.nacks = 255;
+    receiving.retry = 3, receiving.delay = 2, receiving.learns = learns;
+    ANSWERS(GOZDRIT_OK, gozdrit_sender_new(&sending, &s.sender));
+    ANSWERS(GOZDRIT_OK, gozdrit_receiver_new(&receiving, &s.receiver));
+    run_to_end(&s);
     CHECK((s.repairs > 0) == (loss > 0));
-    ANSWERS(GOZDRIT_OK, gozdrit_missing(&s.receiver, &missing));
-    CHECK(missing == 0);
+    TELLS(&s.receiver, s.first + PACKETS, s.first + PACKETS - 1, 0);
+    is_all_counted(&s);
     ANSWERS(GOZDRIT_OK, gozdrit_sender_free(&s.sender));
     ANSWERS(GOZDRIT_OK, gozdrit_receiver_free(&s.receiver));
 }
 
 void test_sessions(void) {
-    run(0, 0, 1);
-    run(100, 0, 2);
-    run(300, 1, 3);
-    run(500, 0, 4);
+    run(0, 0, 1, 96);
+    run(100, 0, 2, 33);
+    run(300, 1, 3, 127);
+    run(500, 0, 4, 96);
 }

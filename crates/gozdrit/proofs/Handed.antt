@@ -96,6 +96,15 @@ module _ (k1 k2 k3 : Back) {M : Type 1} {𝓤 : Ura M} {𝓛 : Logic 𝓤} {K : 
       fpick t (λ vss. fsplit t $ feq_l t (λ e. fsplit t $ code_had t r.0 vss.0 (λ e0 g. move t (1 ∷ []) $ fsplit t $ back_had t k1 r.1 vss.1.0 (λ e1 f1. move t (1 ∷ []) $ fsplit t $ back_had t k2 r.2 vss.1.1.0 (λ e2 f2. move t (1 ∷ []) $ fsplit t $ back_had t k3 r.3 vss.1.1.1.0 (λ e3 f3. move t (1 ∷ []) $ drop t $ move t (3 ∷ 2 ∷ 1 ∷ 0 ∷ []) $
       k (ap only (e ∙ (λ j. vstruct (of_list (e0 j ++ (e1 j ++ (e2 j ++ (e3 j ++ []))))) ∷ []))) (as_fields (ty_int w32 ∷ back_ty k1 ∷ back_ty k2 ∷ back_ty k3 ∷ []) (code_val r.0 ∷ back_val k1 r.1 ∷ back_val k2 r.2 ∷ back_val k3 r.3 ∷ []) (g, (back-Good k1 r.1 f1, (back-Good k2 r.2 f2, (back-Good k3 r.3 f3, tt))))) g))))))
 
+module _ (k1 k2 k3 k4 : Back) {M : Type 1} {𝓤 : Ura M} {𝓛 : Logic 𝓤} {K : Type 0} {Γ : List (Item 𝓤)} {G : Goal 𝓤 𝓛.H} where
+  pub answer4_had : K → (r : (Tuple (i32 ∷ row k1 ∷ row k2 ∷ row k3 ∷ row k4 ∷ [])).Denot) (v : Val)
+      → (v ≡ answer_val r.0 (back_val k1 r.1 ∷ back_val k2 r.2 ∷ back_val k3 r.3 ∷ back_val k4 r.4 ∷ []) → AnswerGood (back_ty k1 ∷ back_ty k2 ∷ back_ty k3 ∷ back_ty k4 ∷ []) r.0 (back_val k1 r.1 ∷ back_val k2 r.2 ∷ back_val k3 r.3 ∷ back_val k4 r.4 ∷ []) → Good (ty_int w32) (code_val r.0)
+      → Seq K 𝓛 (‵ (i32.own_val r.0 (code_val r.0 ∷ [])) ∷ ‵ (lies k1 r.1) ∷ ‵ (lies k2 r.2) ∷ ‵ (lies k3 r.3) ∷ ‵ (lies k4 r.4) ∷ Γ) G)
+      → Seq K 𝓛 (‵ ((Tuple (i32 ∷ row k1 ∷ row k2 ∷ row k3 ∷ row k4 ∷ [])).own_val r (v ∷ [])) ∷ Γ) G
+  answer4_had t r v k =
+      fpick t (λ vss. fsplit t $ feq_l t (λ e. fsplit t $ code_had t r.0 vss.0 (λ e0 g. move t (1 ∷ []) $ fsplit t $ back_had t k1 r.1 vss.1.0 (λ e1 f1. move t (1 ∷ []) $ fsplit t $ back_had t k2 r.2 vss.1.1.0 (λ e2 f2. move t (1 ∷ []) $ fsplit t $ back_had t k3 r.3 vss.1.1.1.0 (λ e3 f3. move t (1 ∷ []) $ fsplit t $ back_had t k4 r.4 vss.1.1.1.1.0 (λ e4 f4. move t (1 ∷ []) $ drop t $ move t (4 ∷ 3 ∷ 2 ∷ 1 ∷ 0 ∷ []) $
+      k (ap only (e ∙ (λ j. vstruct (of_list (e0 j ++ (e1 j ++ (e2 j ++ (e3 j ++ (e4 j ++ [])))))) ∷ []))) (as_fields (ty_int w32 ∷ back_ty k1 ∷ back_ty k2 ∷ back_ty k3 ∷ back_ty k4 ∷ []) (code_val r.0 ∷ back_val k1 r.1 ∷ back_val k2 r.2 ∷ back_val k3 r.3 ∷ back_val k4 r.4 ∷ []) (g, (back-Good k1 r.1 f1, (back-Good k2 r.2 f2, (back-Good k3 r.3 f3, (back-Good k4 r.4 f4, tt)))))) g)))))))
+
 module _ (k1 k2 k3 k4 k5 : Back) {M : Type 1} {𝓤 : Ura M} {𝓛 : Logic 𝓤} {K : Type 0} {Γ : List (Item 𝓤)} {G : Goal 𝓤 𝓛.H} where
   pub answer5_had : K → (r : (Tuple (i32 ∷ row k1 ∷ row k2 ∷ row k3 ∷ row k4 ∷ row k5 ∷ [])).Denot) (v : Val)
       → (v ≡ answer_val r.0 (back_val k1 r.1 ∷ back_val k2 r.2 ∷ back_val k3 r.3 ∷ back_val k4 r.4 ∷ back_val k5 r.5 ∷ []) → AnswerGood (back_ty k1 ∷ back_ty k2 ∷ back_ty k3 ∷ back_ty k4 ∷ back_ty k5 ∷ []) r.0 (back_val k1 r.1 ∷ back_val k2 r.2 ∷ back_val k3 r.3 ∷ back_val k4 r.4 ∷ back_val k5 r.5 ∷ []) → Good (ty_int w32) (code_val r.0)

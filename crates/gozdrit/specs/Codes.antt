@@ -21,3 +21,18 @@ no_room = pos 75
 
 abbrev pub null_pointer : ℤ  -- a pointer is null where something has to lie
 null_pointer = pos 76
+
+abbrev pub has_started : ℤ  -- a packet was taken already
+has_started = pos 40
+
+abbrev pub bad_limit : ℤ  -- a number is out of its bounds
+bad_limit = pos 53
+
+abbrev pub too_long : ℤ  -- a payload or an extension is above its largest
+too_long = pos 37
+
+abbrev pub padded_empty : ℤ  -- padding is wanted, and the payload is empty
+padded_empty = pos 44
+
+abbrev pub bad_type : ℤ  -- a payload type is out of its bounds
+bad_type = pos 51

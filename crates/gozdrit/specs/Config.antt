@@ -1,17 +1,23 @@
 -- The configurations that C says, and which of their checks fails first: the types (51), the SSRCs (52), and the limits
 -- of the end and of its store (53).
-use Rattle.std.specs.Prelude.{ℕ, ◌<◌, ◌≤◌, ◌==◌, not}
+use Rattle.std.specs.Prelude.{◌≡◌, ℕ, zero, suc, ◌<◌, ◌≤◌, ◌==◌, not}
 use Rattle.rtpwire.specs.declared.fault.ConfigFault.{ConfigFault}
 use Rattle.rtpwire.specs.declared.fault.ConfigFault.TheVariants.{BadType, SameSsrc, BadLimit}
-use Rattle.rtpwire.specs.Session.{Streams, HasTypes, HasSsrcs, streams}
+use Rattle.rtpwire.specs.Session.{Streams, HasTypes, HasAnyMediaType, HasSsrcs, streams}
 use Rattle.sender.specs.Config as sending
 use Rattle.receiver.specs.Config as receiving
+use Rattle.endpoint.specs.declared.probation.Probation.{Probation}
 use Rattle.gozdrit.specs.declared.config.SessionFields.{SessionFields}
 use Rattle.gozdrit.specs.declared.config.SenderFields.{SenderFields}
 use Rattle.gozdrit.specs.declared.config.ReceiverFields.{ReceiverFields}
 
 abbrev pub streams_of : SessionFields → Streams
-streams_of s = streams s.media_ssrc s.media_type s.repair_ssrc s.repair_type s.receiver_ssrc
+streams_of s = streams s.media_ssrc s.media_type s.rtx_ssrc s.rtx_type s.receiver_ssrc
+
+-- the payload types, of which that of the media may be a static one where it is said so
+abbrev pub HasTypesFor : (any : ℕ) → Streams → Type 0
+HasTypesFor zero s = HasTypes s
+HasTypesFor (suc n) s = HasAnyMediaType s
 
 -- a store keeps so many
 pub record IsCapacity (count : ℕ) : Type 0 where
@@ -19,26 +25,43 @@ pub record IsCapacity (count : ℕ) : Type 0 where
   pub most : count ≤ 8192
 
 -- the streams make a session
-pub record IsSession (s : Streams) : Type 0 where
-  pub types : HasTypes s
-  pub ssrcs : HasSsrcs s
+pub record IsSession (s : SessionFields) : Type 0 where
+  pub types : HasTypesFor s.any_media_type (streams_of s)
+  pub ssrcs : HasSsrcs (streams_of s)
 
 abbrev pub sender_config : SenderFields → sending.Config
-sender_config f = sending.config (streams_of f.session) f.first f.repair_first f.repeats
+sender_config f = sending.config_of (streams_of f.session) f.first f.rtx_first f.repeats (not (f.any_reporter == 0))
 
 pub record HasSenderLimits (f : SenderFields) : Type 0 where
   pub config : sending.IsConfig (sender_config f)
   pub history : IsCapacity f.history
+  pub reserved : f.reserved ≡ 0
 
 abbrev pub receiver_config : ReceiverFields → receiving.Config
-receiver_config f = receiving.config_of (streams_of f.session) f.patience f.retry f.asks (not (f.learns == 0))
+receiver_config f = receiving.config_with (streams_of f.session) f.patience f.delay f.retry f.nacks (not (f.learns == 0))
 
 pub record HasReceiverLimits (f : ReceiverFields) : Type 0 where
   pub config : receiving.IsConfig (receiver_config f)
   pub window : IsCapacity f.window
+  pub reserved : f.reserved ≡ 0
+
+-- a number, or the usual one in the place of 0
+abbrev pub or_usual : (usual number : ℕ) → ℕ
+or_usual usual zero = usual
+or_usual usual (suc n) = suc n
+
+-- the probation of a sequence number that has jumped (RFC 3550, appendix A.1)
+abbrev pub probation_of : ReceiverFields → Probation
+probation_of f =
+    record {
+      dropout = or_usual 3000 f.max_dropout;
+      misorder = or_usual 100 f.max_misorder;
+      ahead = or_usual 2 f.min_ahead;
+      behind = or_usual 256 f.min_behind;
+    }
 
 -- The first check that a configuration fails, of streams and limits.
-abbrev pub Fails : Streams → Type 0 → ConfigFault → Type 0
-Fails s Limits BadType = HasTypes s → ⊥
-Fails s Limits SameSsrc = HasTypes s × (HasSsrcs s → ⊥)
+abbrev pub Fails : SessionFields → Type 0 → ConfigFault → Type 0
+Fails s Limits BadType = HasTypesFor s.any_media_type (streams_of s) → ⊥
+Fails s Limits SameSsrc = HasTypesFor s.any_media_type (streams_of s) × (HasSsrcs (streams_of s) → ⊥)
 Fails s Limits BadLimit = IsSession s × (Limits → ⊥)

@@ -1,122 +1,176 @@
 -- What each export answers to what C lends it: what its call answers to the values (`Answers..`, each beside its end), or
 -- `null_pointer` where a pointer is null where something has to lie. What is lent to be read stays as it is.
 use Rattle.std.specs.Prelude.{◌≡◌, ℕ, ℤ, List, Option}
-use Rattle.sender.specs.Sender.{Sending}
-use Rattle.receiver.specs.Receiver.{Receiving}
-use Rattle.gozdrit.specs.Null.{Answers1, Answers2, Answers3, Answers5}
-use Rattle.gozdrit.specs.declared.header.Header.{Header}
-use Rattle.gozdrit.specs.declared.answers.KnownPlace.{KnownPlace}
+use Rattle.gozdrit.specs.Null.{Answers1, Answers2, Answers3, Answers4, Answers5}
+use Rattle.gozdrit.specs.declared.answers.KnownMoment.{KnownMoment}
+use Rattle.gozdrit.specs.declared.answers.KnownSequence.{KnownSequence}
 use Rattle.gozdrit.specs.declared.answers.KnownSource.{KnownSource}
-use Rattle.gozdrit.specs.declared.answers.PlayedPlace.{PlayedPlace}
-use Rattle.gozdrit.specs.declared.config.ReceiverFields.{ReceiverFields}
-use Rattle.gozdrit.specs.declared.receiver_handle.ReceiverHandle.{ReceiverHandle}
-use Rattle.gozdrit.specs.declared.config.SenderFields.{SenderFields}
-use Rattle.gozdrit.specs.declared.sender_handle.SenderHandle.{SenderHandle}
+use Rattle.gozdrit.specs.declared.answers.PlayedPacket.{PlayedPacket}
 use Rattle.gozdrit.specs.declared.answers.SentPacket.{SentPacket}
-use Rattle.gozdrit.specs.declared.answers.TakenPlace.{TakenPlace}
-use Rattle.gozdrit.specs.Codes.{null_pointer}
+use Rattle.gozdrit.specs.declared.config.ReceiverFields.{ReceiverFields}
+use Rattle.gozdrit.specs.declared.config.SenderFields.{SenderFields}
+use Rattle.gozdrit.specs.declared.counts.ReceiverCounts.{ReceiverCounts}
+use Rattle.gozdrit.specs.declared.counts.SenderCounts.{SenderCounts}
+use Rattle.gozdrit.specs.declared.handle.Handle.{Handle}
+use Rattle.gozdrit.specs.declared.header.Header.{Header}
+use Rattle.gozdrit.specs.declared.heard.HeardFields.{HeardFields}
+use Rattle.gozdrit.specs.declared.heard.ToldFields.{ToldFields}
+use Rattle.gozdrit.specs.declared.packets.PacketFields.{PacketFields}
+use Rattle.gozdrit.specs.Codes.{ok, null_pointer}
+use Rattle.gozdrit.specs.Defaults.{usual_receiver, usual_sender}
+use Rattle.gozdrit.specs.Ends.{Receiver, Sender}
 use Rattle.gozdrit.specs.Freeing.{AnswersFree}
-use Rattle.gozdrit.specs.Held.{sender_in, receiver_in}
-use Rattle.gozdrit.specs.Names.{AnswersName}
-use Rattle.gozdrit.specs.Reading.{AnswersMissing, AnswersSource, AnswersCursor, AnswersHighest}
-use Rattle.gozdrit.specs.Receiving.{AnswersReceiverNew, AnswersMedia, AnswersPlay, AnswersAsk}
-use Rattle.gozdrit.specs.Sending.{AnswersSenderNew, AnswersSend, AnswersFeedback, AnswersRepair}
+use Rattle.gozdrit.specs.Packets.{AnswersRead, AnswersWrite}
+use Rattle.gozdrit.specs.Reading.{AnswersMissing, AnswersSource, AnswersNext, AnswersHighest, AnswersMoment, AnswersReceiverCounts, AnswersSenderCounts}
+use Rattle.gozdrit.specs.Receiving.{AnswersReceiverNew, AnswersReceive, AnswersPlay, AnswersNack, AnswersBegin, AnswersRestart, AnswersTimes}
+use Rattle.gozdrit.specs.Sending.{AnswersSenderNew, AnswersSend, AnswersFeedback, AnswersRetransmit, AnswersMarkLast}
 
--- the end in a handle
-abbrev pub sender_of : SenderHandle → Option Sending
-sender_of h = sender_in h.handle.inside
+-- `gozdrit_sender_defaults`
+abbrev pub SenderDefaultsFor : Option SenderFields → ℤ → Option SenderFields → Type 0
+SenderDefaultsFor =
+    Answers1 null_pointer (λ config code config'.
+    (code ≡ ok) × (config' ≡ usual_sender))
 
-abbrev pub receiver_of : ReceiverHandle → Option Receiving
-receiver_of h = receiver_in h.handle.inside
+-- `gozdrit_receiver_defaults`
+abbrev pub ReceiverDefaultsFor : Option ReceiverFields → ℤ → Option ReceiverFields → Type 0
+ReceiverDefaultsFor =
+    Answers1 null_pointer (λ config code config'.
+    (code ≡ ok) × (config' ≡ usual_receiver))
 
 -- `gozdrit_sender_new`
-abbrev pub SenderNewFor : Option SenderFields → Option SenderHandle → ℤ → Option SenderFields → Option SenderHandle → Type 0
+abbrev pub SenderNewFor : Option SenderFields → Option (Handle Sender) → ℤ → Option SenderFields → Option (Handle Sender) → Type 0
 SenderNewFor =
     Answers2 null_pointer (λ config sender code config' sender'.
-    (config' ≡ config) × AnswersSenderNew config (sender_of sender) code (sender_of sender'))
+    (config' ≡ config) × AnswersSenderNew config sender.inside code sender'.inside)
 
 -- `gozdrit_sender_free`
-abbrev pub SenderFreeFor : Option SenderHandle → ℤ → Option SenderHandle → Type 0
+abbrev pub SenderFreeFor : Option (Handle Sender) → ℤ → Option (Handle Sender) → Type 0
 SenderFreeFor =
-    Answers1 null_pointer (λ sender code sender'. AnswersFree (sender_of sender) code (sender_of sender'))
+    Answers1 null_pointer (λ sender code sender'.
+    AnswersFree sender.inside code sender'.inside)
 
 -- `gozdrit_send`
-abbrev pub SendFor : (padding : ℕ) → Option SenderHandle → Option Header → Option (List ℕ) → Option SentPacket → Option (List ℕ)
-    → ℤ → Option SenderHandle → Option Header → Option (List ℕ) → Option SentPacket → Option (List ℕ) → Type 0
+abbrev pub SendFor : (padding : ℕ) → Option (Handle Sender) → Option Header → Option (List ℕ) → Option SentPacket → Option (List ℕ) → ℤ → Option (Handle Sender) → Option Header → Option (List ℕ) → Option SentPacket → Option (List ℕ) → Type 0
 SendFor padding =
     Answers5 null_pointer (λ sender header payload sent out code sender' header' payload' sent' out'.
-    (header' ≡ header) × (payload' ≡ payload) × AnswersSend (sender_of sender) header payload padding sent out code (sender_of sender') sent' out')
+    (header' ≡ header) × (payload' ≡ payload) × AnswersSend sender.inside header payload padding sent out code sender'.inside sent' out')
 
--- `gozdrit_on_feedback`
-abbrev pub FeedbackFor : Option SenderHandle → Option (List ℕ) → Option ℕ → ℤ → Option SenderHandle → Option (List ℕ) → Option ℕ → Type 0
+-- `gozdrit_feedback`
+abbrev pub FeedbackFor : Option (Handle Sender) → Option (List ℕ) → Option ToldFields → ℤ → Option (Handle Sender) → Option (List ℕ) → Option ToldFields → Type 0
 FeedbackFor =
-    Answers3 null_pointer (λ sender octets marked code sender' octets' marked'.
-    (octets' ≡ octets) × AnswersFeedback (sender_of sender) octets marked code (sender_of sender') marked')
+    Answers3 null_pointer (λ sender octets told code sender' octets' told'.
+    (octets' ≡ octets) × AnswersFeedback sender.inside octets told code sender'.inside told')
 
--- `gozdrit_next_repair`
-abbrev pub RepairFor : Option SenderHandle → Option SentPacket → Option (List ℕ)
-    → ℤ → Option SenderHandle → Option SentPacket → Option (List ℕ) → Type 0
-RepairFor =
+-- `gozdrit_retransmit`
+abbrev pub RetransmitFor : Option (Handle Sender) → Option SentPacket → Option (List ℕ) → ℤ → Option (Handle Sender) → Option SentPacket → Option (List ℕ) → Type 0
+RetransmitFor =
     Answers3 null_pointer (λ sender sent out code sender' sent' out'.
-    AnswersRepair (sender_of sender) sent out code (sender_of sender') sent' out')
+    AnswersRetransmit sender.inside sent out code sender'.inside sent' out')
+
+-- `gozdrit_mark_last`
+abbrev pub MarkLastFor : Option (Handle Sender) → Option ℕ → ℤ → Option (Handle Sender) → Option ℕ → Type 0
+MarkLastFor =
+    Answers2 null_pointer (λ sender marked code sender' marked'.
+    AnswersMarkLast sender.inside marked code sender'.inside marked')
+
+-- `gozdrit_sender_counts`
+abbrev pub SenderCountsFor : Option (Handle Sender) → Option SenderCounts → ℤ → Option (Handle Sender) → Option SenderCounts → Type 0
+SenderCountsFor =
+    Answers2 null_pointer (λ sender counts code sender' counts'.
+    (sender' ≡ sender) × AnswersSenderCounts sender.inside counts code sender'.inside counts')
 
 -- `gozdrit_receiver_new`
-abbrev pub ReceiverNewFor : Option ReceiverFields → Option ReceiverHandle → ℤ → Option ReceiverFields → Option ReceiverHandle → Type 0
+abbrev pub ReceiverNewFor : Option ReceiverFields → Option (Handle Receiver) → ℤ → Option ReceiverFields → Option (Handle Receiver) → Type 0
 ReceiverNewFor =
     Answers2 null_pointer (λ config receiver code config' receiver'.
-    (config' ≡ config) × AnswersReceiverNew config (receiver_of receiver) code (receiver_of receiver'))
+    (config' ≡ config) × AnswersReceiverNew config receiver.inside code receiver'.inside)
 
 -- `gozdrit_receiver_free`
-abbrev pub ReceiverFreeFor : Option ReceiverHandle → ℤ → Option ReceiverHandle → Type 0
+abbrev pub ReceiverFreeFor : Option (Handle Receiver) → ℤ → Option (Handle Receiver) → Type 0
 ReceiverFreeFor =
-    Answers1 null_pointer (λ receiver code receiver'. AnswersFree (receiver_of receiver) code (receiver_of receiver'))
+    Answers1 null_pointer (λ receiver code receiver'.
+    AnswersFree receiver.inside code receiver'.inside)
 
--- `gozdrit_on_media`
-abbrev pub MediaFor : (now : ℕ) → Option ReceiverHandle → Option (List ℕ) → Option TakenPlace
-    → ℤ → Option ReceiverHandle → Option (List ℕ) → Option TakenPlace → Type 0
-MediaFor now =
-    Answers3 null_pointer (λ receiver octets taken code receiver' octets' taken'.
-    (octets' ≡ octets) × AnswersMedia (receiver_of receiver) octets now taken code (receiver_of receiver') taken')
+-- `gozdrit_receive`
+abbrev pub ReceiveFor : (now : ℕ) → Option (Handle Receiver) → Option (List ℕ) → Option HeardFields → ℤ → Option (Handle Receiver) → Option (List ℕ) → Option HeardFields → Type 0
+ReceiveFor now =
+    Answers3 null_pointer (λ receiver octets heard code receiver' octets' heard'.
+    (octets' ≡ octets) × AnswersReceive receiver.inside octets now heard code receiver'.inside heard')
 
 -- `gozdrit_play`
-abbrev pub PlayFor : (now : ℕ) → Option ReceiverHandle → Option PlayedPlace → Option (List ℕ)
-    → ℤ → Option ReceiverHandle → Option PlayedPlace → Option (List ℕ) → Type 0
+abbrev pub PlayFor : (now : ℕ) → Option (Handle Receiver) → Option PlayedPacket → Option (List ℕ) → ℤ → Option (Handle Receiver) → Option PlayedPacket → Option (List ℕ) → Type 0
 PlayFor now =
     Answers3 null_pointer (λ receiver played payload code receiver' played' payload'.
-    AnswersPlay (receiver_of receiver) now played payload code (receiver_of receiver') played' payload')
+    AnswersPlay receiver.inside now played payload code receiver'.inside played' payload')
 
--- `gozdrit_ask`
-abbrev pub AskFor : (now : ℕ) → Option ReceiverHandle → Option ℕ → Option (List ℕ)
-    → ℤ → Option ReceiverHandle → Option ℕ → Option (List ℕ) → Type 0
-AskFor now =
+-- `gozdrit_nack`
+abbrev pub NackFor : (now : ℕ) → (most : ℕ) → Option (Handle Receiver) → Option ℕ → Option (List ℕ) → ℤ → Option (Handle Receiver) → Option ℕ → Option (List ℕ) → Type 0
+NackFor now most =
     Answers3 null_pointer (λ receiver count out code receiver' count' out'.
-    AnswersAsk (receiver_of receiver) now count out code (receiver_of receiver') count' out')
+    AnswersNack receiver.inside now most count out code receiver'.inside count' out')
+
+-- `gozdrit_begin`
+abbrev pub BeginFor : (first : ℕ) → Option (Handle Receiver) → ℤ → Option (Handle Receiver) → Type 0
+BeginFor first =
+    Answers1 null_pointer (λ receiver code receiver'.
+    AnswersBegin receiver.inside first code receiver'.inside)
+
+-- `gozdrit_restart`
+abbrev pub RestartFor : Option (Handle Receiver) → ℤ → Option (Handle Receiver) → Type 0
+RestartFor =
+    Answers1 null_pointer (λ receiver code receiver'.
+    AnswersRestart receiver.inside code receiver'.inside)
+
+-- `gozdrit_set_times`
+abbrev pub TimesFor : (patience : ℕ) → (delay : ℕ) → (retry : ℕ) → Option (Handle Receiver) → ℤ → Option (Handle Receiver) → Type 0
+TimesFor patience delay retry =
+    Answers1 null_pointer (λ receiver code receiver'.
+    AnswersTimes receiver.inside patience delay retry code receiver'.inside)
 
 -- `gozdrit_missing`
-abbrev pub MissingFor : Option ReceiverHandle → Option ℕ → ℤ → Option ReceiverHandle → Option ℕ → Type 0
+abbrev pub MissingFor : Option (Handle Receiver) → Option ℕ → ℤ → Option (Handle Receiver) → Option ℕ → Type 0
 MissingFor =
     Answers2 null_pointer (λ receiver count code receiver' count'.
-    AnswersMissing (receiver_of receiver) count code (receiver_of receiver') count')
+    (receiver' ≡ receiver) × AnswersMissing receiver.inside count code receiver'.inside count')
 
--- `gozdrit_repair_source`
-abbrev pub SourceFor : Option ReceiverHandle → Option KnownSource → ℤ → Option ReceiverHandle → Option KnownSource → Type 0
+-- `gozdrit_rtx_source`
+abbrev pub SourceFor : Option (Handle Receiver) → Option KnownSource → ℤ → Option (Handle Receiver) → Option KnownSource → Type 0
 SourceFor =
     Answers2 null_pointer (λ receiver source code receiver' source'.
-    AnswersSource (receiver_of receiver) source code (receiver_of receiver') source')
+    (receiver' ≡ receiver) × AnswersSource receiver.inside source code receiver'.inside source')
 
--- `gozdrit_cursor`
-abbrev pub CursorFor : Option ReceiverHandle → Option KnownPlace → ℤ → Option ReceiverHandle → Option KnownPlace → Type 0
-CursorFor =
-    Answers2 null_pointer (λ receiver place code receiver' place'.
-    AnswersCursor (receiver_of receiver) place code (receiver_of receiver') place')
+-- `gozdrit_next_sequence`
+abbrev pub NextFor : Option (Handle Receiver) → Option KnownSequence → ℤ → Option (Handle Receiver) → Option KnownSequence → Type 0
+NextFor =
+    Answers2 null_pointer (λ receiver sequence code receiver' sequence'.
+    (receiver' ≡ receiver) × AnswersNext receiver.inside sequence code receiver'.inside sequence')
 
--- `gozdrit_highest`
-abbrev pub HighestFor : Option ReceiverHandle → Option KnownPlace → ℤ → Option ReceiverHandle → Option KnownPlace → Type 0
+-- `gozdrit_highest_sequence`
+abbrev pub HighestFor : Option (Handle Receiver) → Option KnownSequence → ℤ → Option (Handle Receiver) → Option KnownSequence → Type 0
 HighestFor =
-    Answers2 null_pointer (λ receiver place code receiver' place'.
-    AnswersHighest (receiver_of receiver) place code (receiver_of receiver') place')
+    Answers2 null_pointer (λ receiver sequence code receiver' sequence'.
+    (receiver' ≡ receiver) × AnswersHighest receiver.inside sequence code receiver'.inside sequence')
 
--- `gozdrit_refusal_name`
-abbrev pub NameFor : (number : ℤ) → Option (List ℕ) → Option ℕ → ℤ → Option (List ℕ) → Option ℕ → Type 0
-NameFor number =
-    Answers2 null_pointer (λ name count code name' count'. AnswersName number name count code name' count')
+-- `gozdrit_next_moment`
+abbrev pub MomentFor : Option (Handle Receiver) → Option KnownMoment → ℤ → Option (Handle Receiver) → Option KnownMoment → Type 0
+MomentFor =
+    Answers2 null_pointer (λ receiver moment code receiver' moment'.
+    (receiver' ≡ receiver) × AnswersMoment receiver.inside moment code receiver'.inside moment')
+
+-- `gozdrit_receiver_counts`
+abbrev pub ReceiverCountsFor : Option (Handle Receiver) → Option ReceiverCounts → ℤ → Option (Handle Receiver) → Option ReceiverCounts → Type 0
+ReceiverCountsFor =
+    Answers2 null_pointer (λ receiver counts code receiver' counts'.
+    (receiver' ≡ receiver) × AnswersReceiverCounts receiver.inside counts code receiver'.inside counts')
+
+-- `gozdrit_rtp_read`
+abbrev pub ReadFor : Option (List ℕ) → Option PacketFields → ℤ → Option (List ℕ) → Option PacketFields → Type 0
+ReadFor =
+    Answers2 null_pointer (λ octets packet code octets' packet'.
+    (octets' ≡ octets) × AnswersRead octets packet code packet')
+
+-- `gozdrit_rtp_write`
+abbrev pub WriteFor : Option PacketFields → Option (List ℕ) → Option ℕ → Option (List ℕ) → ℤ → Option PacketFields → Option (List ℕ) → Option ℕ → Option (List ℕ) → Type 0
+WriteFor =
+    Answers4 null_pointer (λ packet payload count out code packet' payload' count' out'.
+    (packet' ≡ packet) × (payload' ≡ payload) × AnswersWrite packet payload count out code count' out')

@@ -14,6 +14,12 @@ abbrev pub Answers3 : {A B C : Type 0} → (null : ℤ) → (A → B → C → �
 Answers3 null Ran (Some a) (Some b) (Some c) code a' b' c' = IsSomeAnd a' (λ x. IsSomeAnd b' (λ y. IsSomeAnd c' (λ z. Ran a b c code x y z)))
 Answers3 null Ran a b c code a' b' c' = (code ≡ null) × (a' ≡ a) × (b' ≡ b) × (c' ≡ c)
 
+abbrev pub Answers4 : {A B C D : Type 0} → (null : ℤ) → (A → B → C → D → ℤ → A → B → C → D → Type 0)
+    → Option A → Option B → Option C → Option D → ℤ → Option A → Option B → Option C → Option D → Type 0
+Answers4 null Ran (Some a) (Some b) (Some c) (Some d) code a' b' c' d' =
+    IsSomeAnd a' (λ w. IsSomeAnd b' (λ x. IsSomeAnd c' (λ y. IsSomeAnd d' (λ z. Ran a b c d code w x y z))))
+Answers4 null Ran a b c d code a' b' c' d' = (code ≡ null) × (a' ≡ a) × (b' ≡ b) × (c' ≡ c) × (d' ≡ d)
+
 abbrev pub Answers5 : {A B C D E : Type 0} → (null : ℤ) → (A → B → C → D → E → ℤ → A → B → C → D → E → Type 0)
     → Option A → Option B → Option C → Option D → Option E → ℤ → Option A → Option B → Option C → Option D → Option E → Type 0
 Answers5 null Ran (Some a) (Some b) (Some c) (Some d) (Some e) code a' b' c' d' e' =

@@ -1,34 +1,52 @@
--- What the calls answer to C that read a receiver and leave it as it is.
-use Rattle.std.specs.Prelude.{◌≡◌, ℕ, ℤ, Option, Some, None}
+-- What the calls answer to C that read an end and leave it as it is.
+use Rattle.std.specs.Prelude.{◌≡◌, ◌↔◌, ◌^◌, ◌<◌, ℕ, ℤ, false, Option, Some, None}
+use Rattle.stores.specs.Asking.{has_come}
 use Rattle.stores.specs.Span.{highest_of}
 use Rattle.receiver.specs.Asks.{CountsMissing}
-use Rattle.receiver.specs.Receiver.{Receiving, state_of}
+use Rattle.receiver.specs.Receiver.{state_of}
 use Rattle.receiver.specs.Streams.{source_of}
-use Rattle.gozdrit.specs.declared.answers.KnownPlace.{KnownPlace}
+use Rattle.receiver.specs.Waking.{IsQuiet}
+use Rattle.gozdrit.specs.declared.answers.KnownMoment.{KnownMoment}
+use Rattle.gozdrit.specs.declared.answers.KnownSequence.{KnownSequence}
 use Rattle.gozdrit.specs.declared.answers.KnownSource.{KnownSource}
+use Rattle.gozdrit.specs.declared.counts.ReceiverCounts.{ReceiverCounts}
+use Rattle.gozdrit.specs.declared.counts.SenderCounts.{SenderCounts}
 use Rattle.gozdrit.specs.Codes.{ok, no_end}
-use Rattle.gozdrit.specs.Told.{TellsPlace, TellsSource}
+use Rattle.gozdrit.specs.Counted.{receiver_counts, sender_counts}
+use Rattle.gozdrit.specs.Ends.{Receiver, Sender}
+use Rattle.gozdrit.specs.Told.{TellsSequence, TellsSource, TellsMoment}
 
--- `gozdrit_missing`
-pub record AnswersMissing (old : Option Receiving) (count : ℕ) (code : ℤ) (new : Option Receiving) (count' : ℕ) : Type 0 where
-  pub none : old ≡ None → (code ≡ no_end) × (count' ≡ count)
-  pub counts : (before : Receiving) → old ≡ Some before → (code ≡ ok) × CountsMissing (state_of before) count'
+-- A call that reads an end: where there is none, nothing is told.
+pub record Reads {X Y : Type 0} (Tells : X → Y → Y → Type 0) (old : Option X) (told : Y) (code : ℤ) (new : Option X) (told' : Y) : Type 0 where
+  pub none : old ≡ None → (code ≡ no_end) × (told' ≡ told)
+  pub tells : (before : X) → old ≡ Some before → (code ≡ ok) × Tells before told told'
   pub same : new ≡ old
 
--- `gozdrit_repair_source`
-pub record AnswersSource (old : Option Receiving) (source : KnownSource) (code : ℤ) (new : Option Receiving) (source' : KnownSource) : Type 0 where
-  pub none : old ≡ None → (code ≡ no_end) × (source' ≡ source)
-  pub knows : (before : Receiving) → old ≡ Some before → (code ≡ ok) × TellsSource (source_of before.config (state_of before)) source source'
-  pub same : new ≡ old
+-- The moment from which on something is to be done, or none, is told.
+pub record TellsNext (r : Receiver) (old new : KnownMoment) : Type 0 where
+  pub moment : Option ℕ
+  pub quiet : (m : ℕ) → m < 2 ^ 64 → IsQuiet r.core.config (state_of r.core) m ↔ (has_come moment m ≡ false)
+  pub told : TellsMoment moment old new
 
--- `gozdrit_cursor`
-pub record AnswersCursor (old : Option Receiving) (place : KnownPlace) (code : ℤ) (new : Option Receiving) (place' : KnownPlace) : Type 0 where
-  pub none : old ≡ None → (code ≡ no_end) × (place' ≡ place)
-  pub stands : (before : Receiving) → old ≡ Some before → (code ≡ ok) × TellsPlace before.span.cursor place place'
-  pub same : new ≡ old
+-- `gozdrit_missing`, `gozdrit_rtx_source`, `gozdrit_next_sequence`, `gozdrit_highest_sequence`, `gozdrit_next_moment`,
+-- `gozdrit_receiver_counts` and `gozdrit_sender_counts`
+abbrev pub AnswersMissing : Option Receiver → ℕ → ℤ → Option Receiver → ℕ → Type 0
+AnswersMissing = Reads (λ r old new. CountsMissing (state_of r.core) new)
 
--- `gozdrit_highest`
-pub record AnswersHighest (old : Option Receiving) (place : KnownPlace) (code : ℤ) (new : Option Receiving) (place' : KnownPlace) : Type 0 where
-  pub none : old ≡ None → (code ≡ no_end) × (place' ≡ place)
-  pub stands : (before : Receiving) → old ≡ Some before → (code ≡ ok) × TellsPlace (highest_of before.span) place place'
-  pub same : new ≡ old
+abbrev pub AnswersSource : Option Receiver → KnownSource → ℤ → Option Receiver → KnownSource → Type 0
+AnswersSource = Reads (λ r old new. TellsSource (source_of r.core.config (state_of r.core)) old new)
+
+abbrev pub AnswersNext : Option Receiver → KnownSequence → ℤ → Option Receiver → KnownSequence → Type 0
+AnswersNext = Reads (λ r old new. TellsSequence r.core.span.cursor old new)
+
+abbrev pub AnswersHighest : Option Receiver → KnownSequence → ℤ → Option Receiver → KnownSequence → Type 0
+AnswersHighest = Reads (λ r old new. TellsSequence (highest_of r.core.span) old new)
+
+abbrev pub AnswersMoment : Option Receiver → KnownMoment → ℤ → Option Receiver → KnownMoment → Type 0
+AnswersMoment = Reads TellsNext
+
+abbrev pub AnswersReceiverCounts : Option Receiver → ReceiverCounts → ℤ → Option Receiver → ReceiverCounts → Type 0
+AnswersReceiverCounts = Reads (λ r old new. new ≡ receiver_counts r.counts)
+
+abbrev pub AnswersSenderCounts : Option Sender → SenderCounts → ℤ → Option Sender → SenderCounts → Type 0
+AnswersSenderCounts = Reads (λ s old new. new ≡ sender_counts s.counts)

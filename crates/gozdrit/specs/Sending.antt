@@ -1,95 +1,113 @@
--- What the calls of a sender answer to C, by the sender that its handle held before and after, if it held one.
-use Rattle.std.specs.Prelude.{◌≡◌, ◌≢◌, ◌⊎◌, ℕ, ◌<◌, ◌≤◌, ℤ, pos, List, length, Option, Some, None, IsSome, IsSomeAnd, Result, Ok, Err, OnErr}
-use Rattle.arrayvec.specs.ArrayVec.{ArrayVec}
+-- What the calls of a sender answer to C, by the endpoint that its handle held before and after, if it held one.
+use Rattle.std.specs.Prelude.{◌≡◌, ◌≢◌, ◌⊎◌, ℕ, ◌≤◌, ℤ, pos, List, length, Option, Some, None, IsSome, IsSomeAnd, Result, Ok, Err, IsOk}
 use Rattle.rtpwire.specs.declared.content.Content.{Content}
 use Rattle.rtpwire.specs.declared.fault.ConfigFault.{ConfigFault}
+use Rattle.rtpwire.specs.declared.fault.TooShort.{TooShort}
 use Rattle.rtpwire.specs.declared.limits.TheConstants.{MAX_DATAGRAM}
 use Rattle.rtpwire.specs.Fault.{config_number}
 use Rattle.fbwire.specs.declared.fault.FeedbackFault.{FeedbackFault}
-use Rattle.fbwire.specs.Fault.{feedback_number}
 use Rattle.stores.specs.Past.{empty_past}
 use Rattle.sender.specs.declared.answer.Marked.{Marked}
 use Rattle.sender.specs.declared.fault.SendFault.{SendFault}
 use Rattle.sender.specs.Fault.{send_number}
-use Rattle.sender.specs.Feedback.{HearsFeedback}
-use Rattle.sender.specs.Repairing.{RepairsAny}
-use Rattle.sender.specs.Sender.{Sending, Stays, new_sending, state_of}
-use Rattle.sender.specs.Sending.{SendsAny}
-use Rattle.gozdrit.specs.declared.config.SenderFields.{SenderFields}
+use Rattle.sender.specs.Repairing.{RepairsInto}
+use Rattle.sender.specs.Sender.{Stays, new_sending, state_of}
+use Rattle.sender.specs.Sending.{SendsInto}
+use Rattle.sender.specs.Tail.{MarksLast}
+use Rattle.endpoint.specs.declared.told.Told.{Told}
+use Rattle.endpoint.specs.Demultiplex.{is_control}
+use Rattle.endpoint.specs.Sending.{CountsSent, CountsRepaired, TellsKind}
+use Rattle.endpoint.specs.SendCounts.{count_told, no_counts}
 use Rattle.gozdrit.specs.declared.answers.SentPacket.{SentPacket}
+use Rattle.gozdrit.specs.declared.config.SenderFields.{SenderFields}
 use Rattle.gozdrit.specs.declared.header.Header.{Header}
+use Rattle.gozdrit.specs.declared.heard.ToldFields.{ToldFields}
 use Rattle.gozdrit.specs.Codes.{ok, no_end, is_held, out_of_memory, too_large, no_room}
+use Rattle.gozdrit.specs.Config.{IsSession, HasSenderLimits, Fails, sender_config}
+use Rattle.gozdrit.specs.Ends.{Sender}
+use Rattle.gozdrit.specs.Heard.{told_fields}
 use Rattle.gozdrit.specs.Packet.{Fits, IsContent}
-use Rattle.gozdrit.specs.Config.{IsSession, HasSenderLimits, Fails, streams_of, sender_config}
-use Rattle.gozdrit.specs.Told.{TellsPacket}
 
--- A configuration is refused for the first check that it fails; else there is a sender that sent nothing, or no memory
+-- an endpoint that sent nothing
+abbrev pub new_sender : SenderFields → Sender
+new_sender f = record { core = new_sending (sender_config f) (empty_past f.history); counts = no_counts }
+
+-- A configuration is refused for the first check that it fails; else there is an endpoint that sent nothing, or no memory
 -- for it.
-abbrev pub CreatesSender : SenderFields → (code : ℤ) → Option Sending → Type 0
+abbrev pub CreatesSender : SenderFields → (code : ℤ) → Option Sender → Type 0
 CreatesSender f code after =
-    ((fault : ConfigFault) × Fails (streams_of f.session) (HasSenderLimits f) fault × (code ≡ pos (config_number fault)) × (after ≡ None))
-    ⊎ (IsSession (streams_of f.session) × HasSenderLimits f
+    ((fault : ConfigFault) × Fails f.session (HasSenderLimits f) fault × (code ≡ pos (config_number fault)) × (after ≡ None))
+    ⊎ (IsSession f.session × HasSenderLimits f
     × (((code ≡ out_of_memory) × (after ≡ None))
-    ⊎ ((code ≡ ok) × (after ≡ Some (new_sending (sender_config f) (empty_past f.history))))))
+    ⊎ ((code ≡ ok) × (after ≡ Some (new_sender f)))))
 
--- what the sender's own call promises of a send
-pub record SendsAs (before : Sending) (content : Content) (padding : ℕ) (answer : Result (ℕ × ArrayVec ℕ) SendFault) (after : Sending) : Type 0 where
-  pub sends : SendsAny before.config.session before.past.capacity (state_of before) content padding answer (state_of after)
-  pub err : OnErr answer (after ≡ before)
-  pub stays : Stays before after
+-- what the endpoint's own call promises of a send
+pub record SendsAs (before : Sender) (content : Content) (padding : ℕ) (out : List ℕ) (answer : Result (Result (ℕ × ℕ) SendFault) TooShort) (out' : List ℕ) (after : Sender) : Type 0 where
+  pub sends : SendsInto before.core.config.session before.core.past.capacity (state_of before.core) content padding out answer out' (state_of after.core)
+  pub enough : MAX_DATAGRAM ≤ length out → IsOk answer
+  pub stays : Stays before.core after.core
+  pub counts : CountsSent content answer before.counts after.counts
 
--- an answer to a send is told
-abbrev pub TellsSent : Result (ℕ × ArrayVec ℕ) SendFault → (out : List ℕ) → (code : ℤ) → (sent' : SentPacket) → (out' : List ℕ) → Type 0
-TellsSent (Ok sent) out code sent' out' = (code ≡ ok) × TellsPacket sent.0 sent.1.items out sent' out'
-TellsSent (Err fault) out code sent' out' = code ≡ pos (send_number fault)
+-- a send is told: the packet's extended sequence number and how many octets it has, or why there is none
+abbrev pub TellsSend : Result (Result (ℕ × ℕ) SendFault) TooShort → (sent : SentPacket) → (code : ℤ) → (sent' : SentPacket) → Type 0
+TellsSend (Ok (Ok (place, len))) sent code sent' = (code ≡ ok) × (sent' ≡ record { sequence = place; length = len })
+TellsSend (Ok (Err fault)) sent code sent' = code ≡ pos (send_number fault)
+TellsSend (Err short) sent code sent' = code ≡ no_room
 
--- what the sender's own call promises of feedback
-pub record HearsAs (before : Sending) (octets : List ℕ) (answer : Result Marked FeedbackFault) (after : Sending) : Type 0 where
-  pub hears : HearsFeedback before.config (state_of before) octets answer (state_of after)
-  pub err : OnErr answer (after ≡ before)
-  pub stays : Stays before after
+-- what the endpoint's own call promises of a datagram
+pub record TellsAs (before : Sender) (octets : List ℕ) (answer : Result Told FeedbackFault) (after : Sender) : Type 0 where
+  pub tells : TellsKind (is_control octets) before.core octets answer after.core
+  pub counts : after.counts ≡ count_told answer before.counts
 
-abbrev pub TellsMarked : Result Marked FeedbackFault → (code : ℤ) → (marked' : ℕ) → Type 0
-TellsMarked (Ok marked) code marked' = (code ≡ ok) × (marked' ≡ marked.places)
-TellsMarked (Err fault) code marked' = code ≡ pos (feedback_number fault)
+-- what the endpoint's own call promises of a retransmission
+pub record RepairsAs (before : Sender) (out : List ℕ) (answer : Result (Option (ℕ × ℕ)) TooShort) (out' : List ℕ) (after : Sender) : Type 0 where
+  pub repairs : RepairsInto before.core.config.session (state_of before.core) out answer out' (state_of after.core)
+  pub enough : MAX_DATAGRAM ≤ length out → IsOk answer
+  pub none : answer ≡ Ok None → after.core ≡ before.core
+  pub stays : Stays before.core after.core
+  pub counts : CountsRepaired answer before.counts after.counts
 
--- what the sender's own call promises of a retransmission
-pub record RepairsAs (before : Sending) (answer : Option (ℕ × ArrayVec ℕ)) (after : Sending) : Type 0 where
-  pub repairs : RepairsAny before.config.session (state_of before) answer (state_of after)
-  pub none : answer ≡ None → after ≡ before
-  pub stays : Stays before after
+-- a retransmission is told; where there is none, the length is 0, and the number is as it was
+abbrev pub TellsRepair : Result (Option (ℕ × ℕ)) TooShort → (sent : SentPacket) → (code : ℤ) → (sent' : SentPacket) → Type 0
+TellsRepair (Ok (Some (place, len))) sent code sent' = (code ≡ ok) × (sent' ≡ record { sequence = place; length = len })
+TellsRepair (Ok None) sent code sent' = (code ≡ ok) × (sent' ≡ record sent { length = 0 })
+TellsRepair (Err short) sent code sent' = code ≡ no_room
 
--- where there is none, the length is 0, and the rest is as it was
-abbrev pub TellsRepair : Option (ℕ × ArrayVec ℕ) → (sent : SentPacket) → (out : List ℕ) → (sent' : SentPacket) → (out' : List ℕ) → Type 0
-TellsRepair (Some sent) old out sent' out' = TellsPacket sent.0 sent.1.items out sent' out'
-TellsRepair None old out sent' out' = (sent' ≡ record old { length = 0 }) × (out' ≡ out)
+-- what the endpoint's own call promises of its last packet
+pub record MarksAs (before : Sender) (marked : Marked) (after : Sender) : Type 0 where
+  pub marks : MarksLast before.core.config.repeats (state_of before.core) marked (state_of after.core)
+  pub stays : Stays before.core after.core
+  pub counts : after.counts ≡ before.counts
 
 -- `gozdrit_sender_new`
-pub record AnswersSenderNew (f : SenderFields) (old : Option Sending) (code : ℤ) (new : Option Sending) : Type 0 where
+pub record AnswersSenderNew (f : SenderFields) (old : Option Sender) (code : ℤ) (new : Option Sender) : Type 0 where
   pub held : IsSome old → (code ≡ is_held) × (new ≡ old)
   pub made : old ≡ None → CreatesSender f code new
 
 -- `gozdrit_send`
-pub record AnswersSend (old : Option Sending) (header : Header) (payload : List ℕ) (padding : ℕ) (sent : SentPacket) (out : List ℕ) (code : ℤ) (new : Option Sending) (sent' : SentPacket) (out' : List ℕ) : Type 0 where
+pub record AnswersSend (old : Option Sender) (header : Header) (payload : List ℕ) (padding : ℕ) (sent : SentPacket) (out : List ℕ) (code : ℤ) (new : Option Sender) (sent' : SentPacket) (out' : List ℕ) : Type 0 where
   pub none : old ≡ None → code ≡ no_end
   pub too_large : IsSome old → (Fits header payload → ⊥) → code ≡ too_large
-  pub no_room : IsSome old → Fits header payload → length out < MAX_DATAGRAM → code ≡ no_room
-  pub sends : (before : Sending) → old ≡ Some before → Fits header payload → MAX_DATAGRAM ≤ length out
-      → (content : Content) × IsContent header payload content × (answer : Result (ℕ × ArrayVec ℕ) SendFault)
-      × IsSomeAnd new (SendsAs before content padding answer) × TellsSent answer out code sent' out'
+  pub sends : (before : Sender) → old ≡ Some before → Fits header payload
+      → (content : Content) × IsContent header payload content × (answer : Result (Result (ℕ × ℕ) SendFault) TooShort)
+      × IsSomeAnd new (SendsAs before content padding out answer out') × TellsSend answer sent code sent'
   pub refused : code ≢ ok → (new ≡ old) × (sent' ≡ sent) × (out' ≡ out)
 
--- `gozdrit_on_feedback`
-pub record AnswersFeedback (old : Option Sending) (octets : List ℕ) (marked : ℕ) (code : ℤ) (new : Option Sending) (marked' : ℕ) : Type 0 where
-  pub none : old ≡ None → code ≡ no_end
-  pub hears : (before : Sending) → old ≡ Some before
-      → (answer : Result Marked FeedbackFault) × IsSomeAnd new (HearsAs before octets answer) × TellsMarked answer code marked'
-  pub refused : code ≢ ok → (new ≡ old) × (marked' ≡ marked)
+-- `gozdrit_feedback`
+pub record AnswersFeedback (old : Option Sender) (octets : List ℕ) (told : ToldFields) (code : ℤ) (new : Option Sender) (told' : ToldFields) : Type 0 where
+  pub none : old ≡ None → (code ≡ no_end) × (new ≡ old) × (told' ≡ told)
+  pub tells : (before : Sender) → old ≡ Some before
+      → (code ≡ ok) × (answer : Result Told FeedbackFault) × IsSomeAnd new (TellsAs before octets answer) × (told' ≡ told_fields answer)
 
--- `gozdrit_next_repair`
-pub record AnswersRepair (old : Option Sending) (sent : SentPacket) (out : List ℕ) (code : ℤ) (new : Option Sending) (sent' : SentPacket) (out' : List ℕ) : Type 0 where
+-- `gozdrit_retransmit`
+pub record AnswersRetransmit (old : Option Sender) (sent : SentPacket) (out : List ℕ) (code : ℤ) (new : Option Sender) (sent' : SentPacket) (out' : List ℕ) : Type 0 where
   pub none : old ≡ None → code ≡ no_end
-  pub no_room : IsSome old → length out < MAX_DATAGRAM → code ≡ no_room
-  pub repairs : (before : Sending) → old ≡ Some before → MAX_DATAGRAM ≤ length out
-      → (code ≡ ok) × (answer : Option (ℕ × ArrayVec ℕ)) × IsSomeAnd new (RepairsAs before answer) × TellsRepair answer sent out sent' out'
+  pub repairs : (before : Sender) → old ≡ Some before
+      → (answer : Result (Option (ℕ × ℕ)) TooShort) × IsSomeAnd new (RepairsAs before out answer out') × TellsRepair answer sent code sent'
   pub refused : code ≢ ok → (new ≡ old) × (sent' ≡ sent) × (out' ≡ out)
+
+-- `gozdrit_mark_last`
+pub record AnswersMarkLast (old : Option Sender) (marked : ℕ) (code : ℤ) (new : Option Sender) (marked' : ℕ) : Type 0 where
+  pub none : old ≡ None → (code ≡ no_end) × (new ≡ old) × (marked' ≡ marked)
+  pub marks : (before : Sender) → old ≡ Some before
+      → (code ≡ ok) × (answer : Marked) × IsSomeAnd new (MarksAs before answer) × (marked' ≡ answer.places)

@@ -2,6 +2,15 @@
 
 pub(crate) const OK: i32 = 0;
 
+/// A payload or a header extension is above its largest.
+pub(crate) const TOO_LONG: i32 = 37;
+
+/// Padding is wanted, and the payload is empty.
+pub(crate) const PADDED_EMPTY: i32 = 44;
+
+/// A payload type is out of its bounds.
+pub(crate) const BAD_TYPE: i32 = 51;
+
 /// The handle holds no end.
 pub(crate) const NO_END: i32 = 71;
 

@@ -1,7 +1,8 @@
 //! How C says the configurations of both ends.
 ghost use Rattle.std.specs.Prelude.{◌≡◌, ⊤, MatchResult};
-ghost use Rattle.gozdrit.specs.Config.{IsCapacity, IsSession, HasSenderLimits, HasReceiverLimits, Fails, streams_of, sender_config, receiver_config};
+ghost use Rattle.gozdrit.specs.Config.{IsCapacity, IsSession, HasSenderLimits, HasReceiverLimits, Fails, streams_of, sender_config, receiver_config, probation_of, or_usual};
 
+use endpoint::Probation;
 use receiver::ReceiverConfig;
 use rtpwire::{ConfigFault, Session};
 use sender::SenderConfig;
@@ -14,10 +15,12 @@ const MAX_STORE: u32 = 8192;
 #[derive(Drop)]
 pub struct SessionFields {
     pub media_ssrc: u32,
-    pub repair_ssrc: u32,
+    pub rtx_ssrc: u32,
     pub receiver_ssrc: u32,
     pub media_type: u8,
-    pub repair_type: u8,
+    pub rtx_type: u8,
+    /// 0 where the media's payload type is a dynamic one; else it may be a static one too.
+    pub any_media_type: u8,
 }
 
 /// How a sender works, and how many packets its history keeps.
@@ -27,8 +30,12 @@ pub struct SenderFields {
     pub session: SessionFields,
     pub history: u32,
     pub first: u16,
-    pub repair_first: u16,
+    pub rtx_first: u16,
     pub repeats: u8,
+    /// 0 where the session's receiver alone is heard; else every reporter is.
+    pub any_reporter: u8,
+    /// For what is to come: 0.
+    pub reserved: u64,
 }
 
 /// How a receiver works, and how many places its window keeps. Spans of time are in milliseconds.
@@ -39,24 +46,42 @@ pub struct ReceiverFields {
     pub patience: u64,
     pub retry: u64,
     pub window: u32,
-    pub asks: u8,
+    pub nacks: u8,
     /// 0 where the session's SSRC of the retransmissions is used; else it is learnt.
     pub learns: u8,
+    /// The probation of a sequence number that has jumped; 0 is the usual number of each.
+    pub max_dropout: u16,
+    pub max_misorder: u16,
+    pub min_ahead: u16,
+    pub min_behind: u16,
+    pub delay: u64,
+    /// For what is to come: 0.
+    pub reserved: u64,
 }
 
 impl SessionFields {
     fn session(&self) -> Result<Session, ConfigFault>
         ensures { MatchResult result
-            (λ session. IsSession (streams_of self.now) × (session ≡ streams_of self.now))
-            (λ fault. Fails (streams_of self.now) ⊤ fault) }
+            (λ session. IsSession self.now × (session ≡ streams_of self.now))
+            (λ fault. Fails self.now ⊤ fault) }
     {
-        Session::new(
-            self.media_ssrc,
-            self.media_type,
-            self.repair_ssrc,
-            self.repair_type,
-            self.receiver_ssrc,
-        )
+        if self.any_media_type == 0 {
+            Session::new(
+                self.media_ssrc,
+                self.media_type,
+                self.rtx_ssrc,
+                self.rtx_type,
+                self.receiver_ssrc,
+            )
+        } else {
+            Session::with_any_media_type(
+                self.media_ssrc,
+                self.media_type,
+                self.rtx_ssrc,
+                self.rtx_type,
+                self.receiver_ssrc,
+            )
+        }
     }
 }
 
@@ -64,14 +89,19 @@ impl SenderFields {
     /// The sender's configuration, or the first check that these fail.
     pub(crate) fn config(&self) -> Result<SenderConfig, ConfigFault>
         ensures { MatchResult result
-            (λ made. IsSession (streams_of self.now.session) × HasSenderLimits self.now × (made ≡ sender_config self.now))
-            (λ fault. Fails (streams_of self.now.session) (HasSenderLimits self.now) fault) }
+            (λ made. IsSession self.now.session × HasSenderLimits self.now × (made ≡ sender_config self.now))
+            (λ fault. Fails self.now.session (HasSenderLimits self.now) fault) }
     {
         let session = self.session.session()?;
-        if self.history == 0 || self.history > MAX_STORE {
+        if self.history == 0 || self.history > MAX_STORE || self.reserved != 0 {
             return Err(ConfigFault::BadLimit);
         }
-        SenderConfig::new(session, self.first, self.repair_first, self.repeats)
+        let made = SenderConfig::new(session, self.first, self.rtx_first, self.repeats)?;
+        Ok(if self.any_reporter == 0 {
+            made
+        } else {
+            made.with_any_reporter()
+        })
     }
 }
 
@@ -79,17 +109,37 @@ impl ReceiverFields {
     /// The receiver's configuration, or the first check that these fail.
     pub(crate) fn config(&self) -> Result<ReceiverConfig, ConfigFault>
         ensures { MatchResult result
-            (λ made. IsSession (streams_of self.now.session) × HasReceiverLimits self.now × (made ≡ receiver_config self.now))
-            (λ fault. Fails (streams_of self.now.session) (HasReceiverLimits self.now) fault) }
+            (λ made. IsSession self.now.session × HasReceiverLimits self.now × (made ≡ receiver_config self.now))
+            (λ fault. Fails self.now.session (HasReceiverLimits self.now) fault) }
     {
         let session = self.session.session()?;
-        if self.window == 0 || self.window > MAX_STORE {
+        if self.window == 0 || self.window > MAX_STORE || self.reserved != 0 {
             return Err(ConfigFault::BadLimit);
         }
-        if self.learns == 0 {
-            ReceiverConfig::new(session, self.patience, self.retry, self.asks)
+        let made = if self.learns == 0 {
+            ReceiverConfig::new(session, self.patience, self.retry, self.nacks)?
         } else {
-            ReceiverConfig::learning(session, self.patience, self.retry, self.asks)
-        }
+            ReceiverConfig::learning(session, self.patience, self.retry, self.nacks)?
+        };
+        Ok(made.with_delay(self.delay))
     }
+
+    /// Its probation.
+    pub(crate) fn probation(&self) -> Result<Probation, ConfigFault>
+        ensures { MatchResult result (λ made. made ≡ probation_of self.now) (λ fault. ⊥) }
+    {
+        Probation::new(
+            or_usual(self.max_dropout, Probation::DROPOUT),
+            or_usual(self.max_misorder, Probation::MISORDER),
+            or_usual(self.min_ahead, Probation::AHEAD),
+            or_usual(self.min_behind, Probation::BEHIND),
+        )
+    }
+}
+
+/// A number, or the usual one in the place of 0.
+fn or_usual(number: u16, usual: u16) -> u16
+    ensures { result ≡ or_usual usual number }
+{
+    if number == 0 { usual } else { number }
 }

@@ -2,21 +2,24 @@
 #![tactic(auto)]
 
 mod answers;
+mod blocks;
 mod code;
 mod config;
+mod counts;
+mod default_exports;
+mod defaults;
 mod handle;
 mod header;
+mod heard;
 mod lent;
-mod names;
-mod names_exports;
+mod packet_exports;
+mod packets;
 mod playing;
 mod reading;
 mod reading_exports;
 mod receiver_exports;
-mod receiver_handle;
 mod receiving;
 mod sender_exports;
-mod sender_handle;
 mod sending;
 mod unboxed;
-mod writing;
+mod version;

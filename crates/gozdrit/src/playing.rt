@@ -1,47 +1,55 @@
 //! What a play gives to C.
-ghost use Rattle.std.specs.Prelude.{◌≤◌, length};
-ghost use Rattle.rtpwire.specs.declared.limits.TheConstants.{MAX_PAYLOAD};
-ghost use Rattle.receiver.specs.declared.answer.Played.{Played};
-ghost use Rattle.receiver.specs.Peeking.{played_of};
-ghost use Rattle.gozdrit.specs.Receiving.{PlaysAs};
-ghost use Rattle.gozdrit.specs.Told.{TellsPlayed};
+ghost use Rattle.std.specs.Prelude.{◌≡◌, ◌≢◌, ◌≤◌, length};
+ghost use Rattle.receiver.specs.declared.answer.Played.TheVariants.{Packet};
+ghost use Rattle.gozdrit.specs.Codes.{ok, no_room};
+ghost use Rattle.gozdrit.specs.Receiving.{PlaysAs, next_play};
+ghost use Rattle.gozdrit.specs.Told.{HasRoom, TellsPlayed};
 
-use crate::answers::PlayedPlace;
-use receiver::{Peeked, Receiver};
-use rtpwire::fill_front;
-use stores::Window;
+use crate::answers::PlayedPacket;
+use crate::code::{NO_ROOM, OK};
+use endpoint::ReceivingEndpoint;
+use places::Place;
+use receiver::Peeked;
+use rtpwire::{Content, fill_front};
+use stores::RingWindow;
 
 /// Plays, and tells what came. A content is copied once, from where the window keeps it.
-pub(crate) fn play_to<W: Window>(
-    receiver: &mut Receiver<W>,
+pub(crate) fn play_to(
+    receiver: &mut ReceivingEndpoint<RingWindow>,
     now: u64,
-    played: &mut PlayedPlace,
+    played: &mut PlayedPacket,
     payload: &mut [u8],
-)
-    requires { MAX_PAYLOAD ≤ length payload.old }
-    ensures { (answer : Played) × PlaysAs receiver.old now answer receiver.new × TellsPlayed answer played.old payload.old played.new payload.new }
+) -> i32
+    ensures plays { HasRoom (next_play receiver.old now) payload.old
+        → (result ≡ ok) × PlaysAs receiver.old now (next_play receiver.old now) receiver.new × TellsPlayed (next_play receiver.old now) played.old payload.old played.new payload.new }
+    ensures short { (HasRoom (next_play receiver.old now) payload.old → ⊥) → result ≡ no_room }
+    ensures refused { result ≢ ok → (receiver.new ≡ receiver.old) × (played.new ≡ played.old) × (payload.new ≡ payload.old) }
 {
-    tell_peeked(receiver.peek(now), played, payload);
-    receiver.pass(now);
-}
-
-/// Tells what a play would give.
-fn tell_peeked(peeked: Peeked<'_>, played: &mut PlayedPlace, payload: &mut [u8])
-    requires { MAX_PAYLOAD ≤ length payload.old }
-    ensures { TellsPlayed (played_of peeked.entry) played.old payload.old played.new payload.new }
-{
-    match peeked {
+    match receiver.core().peek(now) {
         Peeked::Wait => played.kind = 0,
         Peeked::Packet(place, content) => {
-            played.kind = 1;
-            played.place = place.value();
-            played.length = content.payload.len();
-            played.header.tell(content);
-            fill_front(payload, content.payload.as_slice());
+            if payload.len() < content.payload.len() {
+                return NO_ROOM;
+            }
+            tell_packet(place, content, played, payload);
         }
         Peeked::Gap(place) => {
             played.kind = 2;
-            played.place = place.value();
+            played.sequence = place.value();
         }
     }
+    receiver.pass(now);
+    OK
+}
+
+/// Tells a packet that is played.
+fn tell_packet(place: Place, content: &Content, played: &mut PlayedPacket, payload: &mut [u8])
+    requires { length content.now.payload.items ≤ length payload.old }
+    ensures { TellsPlayed (Packet place content.now) played.old payload.old played.new payload.new }
+{
+    played.kind = 1;
+    played.sequence = place.value();
+    played.length = content.payload.len();
+    played.header.tell(content);
+    fill_front(payload, content.payload.as_slice());
 }

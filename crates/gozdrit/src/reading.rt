@@ -1,61 +1,88 @@
-//! What C may ask of a receiver, which stays as it is.
-ghost use Rattle.gozdrit.specs.Held.{receiver_in};
-ghost use Rattle.gozdrit.specs.Reading.{AnswersMissing, AnswersSource, AnswersCursor, AnswersHighest};
+//! What C may ask of an end, which stays as it is.
+ghost use Rattle.std.specs.Prelude.{◌≡◌};
+ghost use Rattle.gozdrit.specs.Reading.{AnswersMissing, AnswersSource, AnswersNext, AnswersHighest, AnswersMoment, AnswersReceiverCounts, AnswersSenderCounts};
 
-use crate::answers::{KnownPlace, KnownSource};
+use crate::answers::{KnownMoment, KnownSequence, KnownSource};
 use crate::code::{NO_END, OK};
-use crate::receiver_handle::ReceiverHandle;
-use std::alloc::Global;
+use crate::counts::{ReceiverCounts, SenderCounts};
+use crate::receiving::ReceiverHandle;
+use crate::sending::SenderHandle;
 use stores::Window;
 
-pub(crate) fn missing(alloc: Global, receiver: &mut ReceiverHandle, count: &mut usize) -> i32
-    ensures { AnswersMissing (receiver_in receiver.old.handle.inside) count.old result (receiver_in receiver.new.handle.inside) count.new }
+pub(crate) fn missing(receiver: &mut ReceiverHandle, count: &mut usize) -> i32
+    ensures answers { AnswersMissing receiver.old.inside count.old result receiver.new.inside count.new }
+    ensures same { receiver.new ≡ receiver.old }
 {
     if !receiver.is_held() {
         return NO_END;
     }
-    let inside = receiver.lift(alloc);
-    *count = inside.missing();
-    receiver.put(inside);
+    *count = receiver.lend().core().missing();
     OK
 }
 
-pub(crate) fn repair_source(
-    alloc: Global,
-    receiver: &mut ReceiverHandle,
-    source: &mut KnownSource,
-) -> i32
-    ensures { AnswersSource (receiver_in receiver.old.handle.inside) source.old result (receiver_in receiver.new.handle.inside) source.new }
+pub(crate) fn rtx_source(receiver: &mut ReceiverHandle, source: &mut KnownSource) -> i32
+    ensures answers { AnswersSource receiver.old.inside source.old result receiver.new.inside source.new }
+    ensures same { receiver.new ≡ receiver.old }
 {
     if !receiver.is_held() {
         return NO_END;
     }
-    let inside = receiver.lift(alloc);
-    source.tell(inside.repair_source());
-    receiver.put(inside);
+    source.tell(receiver.lend().core().repair_source());
     OK
 }
 
-pub(crate) fn cursor(alloc: Global, receiver: &mut ReceiverHandle, place: &mut KnownPlace) -> i32
-    ensures { AnswersCursor (receiver_in receiver.old.handle.inside) place.old result (receiver_in receiver.new.handle.inside) place.new }
+pub(crate) fn next_sequence(receiver: &mut ReceiverHandle, sequence: &mut KnownSequence) -> i32
+    ensures answers { AnswersNext receiver.old.inside sequence.old result receiver.new.inside sequence.new }
+    ensures same { receiver.new ≡ receiver.old }
 {
     if !receiver.is_held() {
         return NO_END;
     }
-    let inside = receiver.lift(alloc);
-    place.tell(inside.window().cursor());
-    receiver.put(inside);
+    sequence.tell(receiver.lend().core().window().cursor());
     OK
 }
 
-pub(crate) fn highest(alloc: Global, receiver: &mut ReceiverHandle, place: &mut KnownPlace) -> i32
-    ensures { AnswersHighest (receiver_in receiver.old.handle.inside) place.old result (receiver_in receiver.new.handle.inside) place.new }
+pub(crate) fn highest_sequence(receiver: &mut ReceiverHandle, sequence: &mut KnownSequence) -> i32
+    ensures answers { AnswersHighest receiver.old.inside sequence.old result receiver.new.inside sequence.new }
+    ensures same { receiver.new ≡ receiver.old }
 {
     if !receiver.is_held() {
         return NO_END;
     }
-    let inside = receiver.lift(alloc);
-    place.tell(inside.window().highest().map(|highest| highest.value()));
-    receiver.put(inside);
+    let highest = receiver.lend().core().window().highest();
+    sequence.tell(highest.map(|highest| highest.value()));
+    OK
+}
+
+pub(crate) fn next_moment(receiver: &mut ReceiverHandle, moment: &mut KnownMoment) -> i32
+    ensures answers { AnswersMoment receiver.old.inside moment.old result receiver.new.inside moment.new }
+    ensures same { receiver.new ≡ receiver.old }
+{
+    if !receiver.is_held() {
+        return NO_END;
+    }
+    moment.tell(receiver.lend().core().next_moment());
+    OK
+}
+
+pub(crate) fn receiver_counts(receiver: &mut ReceiverHandle, counts: &mut ReceiverCounts) -> i32
+    ensures answers { AnswersReceiverCounts receiver.old.inside counts.old result receiver.new.inside counts.new }
+    ensures same { receiver.new ≡ receiver.old }
+{
+    if !receiver.is_held() {
+        return NO_END;
+    }
+    *counts = ReceiverCounts::of(receiver.lend().counts());
+    OK
+}
+
+pub(crate) fn sender_counts(sender: &mut SenderHandle, counts: &mut SenderCounts) -> i32
+    ensures answers { AnswersSenderCounts sender.old.inside counts.old result sender.new.inside counts.new }
+    ensures same { sender.new ≡ sender.old }
+{
+    if !sender.is_held() {
+        return NO_END;
+    }
+    *counts = SenderCounts::of(sender.lend().counts());
     OK
 }

@@ -1,44 +1,57 @@
-//! What C asks of a receiver.
+//! What C asks of an end, which stays as it is.
 //!
 //! Each export hands its pointers to a function that tests them for null, and then makes the call. What it answers is
 //! defined in `specs/Lent.antt`, and said for C in `include/gozdrit.h`, with its refusals.
 ghost use Rattle.std.specs.Prelude.{◌≡◌, ℕ, List, Option};
-ghost use Rattle.std.specs.Borrow.{sem, u8, usize};
-ghost use Rattle.gozdrit.specs.Lying.{slice_lies_at, value_lies_at};
-ghost use Rattle.gozdrit.specs.contracts.answers.KnownPlace.{the_row as place_row};
-ghost use Rattle.gozdrit.specs.declared.answers.KnownPlace.{KnownPlace};
+ghost use Rattle.std.specs.Borrow.{sem, usize};
+ghost use Rattle.gozdrit.specs.Lying.{value_lies_at};
+ghost use Rattle.gozdrit.specs.Ends.{Receiver, ReceiverRow, Sender, SenderRow};
+ghost use Rattle.gozdrit.specs.declared.handle.Handle.{Handle};
+ghost use Rattle.gozdrit.specs.contracts.answers.KnownMoment.{the_row as moment_row};
+ghost use Rattle.gozdrit.specs.declared.answers.KnownMoment.{KnownMoment};
+ghost use Rattle.gozdrit.specs.contracts.answers.KnownSequence.{the_row as sequence_row};
+ghost use Rattle.gozdrit.specs.declared.answers.KnownSequence.{KnownSequence};
 ghost use Rattle.gozdrit.specs.contracts.answers.KnownSource.{the_row as source_row};
 ghost use Rattle.gozdrit.specs.declared.answers.KnownSource.{KnownSource};
-ghost use Rattle.gozdrit.specs.contracts.receiver_handle.ReceiverHandle.{the_row as receiver_row};
-ghost use Rattle.gozdrit.specs.declared.receiver_handle.ReceiverHandle.{ReceiverHandle};
-ghost use Rattle.gozdrit.specs.Lent.{MissingFor, SourceFor, CursorFor, HighestFor};
+ghost use Rattle.gozdrit.specs.contracts.counts.ReceiverCounts.{the_row as receiver_counts_row};
+ghost use Rattle.gozdrit.specs.declared.counts.ReceiverCounts.{ReceiverCounts};
+ghost use Rattle.gozdrit.specs.contracts.counts.SenderCounts.{the_row as sender_counts_row};
+ghost use Rattle.gozdrit.specs.declared.counts.SenderCounts.{SenderCounts};
+ghost use Rattle.gozdrit.specs.Lent.{MissingFor, SourceFor, NextFor, HighestFor, MomentFor, ReceiverCountsFor, SenderCountsFor};
 
-use crate::answers::{KnownPlace, KnownSource};
+use crate::answers::{KnownMoment, KnownSequence, KnownSource};
+use crate::blocks::{ReceiverBlock, SenderBlock};
 use crate::code::NULL;
-use crate::lent::{Lent, LentSlice};
-use crate::reading::{cursor, highest, missing, repair_source};
-use crate::receiver_handle::ReceiverHandle;
-use std::alloc::Global;
+use crate::counts::{ReceiverCounts, SenderCounts};
+use crate::lent::Lent;
+use crate::reading::{
+    highest_sequence, missing, next_moment, next_sequence, receiver_counts, rtx_source,
+    sender_counts,
+};
+use crate::receiving::ReceiverHandle;
+use crate::sending::SenderHandle;
 
 /// `Receiver::missing`: how many places are missing.
 #[unsafe(no_mangle)]
-pub unsafe extern "C" fn gozdrit_missing(
-    alloc: Global,
-    receiver: *mut ReceiverHandle,
-    count: *mut usize,
-) -> i32
-    ghost before: { Option ReceiverHandle × Option ℕ }
-    requires* { sem 𝓛 (value_lies_at receiver_row receiver before.0) ∗ sem 𝓛 (value_lies_at usize count before.1) }
-    ensures* { ∃ₛ (λ (after : Option ReceiverHandle × Option ℕ).
-        sem 𝓛 (value_lies_at receiver_row receiver after.0)
+pub unsafe extern "C" fn gozdrit_missing(receiver: *mut ReceiverBlock, count: *mut usize) -> i32
+    ghost before: { Option (Handle Receiver) × Option ℕ }
+    requires* { sem 𝓛 (value_lies_at ReceiverRow receiver before.0)
+        ∗ sem 𝓛 (value_lies_at usize count before.1) }
+    ensures* { ∃ₛ (λ (after : Option (Handle Receiver) × Option ℕ).
+        sem 𝓛 (value_lies_at ReceiverRow receiver after.0)
         ∗ sem 𝓛 (value_lies_at usize count after.1)
         ∗ ⌜ MissingFor before.0 before.1 result after.0 after.1 ⌝) }
 {
-    missing_lent(alloc, Lent { at: receiver }, Lent { at: count }).0
+    missing_lent(
+        Lent {
+            at: receiver as *mut ReceiverHandle,
+        },
+        Lent { at: count },
+    )
+    .0
 }
 
 fn missing_lent(
-    alloc: Global,
     mut receiver: Lent<ReceiverHandle>,
     mut count: Lent<usize>,
 ) -> (i32, Lent<ReceiverHandle>, Lent<usize>)
@@ -48,29 +61,34 @@ fn missing_lent(
     if receiver.is_null() || count.is_null() {
         return (NULL, receiver, count);
     }
-    let code = missing(alloc, receiver.get(), count.get());
+    let code = missing(receiver.get(), count.get());
     (code, receiver, count)
 }
 
 /// `Receiver::repair_source`: the SSRC of the retransmissions, where it is known.
 #[unsafe(no_mangle)]
-pub unsafe extern "C" fn gozdrit_repair_source(
-    alloc: Global,
-    receiver: *mut ReceiverHandle,
+pub unsafe extern "C" fn gozdrit_rtx_source(
+    receiver: *mut ReceiverBlock,
     source: *mut KnownSource,
 ) -> i32
-    ghost before: { Option ReceiverHandle × Option KnownSource }
-    requires* { sem 𝓛 (value_lies_at receiver_row receiver before.0) ∗ sem 𝓛 (value_lies_at source_row source before.1) }
-    ensures* { ∃ₛ (λ (after : Option ReceiverHandle × Option KnownSource).
-        sem 𝓛 (value_lies_at receiver_row receiver after.0)
+    ghost before: { Option (Handle Receiver) × Option KnownSource }
+    requires* { sem 𝓛 (value_lies_at ReceiverRow receiver before.0)
+        ∗ sem 𝓛 (value_lies_at source_row source before.1) }
+    ensures* { ∃ₛ (λ (after : Option (Handle Receiver) × Option KnownSource).
+        sem 𝓛 (value_lies_at ReceiverRow receiver after.0)
         ∗ sem 𝓛 (value_lies_at source_row source after.1)
         ∗ ⌜ SourceFor before.0 before.1 result after.0 after.1 ⌝) }
 {
-    repair_source_lent(alloc, Lent { at: receiver }, Lent { at: source }).0
+    rtx_source_lent(
+        Lent {
+            at: receiver as *mut ReceiverHandle,
+        },
+        Lent { at: source },
+    )
+    .0
 }
 
-fn repair_source_lent(
-    alloc: Global,
+fn rtx_source_lent(
     mut receiver: Lent<ReceiverHandle>,
     mut source: Lent<KnownSource>,
 ) -> (i32, Lent<ReceiverHandle>, Lent<KnownSource>)
@@ -80,70 +98,191 @@ fn repair_source_lent(
     if receiver.is_null() || source.is_null() {
         return (NULL, receiver, source);
     }
-    let code = repair_source(alloc, receiver.get(), source.get());
+    let code = rtx_source(receiver.get(), source.get());
     (code, receiver, source)
 }
 
 /// `Window::cursor` of the receiver: the next place to play, once there is one.
 #[unsafe(no_mangle)]
-pub unsafe extern "C" fn gozdrit_cursor(
-    alloc: Global,
-    receiver: *mut ReceiverHandle,
-    place: *mut KnownPlace,
+pub unsafe extern "C" fn gozdrit_next_sequence(
+    receiver: *mut ReceiverBlock,
+    sequence: *mut KnownSequence,
 ) -> i32
-    ghost before: { Option ReceiverHandle × Option KnownPlace }
-    requires* { sem 𝓛 (value_lies_at receiver_row receiver before.0) ∗ sem 𝓛 (value_lies_at place_row place before.1) }
-    ensures* { ∃ₛ (λ (after : Option ReceiverHandle × Option KnownPlace).
-        sem 𝓛 (value_lies_at receiver_row receiver after.0)
-        ∗ sem 𝓛 (value_lies_at place_row place after.1)
-        ∗ ⌜ CursorFor before.0 before.1 result after.0 after.1 ⌝) }
+    ghost before: { Option (Handle Receiver) × Option KnownSequence }
+    requires* { sem 𝓛 (value_lies_at ReceiverRow receiver before.0)
+        ∗ sem 𝓛 (value_lies_at sequence_row sequence before.1) }
+    ensures* { ∃ₛ (λ (after : Option (Handle Receiver) × Option KnownSequence).
+        sem 𝓛 (value_lies_at ReceiverRow receiver after.0)
+        ∗ sem 𝓛 (value_lies_at sequence_row sequence after.1)
+        ∗ ⌜ NextFor before.0 before.1 result after.0 after.1 ⌝) }
 {
-    cursor_lent(alloc, Lent { at: receiver }, Lent { at: place }).0
+    next_sequence_lent(
+        Lent {
+            at: receiver as *mut ReceiverHandle,
+        },
+        Lent { at: sequence },
+    )
+    .0
 }
 
-fn cursor_lent(
-    alloc: Global,
+fn next_sequence_lent(
     mut receiver: Lent<ReceiverHandle>,
-    mut place: Lent<KnownPlace>,
-) -> (i32, Lent<ReceiverHandle>, Lent<KnownPlace>)
-    ensures { ((result.1.at ≡ receiver.at) × (result.2.at ≡ place.at))
-        × CursorFor receiver.value place.value result.0 result.1.value result.2.value }
+    mut sequence: Lent<KnownSequence>,
+) -> (i32, Lent<ReceiverHandle>, Lent<KnownSequence>)
+    ensures { ((result.1.at ≡ receiver.at) × (result.2.at ≡ sequence.at))
+        × NextFor receiver.value sequence.value result.0 result.1.value result.2.value }
 {
-    if receiver.is_null() || place.is_null() {
-        return (NULL, receiver, place);
+    if receiver.is_null() || sequence.is_null() {
+        return (NULL, receiver, sequence);
     }
-    let code = cursor(alloc, receiver.get(), place.get());
-    (code, receiver, place)
+    let code = next_sequence(receiver.get(), sequence.get());
+    (code, receiver, sequence)
 }
 
 /// `Window::highest` of the receiver: the highest place that was taken, once there is one.
 #[unsafe(no_mangle)]
-pub unsafe extern "C" fn gozdrit_highest(
-    alloc: Global,
-    receiver: *mut ReceiverHandle,
-    place: *mut KnownPlace,
+pub unsafe extern "C" fn gozdrit_highest_sequence(
+    receiver: *mut ReceiverBlock,
+    sequence: *mut KnownSequence,
 ) -> i32
-    ghost before: { Option ReceiverHandle × Option KnownPlace }
-    requires* { sem 𝓛 (value_lies_at receiver_row receiver before.0) ∗ sem 𝓛 (value_lies_at place_row place before.1) }
-    ensures* { ∃ₛ (λ (after : Option ReceiverHandle × Option KnownPlace).
-        sem 𝓛 (value_lies_at receiver_row receiver after.0)
-        ∗ sem 𝓛 (value_lies_at place_row place after.1)
+    ghost before: { Option (Handle Receiver) × Option KnownSequence }
+    requires* { sem 𝓛 (value_lies_at ReceiverRow receiver before.0)
+        ∗ sem 𝓛 (value_lies_at sequence_row sequence before.1) }
+    ensures* { ∃ₛ (λ (after : Option (Handle Receiver) × Option KnownSequence).
+        sem 𝓛 (value_lies_at ReceiverRow receiver after.0)
+        ∗ sem 𝓛 (value_lies_at sequence_row sequence after.1)
         ∗ ⌜ HighestFor before.0 before.1 result after.0 after.1 ⌝) }
 {
-    highest_lent(alloc, Lent { at: receiver }, Lent { at: place }).0
+    highest_sequence_lent(
+        Lent {
+            at: receiver as *mut ReceiverHandle,
+        },
+        Lent { at: sequence },
+    )
+    .0
 }
 
-fn highest_lent(
-    alloc: Global,
+fn highest_sequence_lent(
     mut receiver: Lent<ReceiverHandle>,
-    mut place: Lent<KnownPlace>,
-) -> (i32, Lent<ReceiverHandle>, Lent<KnownPlace>)
-    ensures { ((result.1.at ≡ receiver.at) × (result.2.at ≡ place.at))
-        × HighestFor receiver.value place.value result.0 result.1.value result.2.value }
+    mut sequence: Lent<KnownSequence>,
+) -> (i32, Lent<ReceiverHandle>, Lent<KnownSequence>)
+    ensures { ((result.1.at ≡ receiver.at) × (result.2.at ≡ sequence.at))
+        × HighestFor receiver.value sequence.value result.0 result.1.value result.2.value }
 {
-    if receiver.is_null() || place.is_null() {
-        return (NULL, receiver, place);
+    if receiver.is_null() || sequence.is_null() {
+        return (NULL, receiver, sequence);
     }
-    let code = highest(alloc, receiver.get(), place.get());
-    (code, receiver, place)
+    let code = highest_sequence(receiver.get(), sequence.get());
+    (code, receiver, sequence)
+}
+
+/// `Receiver::next_moment`: when to call again.
+#[unsafe(no_mangle)]
+pub unsafe extern "C" fn gozdrit_next_moment(
+    receiver: *mut ReceiverBlock,
+    moment: *mut KnownMoment,
+) -> i32
+    ghost before: { Option (Handle Receiver) × Option KnownMoment }
+    requires* { sem 𝓛 (value_lies_at ReceiverRow receiver before.0)
+        ∗ sem 𝓛 (value_lies_at moment_row moment before.1) }
+    ensures* { ∃ₛ (λ (after : Option (Handle Receiver) × Option KnownMoment).
+        sem 𝓛 (value_lies_at ReceiverRow receiver after.0)
+        ∗ sem 𝓛 (value_lies_at moment_row moment after.1)
+        ∗ ⌜ MomentFor before.0 before.1 result after.0 after.1 ⌝) }
+{
+    next_moment_lent(
+        Lent {
+            at: receiver as *mut ReceiverHandle,
+        },
+        Lent { at: moment },
+    )
+    .0
+}
+
+fn next_moment_lent(
+    mut receiver: Lent<ReceiverHandle>,
+    mut moment: Lent<KnownMoment>,
+) -> (i32, Lent<ReceiverHandle>, Lent<KnownMoment>)
+    ensures { ((result.1.at ≡ receiver.at) × (result.2.at ≡ moment.at))
+        × MomentFor receiver.value moment.value result.0 result.1.value result.2.value }
+{
+    if receiver.is_null() || moment.is_null() {
+        return (NULL, receiver, moment);
+    }
+    let code = next_moment(receiver.get(), moment.get());
+    (code, receiver, moment)
+}
+
+/// `ReceivingEndpoint::counts`.
+#[unsafe(no_mangle)]
+pub unsafe extern "C" fn gozdrit_receiver_counts(
+    receiver: *mut ReceiverBlock,
+    counts: *mut ReceiverCounts,
+) -> i32
+    ghost before: { Option (Handle Receiver) × Option ReceiverCounts }
+    requires* { sem 𝓛 (value_lies_at ReceiverRow receiver before.0)
+        ∗ sem 𝓛 (value_lies_at receiver_counts_row counts before.1) }
+    ensures* { ∃ₛ (λ (after : Option (Handle Receiver) × Option ReceiverCounts).
+        sem 𝓛 (value_lies_at ReceiverRow receiver after.0)
+        ∗ sem 𝓛 (value_lies_at receiver_counts_row counts after.1)
+        ∗ ⌜ ReceiverCountsFor before.0 before.1 result after.0 after.1 ⌝) }
+{
+    receiver_counts_lent(
+        Lent {
+            at: receiver as *mut ReceiverHandle,
+        },
+        Lent { at: counts },
+    )
+    .0
+}
+
+fn receiver_counts_lent(
+    mut receiver: Lent<ReceiverHandle>,
+    mut counts: Lent<ReceiverCounts>,
+) -> (i32, Lent<ReceiverHandle>, Lent<ReceiverCounts>)
+    ensures { ((result.1.at ≡ receiver.at) × (result.2.at ≡ counts.at))
+        × ReceiverCountsFor receiver.value counts.value result.0 result.1.value result.2.value }
+{
+    if receiver.is_null() || counts.is_null() {
+        return (NULL, receiver, counts);
+    }
+    let code = receiver_counts(receiver.get(), counts.get());
+    (code, receiver, counts)
+}
+
+/// `SendingEndpoint::counts`.
+#[unsafe(no_mangle)]
+pub unsafe extern "C" fn gozdrit_sender_counts(
+    sender: *mut SenderBlock,
+    counts: *mut SenderCounts,
+) -> i32
+    ghost before: { Option (Handle Sender) × Option SenderCounts }
+    requires* { sem 𝓛 (value_lies_at SenderRow sender before.0)
+        ∗ sem 𝓛 (value_lies_at sender_counts_row counts before.1) }
+    ensures* { ∃ₛ (λ (after : Option (Handle Sender) × Option SenderCounts).
+        sem 𝓛 (value_lies_at SenderRow sender after.0)
+        ∗ sem 𝓛 (value_lies_at sender_counts_row counts after.1)
+        ∗ ⌜ SenderCountsFor before.0 before.1 result after.0 after.1 ⌝) }
+{
+    sender_counts_lent(
+        Lent {
+            at: sender as *mut SenderHandle,
+        },
+        Lent { at: counts },
+    )
+    .0
+}
+
+fn sender_counts_lent(
+    mut sender: Lent<SenderHandle>,
+    mut counts: Lent<SenderCounts>,
+) -> (i32, Lent<SenderHandle>, Lent<SenderCounts>)
+    ensures { ((result.1.at ≡ sender.at) × (result.2.at ≡ counts.at))
+        × SenderCountsFor sender.value counts.value result.0 result.1.value result.2.value }
+{
+    if sender.is_null() || counts.is_null() {
+        return (NULL, sender, counts);
+    }
+    let code = sender_counts(sender.get(), counts.get());
+    (code, sender, counts)
 }

@@ -5,40 +5,50 @@
 ghost use Rattle.std.specs.Prelude.{◌≡◌, ℕ, List, Option};
 ghost use Rattle.std.specs.Borrow.{sem, u8, usize};
 ghost use Rattle.gozdrit.specs.Lying.{slice_lies_at, value_lies_at};
-ghost use Rattle.gozdrit.specs.contracts.answers.PlayedPlace.{the_row as played_row};
-ghost use Rattle.gozdrit.specs.declared.answers.PlayedPlace.{PlayedPlace};
-ghost use Rattle.gozdrit.specs.contracts.config.ReceiverFields.{the_row as config_row};
+ghost use Rattle.gozdrit.specs.Ends.{Receiver, ReceiverRow};
+ghost use Rattle.gozdrit.specs.declared.handle.Handle.{Handle};
+ghost use Rattle.gozdrit.specs.contracts.heard.HeardFields.{the_row as heard_row};
+ghost use Rattle.gozdrit.specs.declared.heard.HeardFields.{HeardFields};
+ghost use Rattle.gozdrit.specs.contracts.answers.PlayedPacket.{the_row as played_row};
+ghost use Rattle.gozdrit.specs.declared.answers.PlayedPacket.{PlayedPacket};
+ghost use Rattle.gozdrit.specs.contracts.config.ReceiverFields.{the_row as receiver_config_row};
 ghost use Rattle.gozdrit.specs.declared.config.ReceiverFields.{ReceiverFields};
-ghost use Rattle.gozdrit.specs.contracts.receiver_handle.ReceiverHandle.{the_row as receiver_row};
-ghost use Rattle.gozdrit.specs.declared.receiver_handle.ReceiverHandle.{ReceiverHandle};
-ghost use Rattle.gozdrit.specs.contracts.answers.TakenPlace.{the_row as taken_row};
-ghost use Rattle.gozdrit.specs.declared.answers.TakenPlace.{TakenPlace};
-ghost use Rattle.gozdrit.specs.Lent.{ReceiverNewFor, ReceiverFreeFor, MediaFor, PlayFor, AskFor};
+ghost use Rattle.gozdrit.specs.Lent.{ReceiverNewFor, ReceiverFreeFor, ReceiveFor, PlayFor, NackFor, BeginFor, RestartFor, TimesFor};
 
-use crate::answers::{PlayedPlace, TakenPlace};
+use crate::answers::PlayedPacket;
+use crate::blocks::ReceiverBlock;
 use crate::code::NULL;
 use crate::config::ReceiverFields;
+use crate::heard::HeardFields;
 use crate::lent::{Lent, LentSlice};
-use crate::receiver_handle::ReceiverHandle;
-use crate::receiving::{ask, on_media, play, receiver_free, receiver_new};
+use crate::receiving::{
+    ReceiverHandle, begin, nack, play, receive, receiver_free, receiver_new, restart, set_times,
+};
 use std::alloc::Global;
 
-/// Makes a receiver that took nothing, in a handle that holds no end: `Receiver::new` of a session, a configuration and a
-/// ring window, each of which `config` says.
+/// Makes a receiver that took nothing, in a handle that holds no end: an endpoint over ring windows, as `config` says.
 #[unsafe(no_mangle)]
 pub unsafe extern "C" fn gozdrit_receiver_new(
     alloc: Global,
     config: *mut ReceiverFields,
-    receiver: *mut ReceiverHandle,
+    receiver: *mut ReceiverBlock,
 ) -> i32
-    ghost before: { Option ReceiverFields × Option ReceiverHandle }
-    requires* { sem 𝓛 (value_lies_at config_row config before.0) ∗ sem 𝓛 (value_lies_at receiver_row receiver before.1) }
-    ensures* { ∃ₛ (λ (after : Option ReceiverFields × Option ReceiverHandle).
-        sem 𝓛 (value_lies_at config_row config after.0)
-        ∗ sem 𝓛 (value_lies_at receiver_row receiver after.1)
+    ghost before: { Option ReceiverFields × Option (Handle Receiver) }
+    requires* { sem 𝓛 (value_lies_at receiver_config_row config before.0)
+        ∗ sem 𝓛 (value_lies_at ReceiverRow receiver before.1) }
+    ensures* { ∃ₛ (λ (after : Option ReceiverFields × Option (Handle Receiver)).
+        sem 𝓛 (value_lies_at receiver_config_row config after.0)
+        ∗ sem 𝓛 (value_lies_at ReceiverRow receiver after.1)
         ∗ ⌜ ReceiverNewFor before.0 before.1 result after.0 after.1 ⌝) }
 {
-    receiver_new_lent(alloc, Lent { at: config }, Lent { at: receiver }).0
+    receiver_new_lent(
+        alloc,
+        Lent { at: config },
+        Lent {
+            at: receiver as *mut ReceiverHandle,
+        },
+    )
+    .0
 }
 
 fn receiver_new_lent(
@@ -58,21 +68,28 @@ fn receiver_new_lent(
 
 /// Gives a receiver's memory back. The handle then holds no end.
 #[unsafe(no_mangle)]
-pub unsafe extern "C" fn gozdrit_receiver_free(alloc: Global, receiver: *mut ReceiverHandle) -> i32
-    ghost before: { Option ReceiverHandle }
-    requires* { sem 𝓛 (value_lies_at receiver_row receiver before) }
-    ensures* { ∃ₛ (λ (after : Option ReceiverHandle).
-        sem 𝓛 (value_lies_at receiver_row receiver after)
+pub unsafe extern "C" fn gozdrit_receiver_free(alloc: Global, receiver: *mut ReceiverBlock) -> i32
+    ghost before: { Option (Handle Receiver) }
+    requires* { sem 𝓛 (value_lies_at ReceiverRow receiver before) }
+    ensures* { ∃ₛ (λ (after : Option (Handle Receiver)).
+        sem 𝓛 (value_lies_at ReceiverRow receiver after)
         ∗ ⌜ ReceiverFreeFor before result after ⌝) }
 {
-    receiver_free_lent(alloc, Lent { at: receiver }).0
+    receiver_free_lent(
+        alloc,
+        Lent {
+            at: receiver as *mut ReceiverHandle,
+        },
+    )
+    .0
 }
 
 fn receiver_free_lent(
     alloc: Global,
     mut receiver: Lent<ReceiverHandle>,
 ) -> (i32, Lent<ReceiverHandle>)
-    ensures { (result.1.at ≡ receiver.at) × ReceiverFreeFor receiver.value result.0 result.1.value }
+    ensures { (result.1.at ≡ receiver.at)
+        × ReceiverFreeFor receiver.value result.0 result.1.value }
 {
     if receiver.is_null() {
         return (NULL, receiver);
@@ -81,80 +98,79 @@ fn receiver_free_lent(
     (code, receiver)
 }
 
-/// `Receiver::on_media` at the moment `now`, in milliseconds. `taken` is told the place, and how many places were dropped.
+/// `ReceivingEndpoint::on_datagram` at the moment `now`, in milliseconds. `heard` is told what the datagram was.
 #[unsafe(no_mangle)]
-pub unsafe extern "C" fn gozdrit_on_media(
-    alloc: Global,
-    receiver: *mut ReceiverHandle,
+pub unsafe extern "C" fn gozdrit_receive(
+    receiver: *mut ReceiverBlock,
     octets: *mut u8,
     length: usize,
     now: u64,
-    taken: *mut TakenPlace,
+    heard: *mut HeardFields,
 ) -> i32
-    ghost before: { Option ReceiverHandle × Option (List ℕ) × Option TakenPlace }
-    requires* { sem 𝓛 (value_lies_at receiver_row receiver before.0)
+    ghost before: { Option (Handle Receiver) × Option (List ℕ) × Option HeardFields }
+    requires* { sem 𝓛 (value_lies_at ReceiverRow receiver before.0)
         ∗ sem 𝓛 (slice_lies_at u8 octets length before.1)
-        ∗ sem 𝓛 (value_lies_at taken_row taken before.2) }
-    ensures* { ∃ₛ (λ (after : Option ReceiverHandle × Option (List ℕ) × Option TakenPlace).
-        sem 𝓛 (value_lies_at receiver_row receiver after.0)
+        ∗ sem 𝓛 (value_lies_at heard_row heard before.2) }
+    ensures* { ∃ₛ (λ (after : Option (Handle Receiver) × Option (List ℕ) × Option HeardFields).
+        sem 𝓛 (value_lies_at ReceiverRow receiver after.0)
         ∗ sem 𝓛 (slice_lies_at u8 octets length after.1)
-        ∗ sem 𝓛 (value_lies_at taken_row taken after.2)
-        ∗ ⌜ MediaFor now before.0 before.1 before.2 result after.0 after.1 after.2 ⌝) }
+        ∗ sem 𝓛 (value_lies_at heard_row heard after.2)
+        ∗ ⌜ ReceiveFor now before.0 before.1 before.2 result after.0 after.1 after.2 ⌝) }
 {
-    on_media_lent(
-        alloc,
-        Lent { at: receiver },
+    receive_lent(
+        Lent {
+            at: receiver as *mut ReceiverHandle,
+        },
         LentSlice {
             at: octets,
             len: length,
         },
         now,
-        Lent { at: taken },
+        Lent { at: heard },
     )
     .0
 }
 
-fn on_media_lent(
-    alloc: Global,
+fn receive_lent(
     mut receiver: Lent<ReceiverHandle>,
     mut octets: LentSlice<u8>,
     now: u64,
-    mut taken: Lent<TakenPlace>,
-) -> (i32, Lent<ReceiverHandle>, LentSlice<u8>, Lent<TakenPlace>)
-    ensures { ((result.1.at ≡ receiver.at) × (result.2.at ≡ octets.at) × (result.2.len ≡ octets.len) × (result.3.at ≡ taken.at))
-        × MediaFor now receiver.value octets.items taken.value result.0 result.1.value result.2.items result.3.value }
+    mut heard: Lent<HeardFields>,
+) -> (i32, Lent<ReceiverHandle>, LentSlice<u8>, Lent<HeardFields>)
+    ensures { ((result.1.at ≡ receiver.at) × (result.2.at ≡ octets.at) × (result.2.len ≡ octets.len) × (result.3.at ≡ heard.at))
+        × ReceiveFor now receiver.value octets.items heard.value result.0 result.1.value result.2.items result.3.value }
 {
-    if receiver.is_null() || octets.is_missing() || taken.is_null() {
-        return (NULL, receiver, octets, taken);
+    if receiver.is_null() || octets.is_missing() || heard.is_null() {
+        return (NULL, receiver, octets, heard);
     }
-    let code = on_media(alloc, receiver.get(), octets.get(), now, taken.get());
-    (code, receiver, octets, taken)
+    let code = receive(receiver.get(), octets.get(), now, heard.get());
+    (code, receiver, octets, heard)
 }
 
-/// `Receiver::play` at the moment `now`, in milliseconds. `played` is told what came, and a payload stands at the front of
-/// `payload`.
+/// A play at the moment `now`, in milliseconds: what `Receiver::peek` lends, and then `ReceivingEndpoint::pass`. `played` is told
+/// what came, and a payload stands at the front of `payload`.
 #[unsafe(no_mangle)]
 pub unsafe extern "C" fn gozdrit_play(
-    alloc: Global,
-    receiver: *mut ReceiverHandle,
+    receiver: *mut ReceiverBlock,
     now: u64,
-    played: *mut PlayedPlace,
+    played: *mut PlayedPacket,
     payload: *mut u8,
     room: usize,
 ) -> i32
-    ghost before: { Option ReceiverHandle × Option PlayedPlace × Option (List ℕ) }
-    requires* { sem 𝓛 (value_lies_at receiver_row receiver before.0)
+    ghost before: { Option (Handle Receiver) × Option PlayedPacket × Option (List ℕ) }
+    requires* { sem 𝓛 (value_lies_at ReceiverRow receiver before.0)
         ∗ sem 𝓛 (value_lies_at played_row played before.1)
         ∗ sem 𝓛 (slice_lies_at u8 payload room before.2) }
-    ensures* { ∃ₛ (λ (after : Option ReceiverHandle × Option PlayedPlace × Option (List ℕ)).
-        sem 𝓛 (value_lies_at receiver_row receiver after.0)
+    ensures* { ∃ₛ (λ (after : Option (Handle Receiver) × Option PlayedPacket × Option (List ℕ)).
+        sem 𝓛 (value_lies_at ReceiverRow receiver after.0)
         ∗ sem 𝓛 (value_lies_at played_row played after.1)
         ∗ sem 𝓛 (slice_lies_at u8 payload room after.2)
         ∗ ⌜ PlayFor now before.0 before.1 before.2 result after.0 after.1 after.2 ⌝) }
 {
     play_lent(
-        alloc,
-        Lent { at: receiver },
+        Lent {
+            at: receiver as *mut ReceiverHandle,
+        },
         now,
         Lent { at: played },
         LentSlice {
@@ -166,66 +182,163 @@ pub unsafe extern "C" fn gozdrit_play(
 }
 
 fn play_lent(
-    alloc: Global,
     mut receiver: Lent<ReceiverHandle>,
     now: u64,
-    mut played: Lent<PlayedPlace>,
+    mut played: Lent<PlayedPacket>,
     mut payload: LentSlice<u8>,
-) -> (i32, Lent<ReceiverHandle>, Lent<PlayedPlace>, LentSlice<u8>)
+) -> (i32, Lent<ReceiverHandle>, Lent<PlayedPacket>, LentSlice<u8>)
     ensures { ((result.1.at ≡ receiver.at) × (result.2.at ≡ played.at) × (result.3.at ≡ payload.at) × (result.3.len ≡ payload.len))
         × PlayFor now receiver.value played.value payload.items result.0 result.1.value result.2.value result.3.items }
 {
     if receiver.is_null() || played.is_null() || payload.is_missing() {
         return (NULL, receiver, played, payload);
     }
-    let code = play(alloc, receiver.get(), now, played.get(), payload.get());
+    let code = play(receiver.get(), now, played.get(), payload.get());
     (code, receiver, played, payload)
 }
 
-/// `Receiver::ask` at the moment `now`, in milliseconds. `count` is told the datagram's length, or 0 where there is none, and
-/// the datagram stands at the front of `out`.
+/// `ReceivingEndpoint::ask_most_into` at the moment `now`, in milliseconds. `length` is told how many octets the datagram has, or 0 where there
+/// is none, and the datagram stands at the front of `out`.
 #[unsafe(no_mangle)]
-pub unsafe extern "C" fn gozdrit_ask(
-    alloc: Global,
-    receiver: *mut ReceiverHandle,
+pub unsafe extern "C" fn gozdrit_nack(
+    receiver: *mut ReceiverBlock,
     now: u64,
-    count: *mut usize,
+    most: usize,
+    length: *mut usize,
     out: *mut u8,
     room: usize,
 ) -> i32
-    ghost before: { Option ReceiverHandle × Option ℕ × Option (List ℕ) }
-    requires* { sem 𝓛 (value_lies_at receiver_row receiver before.0)
-        ∗ sem 𝓛 (value_lies_at usize count before.1)
+    ghost before: { Option (Handle Receiver) × Option ℕ × Option (List ℕ) }
+    requires* { sem 𝓛 (value_lies_at ReceiverRow receiver before.0)
+        ∗ sem 𝓛 (value_lies_at usize length before.1)
         ∗ sem 𝓛 (slice_lies_at u8 out room before.2) }
-    ensures* { ∃ₛ (λ (after : Option ReceiverHandle × Option ℕ × Option (List ℕ)).
-        sem 𝓛 (value_lies_at receiver_row receiver after.0)
-        ∗ sem 𝓛 (value_lies_at usize count after.1)
+    ensures* { ∃ₛ (λ (after : Option (Handle Receiver) × Option ℕ × Option (List ℕ)).
+        sem 𝓛 (value_lies_at ReceiverRow receiver after.0)
+        ∗ sem 𝓛 (value_lies_at usize length after.1)
         ∗ sem 𝓛 (slice_lies_at u8 out room after.2)
-        ∗ ⌜ AskFor now before.0 before.1 before.2 result after.0 after.1 after.2 ⌝) }
+        ∗ ⌜ NackFor now most before.0 before.1 before.2 result after.0 after.1 after.2 ⌝) }
 {
-    ask_lent(
-        alloc,
-        Lent { at: receiver },
+    nack_lent(
+        Lent {
+            at: receiver as *mut ReceiverHandle,
+        },
         now,
-        Lent { at: count },
+        most,
+        Lent { at: length },
         LentSlice { at: out, len: room },
     )
     .0
 }
 
-fn ask_lent(
-    alloc: Global,
+fn nack_lent(
     mut receiver: Lent<ReceiverHandle>,
     now: u64,
-    mut count: Lent<usize>,
+    most: usize,
+    mut length: Lent<usize>,
     mut out: LentSlice<u8>,
 ) -> (i32, Lent<ReceiverHandle>, Lent<usize>, LentSlice<u8>)
-    ensures { ((result.1.at ≡ receiver.at) × (result.2.at ≡ count.at) × (result.3.at ≡ out.at) × (result.3.len ≡ out.len))
-        × AskFor now receiver.value count.value out.items result.0 result.1.value result.2.value result.3.items }
+    ensures { ((result.1.at ≡ receiver.at) × (result.2.at ≡ length.at) × (result.3.at ≡ out.at) × (result.3.len ≡ out.len))
+        × NackFor now most receiver.value length.value out.items result.0 result.1.value result.2.value result.3.items }
 {
-    if receiver.is_null() || count.is_null() || out.is_missing() {
-        return (NULL, receiver, count, out);
+    if receiver.is_null() || length.is_null() || out.is_missing() {
+        return (NULL, receiver, length, out);
     }
-    let code = ask(alloc, receiver.get(), now, count.get(), out.get());
-    (code, receiver, count, out)
+    let code = nack(receiver.get(), now, most, length.get(), out.get());
+    (code, receiver, length, out)
+}
+
+/// `ReceivingEndpoint::begin`.
+#[unsafe(no_mangle)]
+pub unsafe extern "C" fn gozdrit_begin(receiver: *mut ReceiverBlock, first: u16) -> i32
+    ghost before: { Option (Handle Receiver) }
+    requires* { sem 𝓛 (value_lies_at ReceiverRow receiver before) }
+    ensures* { ∃ₛ (λ (after : Option (Handle Receiver)).
+        sem 𝓛 (value_lies_at ReceiverRow receiver after)
+        ∗ ⌜ BeginFor first before result after ⌝) }
+{
+    begin_lent(
+        Lent {
+            at: receiver as *mut ReceiverHandle,
+        },
+        first,
+    )
+    .0
+}
+
+fn begin_lent(mut receiver: Lent<ReceiverHandle>, first: u16) -> (i32, Lent<ReceiverHandle>)
+    ensures { (result.1.at ≡ receiver.at)
+        × BeginFor first receiver.value result.0 result.1.value }
+{
+    if receiver.is_null() {
+        return (NULL, receiver);
+    }
+    let code = begin(receiver.get(), first);
+    (code, receiver)
+}
+
+/// `ReceivingEndpoint::restart`.
+#[unsafe(no_mangle)]
+pub unsafe extern "C" fn gozdrit_restart(receiver: *mut ReceiverBlock) -> i32
+    ghost before: { Option (Handle Receiver) }
+    requires* { sem 𝓛 (value_lies_at ReceiverRow receiver before) }
+    ensures* { ∃ₛ (λ (after : Option (Handle Receiver)).
+        sem 𝓛 (value_lies_at ReceiverRow receiver after)
+        ∗ ⌜ RestartFor before result after ⌝) }
+{
+    restart_lent(Lent {
+        at: receiver as *mut ReceiverHandle,
+    })
+    .0
+}
+
+fn restart_lent(mut receiver: Lent<ReceiverHandle>) -> (i32, Lent<ReceiverHandle>)
+    ensures { (result.1.at ≡ receiver.at)
+        × RestartFor receiver.value result.0 result.1.value }
+{
+    if receiver.is_null() {
+        return (NULL, receiver);
+    }
+    let code = restart(receiver.get());
+    (code, receiver)
+}
+
+/// `ReceivingEndpoint::set_times`, in milliseconds.
+#[unsafe(no_mangle)]
+pub unsafe extern "C" fn gozdrit_set_times(
+    receiver: *mut ReceiverBlock,
+    patience: u64,
+    delay: u64,
+    retry: u64,
+) -> i32
+    ghost before: { Option (Handle Receiver) }
+    requires* { sem 𝓛 (value_lies_at ReceiverRow receiver before) }
+    ensures* { ∃ₛ (λ (after : Option (Handle Receiver)).
+        sem 𝓛 (value_lies_at ReceiverRow receiver after)
+        ∗ ⌜ TimesFor patience delay retry before result after ⌝) }
+{
+    set_times_lent(
+        Lent {
+            at: receiver as *mut ReceiverHandle,
+        },
+        patience,
+        delay,
+        retry,
+    )
+    .0
+}
+
+fn set_times_lent(
+    mut receiver: Lent<ReceiverHandle>,
+    patience: u64,
+    delay: u64,
+    retry: u64,
+) -> (i32, Lent<ReceiverHandle>)
+    ensures { (result.1.at ≡ receiver.at)
+        × TimesFor patience delay retry receiver.value result.0 result.1.value }
+{
+    if receiver.is_null() {
+        return (NULL, receiver);
+    }
+    let code = set_times(receiver.get(), patience, delay, retry);
+    (code, receiver)
 }

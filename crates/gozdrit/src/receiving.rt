@@ -1,37 +1,39 @@
 //! The receiving end for C.
 ghost use Rattle.gozdrit.specs.Freeing.{AnswersFree};
-ghost use Rattle.gozdrit.specs.Held.{receiver_in};
-ghost use Rattle.gozdrit.specs.Receiving.{AnswersReceiverNew, AnswersMedia, AnswersPlay, AnswersAsk};
+ghost use Rattle.gozdrit.specs.Receiving.{AnswersReceiverNew, AnswersReceive, AnswersPlay, AnswersNack, AnswersBegin, AnswersRestart, AnswersTimes};
 
-use crate::answers::{PlayedPlace, TakenPlace};
-use crate::code::{HELD, NO_END, NO_ROOM, OK, OUT_OF_MEMORY};
+use crate::answers::PlayedPacket;
+use crate::code::{HELD, NO_END, OK, OUT_OF_MEMORY};
 use crate::config::ReceiverFields;
+use crate::handle::Handle;
+use crate::heard::HeardFields;
 use crate::playing::play_to;
-use crate::receiver_handle::ReceiverHandle;
-use crate::writing::ask_to;
-use receiver::Receiver;
-use rtpwire::{MAX_DATAGRAM, MAX_PAYLOAD};
+use endpoint::ReceivingEndpoint;
 use std::alloc::Global;
 use stores::{RingWindow, Window};
+
+/// What C holds of a receiver.
+pub type ReceiverHandle = Handle<ReceivingEndpoint<RingWindow>>;
 
 pub(crate) fn receiver_new(
     alloc: Global,
     config: &ReceiverFields,
     receiver: &mut ReceiverHandle,
 ) -> i32
-    ensures { AnswersReceiverNew config.now (receiver_in receiver.old.handle.inside) result (receiver_in receiver.new.handle.inside) }
+    ensures { AnswersReceiverNew config.now receiver.old.inside result receiver.new.inside }
 {
     if receiver.is_held() {
         return HELD;
     }
-    let made = match config.config() {
-        Ok(made) => made,
-        Err(fault) => return i32::from(fault.number()),
+    let (made, probation) = match (config.config(), config.probation()) {
+        (Ok(made), Ok(probation)) => (made, probation),
+        (Err(fault), _) | (_, Err(fault)) => return i32::from(fault.number()),
     };
-    let Ok(window) = RingWindow::new(alloc, config.window as usize) else {
+    let window = config.window as usize;
+    let Ok(endpoint) = ReceivingEndpoint::new(alloc, made, probation, window) else {
         return OUT_OF_MEMORY;
     };
-    let Ok(inside) = Box::new(alloc, Receiver::new(made, window)) else {
+    let Ok(inside) = Box::new(alloc, endpoint) else {
         return OUT_OF_MEMORY;
     };
     receiver.put(inside);
@@ -39,7 +41,7 @@ pub(crate) fn receiver_new(
 }
 
 pub(crate) fn receiver_free(alloc: Global, receiver: &mut ReceiverHandle) -> i32
-    ensures { AnswersFree (receiver_in receiver.old.handle.inside) result (receiver_in receiver.new.handle.inside) }
+    ensures { AnswersFree receiver.old.inside result receiver.new.inside }
 {
     if !receiver.is_held() {
         return NO_END;
@@ -48,69 +50,85 @@ pub(crate) fn receiver_free(alloc: Global, receiver: &mut ReceiverHandle) -> i32
     OK
 }
 
-pub(crate) fn on_media(
-    alloc: Global,
+pub(crate) fn receive(
     receiver: &mut ReceiverHandle,
     octets: &[u8],
     now: u64,
-    taken: &mut TakenPlace,
+    heard: &mut HeardFields,
 ) -> i32
-    ensures { AnswersMedia (receiver_in receiver.old.handle.inside) octets.now now taken.old result (receiver_in receiver.new.handle.inside) taken.new }
+    ensures { AnswersReceive receiver.old.inside octets.now now heard.old result receiver.new.inside heard.new }
 {
     if !receiver.is_held() {
         return NO_END;
     }
-    let mut inside = receiver.lift(alloc);
-    let answer = inside.on_media(octets, now);
-    receiver.put(inside);
-    match answer {
-        Ok(it) => {
-            taken.place = it.place.value();
-            taken.overrun = it.overrun;
-            OK
-        }
+    *heard = HeardFields::of(receiver.lend().on_datagram(octets, now));
+    OK
+}
+
+pub(crate) fn play(
+    receiver: &mut ReceiverHandle,
+    now: u64,
+    played: &mut PlayedPacket,
+    payload: &mut [u8],
+) -> i32
+    ensures { AnswersPlay receiver.old.inside now played.old payload.old result receiver.new.inside played.new payload.new }
+{
+    if !receiver.is_held() {
+        return NO_END;
+    }
+    play_to(receiver.lend(), now, played, payload)
+}
+
+pub(crate) fn nack(
+    receiver: &mut ReceiverHandle,
+    now: u64,
+    most: usize,
+    length: &mut usize,
+    out: &mut [u8],
+) -> i32
+    ensures { AnswersNack receiver.old.inside now most length.old out.old result receiver.new.inside length.new out.new }
+{
+    if !receiver.is_held() {
+        return NO_END;
+    }
+    match receiver.lend().ask_most_into(out, now, most) {
+        Ok(Some(len)) => *length = len,
+        Ok(None) => *length = 0,
+        Err(short) => return i32::from(short.number()),
+    }
+    OK
+}
+
+pub(crate) fn begin(receiver: &mut ReceiverHandle, first: u16) -> i32
+    ensures { AnswersBegin receiver.old.inside first result receiver.new.inside }
+{
+    if !receiver.is_held() {
+        return NO_END;
+    }
+    match receiver.lend().begin(first) {
+        Ok(()) => OK,
         Err(fault) => i32::from(fault.number()),
     }
 }
 
-pub(crate) fn play(
-    alloc: Global,
-    receiver: &mut ReceiverHandle,
-    now: u64,
-    played: &mut PlayedPlace,
-    payload: &mut [u8],
-) -> i32
-    ensures { AnswersPlay (receiver_in receiver.old.handle.inside) now played.old payload.old result (receiver_in receiver.new.handle.inside) played.new payload.new }
+pub(crate) fn restart(receiver: &mut ReceiverHandle) -> i32
+    ensures { AnswersRestart receiver.old.inside result receiver.new.inside }
 {
     if !receiver.is_held() {
         return NO_END;
     }
-    if payload.len() < MAX_PAYLOAD {
-        return NO_ROOM;
-    }
-    let mut inside = receiver.lift(alloc);
-    play_to(&mut inside, now, played, payload);
-    receiver.put(inside);
+    receiver.lend().restart();
     OK
 }
 
-pub(crate) fn ask(
-    alloc: Global,
-    receiver: &mut ReceiverHandle,
-    now: u64,
-    count: &mut usize,
-    out: &mut [u8],
-) -> i32
-    ensures { AnswersAsk (receiver_in receiver.old.handle.inside) now count.old out.old result (receiver_in receiver.new.handle.inside) count.new out.new }
+pub(crate) fn set_times(receiver: &mut ReceiverHandle, patience: u64, delay: u64, retry: u64) -> i32
+    ensures { AnswersTimes receiver.old.inside patience delay retry result receiver.new.inside }
 {
     if !receiver.is_held() {
         return NO_END;
     }
-    if out.len() < MAX_DATAGRAM {
-        return NO_ROOM;
+    match receiver.lend().set_times(patience, delay, retry) {
+        Ok(()) => OK,
+        Err(fault) => i32::from(fault.number()),
     }
-    let mut inside = receiver.lift(alloc);
-    ask_to(&mut inside, now, count, out);
-    receiver.put(inside);
-    OK
 }

@@ -3,43 +3,55 @@
 //! Each export hands its pointers to a function that tests them for null, and then makes the call. What it answers is
 //! defined in `specs/Lent.antt`, and said for C in `include/gozdrit.h`, with its refusals.
 ghost use Rattle.std.specs.Prelude.{◌≡◌, ℕ, List, Option};
-ghost use Rattle.std.specs.Borrow.{sem, u32, u8};
+ghost use Rattle.std.specs.Borrow.{sem, u8, u32};
 ghost use Rattle.gozdrit.specs.Lying.{slice_lies_at, value_lies_at};
+ghost use Rattle.gozdrit.specs.Ends.{Sender, SenderRow};
+ghost use Rattle.gozdrit.specs.declared.handle.Handle.{Handle};
 ghost use Rattle.gozdrit.specs.contracts.header.Header.{the_row as header_row};
 ghost use Rattle.gozdrit.specs.declared.header.Header.{Header};
-ghost use Rattle.gozdrit.specs.contracts.config.SenderFields.{the_row as config_row};
+ghost use Rattle.gozdrit.specs.contracts.config.SenderFields.{the_row as sender_config_row};
 ghost use Rattle.gozdrit.specs.declared.config.SenderFields.{SenderFields};
-ghost use Rattle.gozdrit.specs.contracts.sender_handle.SenderHandle.{the_row as sender_row};
-ghost use Rattle.gozdrit.specs.declared.sender_handle.SenderHandle.{SenderHandle};
 ghost use Rattle.gozdrit.specs.contracts.answers.SentPacket.{the_row as sent_row};
 ghost use Rattle.gozdrit.specs.declared.answers.SentPacket.{SentPacket};
-ghost use Rattle.gozdrit.specs.Lent.{SenderNewFor, SenderFreeFor, SendFor, FeedbackFor, RepairFor};
+ghost use Rattle.gozdrit.specs.contracts.heard.ToldFields.{the_row as told_row};
+ghost use Rattle.gozdrit.specs.declared.heard.ToldFields.{ToldFields};
+ghost use Rattle.gozdrit.specs.Lent.{SenderNewFor, SenderFreeFor, SendFor, FeedbackFor, RetransmitFor, MarkLastFor};
 
 use crate::answers::SentPacket;
+use crate::blocks::SenderBlock;
 use crate::code::NULL;
 use crate::config::SenderFields;
 use crate::header::Header;
+use crate::heard::ToldFields;
 use crate::lent::{Lent, LentSlice};
-use crate::sender_handle::SenderHandle;
-use crate::sending::{next_repair, on_feedback, send, sender_free, sender_new};
+use crate::sending::{
+    SenderHandle, feedback, mark_last, retransmit, send, sender_free, sender_new,
+};
 use std::alloc::Global;
 
-/// Makes a sender that sent nothing, in a handle that holds no end: `Sender::new` of a session, a configuration and a
-/// ring history, each of which `config` says.
+/// Makes a sender that sent nothing, in a handle that holds no end: an endpoint over a ring history, as `config` says.
 #[unsafe(no_mangle)]
 pub unsafe extern "C" fn gozdrit_sender_new(
     alloc: Global,
     config: *mut SenderFields,
-    sender: *mut SenderHandle,
+    sender: *mut SenderBlock,
 ) -> i32
-    ghost before: { Option SenderFields × Option SenderHandle }
-    requires* { sem 𝓛 (value_lies_at config_row config before.0) ∗ sem 𝓛 (value_lies_at sender_row sender before.1) }
-    ensures* { ∃ₛ (λ (after : Option SenderFields × Option SenderHandle).
-        sem 𝓛 (value_lies_at config_row config after.0)
-        ∗ sem 𝓛 (value_lies_at sender_row sender after.1)
+    ghost before: { Option SenderFields × Option (Handle Sender) }
+    requires* { sem 𝓛 (value_lies_at sender_config_row config before.0)
+        ∗ sem 𝓛 (value_lies_at SenderRow sender before.1) }
+    ensures* { ∃ₛ (λ (after : Option SenderFields × Option (Handle Sender)).
+        sem 𝓛 (value_lies_at sender_config_row config after.0)
+        ∗ sem 𝓛 (value_lies_at SenderRow sender after.1)
         ∗ ⌜ SenderNewFor before.0 before.1 result after.0 after.1 ⌝) }
 {
-    sender_new_lent(alloc, Lent { at: config }, Lent { at: sender }).0
+    sender_new_lent(
+        alloc,
+        Lent { at: config },
+        Lent {
+            at: sender as *mut SenderHandle,
+        },
+    )
+    .0
 }
 
 fn sender_new_lent(
@@ -59,18 +71,25 @@ fn sender_new_lent(
 
 /// Gives a sender's memory back. The handle then holds no end.
 #[unsafe(no_mangle)]
-pub unsafe extern "C" fn gozdrit_sender_free(alloc: Global, sender: *mut SenderHandle) -> i32
-    ghost before: { Option SenderHandle }
-    requires* { sem 𝓛 (value_lies_at sender_row sender before) }
-    ensures* { ∃ₛ (λ (after : Option SenderHandle).
-        sem 𝓛 (value_lies_at sender_row sender after)
+pub unsafe extern "C" fn gozdrit_sender_free(alloc: Global, sender: *mut SenderBlock) -> i32
+    ghost before: { Option (Handle Sender) }
+    requires* { sem 𝓛 (value_lies_at SenderRow sender before) }
+    ensures* { ∃ₛ (λ (after : Option (Handle Sender)).
+        sem 𝓛 (value_lies_at SenderRow sender after)
         ∗ ⌜ SenderFreeFor before result after ⌝) }
 {
-    sender_free_lent(alloc, Lent { at: sender }).0
+    sender_free_lent(
+        alloc,
+        Lent {
+            at: sender as *mut SenderHandle,
+        },
+    )
+    .0
 }
 
 fn sender_free_lent(alloc: Global, mut sender: Lent<SenderHandle>) -> (i32, Lent<SenderHandle>)
-    ensures { (result.1.at ≡ sender.at) × SenderFreeFor sender.value result.0 result.1.value }
+    ensures { (result.1.at ≡ sender.at)
+        × SenderFreeFor sender.value result.0 result.1.value }
 {
     if sender.is_null() {
         return (NULL, sender);
@@ -79,12 +98,11 @@ fn sender_free_lent(alloc: Global, mut sender: Lent<SenderHandle>) -> (i32, Lent
     (code, sender)
 }
 
-/// `Sender::send` of the content that header and payload say. `sent` is told its place and the datagram's length, and the
+/// `SendingEndpoint::send_into` of the content that header and payload say. `sent` is told its number and the datagram's length, and the
 /// datagram stands at the front of `out`.
 #[unsafe(no_mangle)]
 pub unsafe extern "C" fn gozdrit_send(
-    alloc: Global,
-    sender: *mut SenderHandle,
+    sender: *mut SenderBlock,
     header: *mut Header,
     payload: *mut u8,
     length: usize,
@@ -93,14 +111,14 @@ pub unsafe extern "C" fn gozdrit_send(
     out: *mut u8,
     room: usize,
 ) -> i32
-    ghost before: { Option SenderHandle × Option Header × Option (List ℕ) × Option SentPacket × Option (List ℕ) }
-    requires* { sem 𝓛 (value_lies_at sender_row sender before.0)
+    ghost before: { Option (Handle Sender) × Option Header × Option (List ℕ) × Option SentPacket × Option (List ℕ) }
+    requires* { sem 𝓛 (value_lies_at SenderRow sender before.0)
         ∗ sem 𝓛 (value_lies_at header_row header before.1)
         ∗ sem 𝓛 (slice_lies_at u8 payload length before.2)
         ∗ sem 𝓛 (value_lies_at sent_row sent before.3)
         ∗ sem 𝓛 (slice_lies_at u8 out room before.4) }
-    ensures* { ∃ₛ (λ (after : Option SenderHandle × Option Header × Option (List ℕ) × Option SentPacket × Option (List ℕ)).
-        sem 𝓛 (value_lies_at sender_row sender after.0)
+    ensures* { ∃ₛ (λ (after : Option (Handle Sender) × Option Header × Option (List ℕ) × Option SentPacket × Option (List ℕ)).
+        sem 𝓛 (value_lies_at SenderRow sender after.0)
         ∗ sem 𝓛 (value_lies_at header_row header after.1)
         ∗ sem 𝓛 (slice_lies_at u8 payload length after.2)
         ∗ sem 𝓛 (value_lies_at sent_row sent after.3)
@@ -108,8 +126,9 @@ pub unsafe extern "C" fn gozdrit_send(
         ∗ ⌜ SendFor padding before.0 before.1 before.2 before.3 before.4 result after.0 after.1 after.2 after.3 after.4 ⌝) }
 {
     send_lent(
-        alloc,
-        Lent { at: sender },
+        Lent {
+            at: sender as *mut SenderHandle,
+        },
         Lent { at: header },
         LentSlice {
             at: payload,
@@ -123,7 +142,6 @@ pub unsafe extern "C" fn gozdrit_send(
 }
 
 fn send_lent(
-    alloc: Global,
     mut sender: Lent<SenderHandle>,
     mut header: Lent<Header>,
     mut payload: LentSlice<u8>,
@@ -150,7 +168,6 @@ fn send_lent(
         return (NULL, sender, header, payload, sent, out);
     }
     let code = send(
-        alloc,
         sender.get(),
         header.get(),
         payload.get(),
@@ -161,93 +178,125 @@ fn send_lent(
     (code, sender, header, payload, sent, out)
 }
 
-/// `Sender::on_feedback`. `marked` is told how many packets are to be retransmitted that were not before.
+/// `SendingEndpoint::on_datagram`. `told` is told what the datagram was.
 #[unsafe(no_mangle)]
-pub unsafe extern "C" fn gozdrit_on_feedback(
-    alloc: Global,
-    sender: *mut SenderHandle,
+pub unsafe extern "C" fn gozdrit_feedback(
+    sender: *mut SenderBlock,
     octets: *mut u8,
     length: usize,
-    marked: *mut u32,
+    told: *mut ToldFields,
 ) -> i32
-    ghost before: { Option SenderHandle × Option (List ℕ) × Option ℕ }
-    requires* { sem 𝓛 (value_lies_at sender_row sender before.0)
+    ghost before: { Option (Handle Sender) × Option (List ℕ) × Option ToldFields }
+    requires* { sem 𝓛 (value_lies_at SenderRow sender before.0)
         ∗ sem 𝓛 (slice_lies_at u8 octets length before.1)
-        ∗ sem 𝓛 (value_lies_at u32 marked before.2) }
-    ensures* { ∃ₛ (λ (after : Option SenderHandle × Option (List ℕ) × Option ℕ).
-        sem 𝓛 (value_lies_at sender_row sender after.0)
+        ∗ sem 𝓛 (value_lies_at told_row told before.2) }
+    ensures* { ∃ₛ (λ (after : Option (Handle Sender) × Option (List ℕ) × Option ToldFields).
+        sem 𝓛 (value_lies_at SenderRow sender after.0)
         ∗ sem 𝓛 (slice_lies_at u8 octets length after.1)
-        ∗ sem 𝓛 (value_lies_at u32 marked after.2)
+        ∗ sem 𝓛 (value_lies_at told_row told after.2)
         ∗ ⌜ FeedbackFor before.0 before.1 before.2 result after.0 after.1 after.2 ⌝) }
 {
-    on_feedback_lent(
-        alloc,
-        Lent { at: sender },
+    feedback_lent(
+        Lent {
+            at: sender as *mut SenderHandle,
+        },
         LentSlice {
             at: octets,
             len: length,
         },
-        Lent { at: marked },
+        Lent { at: told },
     )
     .0
 }
 
-fn on_feedback_lent(
-    alloc: Global,
+fn feedback_lent(
     mut sender: Lent<SenderHandle>,
     mut octets: LentSlice<u8>,
-    mut marked: Lent<u32>,
-) -> (i32, Lent<SenderHandle>, LentSlice<u8>, Lent<u32>)
-    ensures { ((result.1.at ≡ sender.at) × (result.2.at ≡ octets.at) × (result.2.len ≡ octets.len) × (result.3.at ≡ marked.at))
-        × FeedbackFor sender.value octets.items marked.value result.0 result.1.value result.2.items result.3.value }
+    mut told: Lent<ToldFields>,
+) -> (i32, Lent<SenderHandle>, LentSlice<u8>, Lent<ToldFields>)
+    ensures { ((result.1.at ≡ sender.at) × (result.2.at ≡ octets.at) × (result.2.len ≡ octets.len) × (result.3.at ≡ told.at))
+        × FeedbackFor sender.value octets.items told.value result.0 result.1.value result.2.items result.3.value }
 {
-    if sender.is_null() || octets.is_missing() || marked.is_null() {
-        return (NULL, sender, octets, marked);
+    if sender.is_null() || octets.is_missing() || told.is_null() {
+        return (NULL, sender, octets, told);
     }
-    let code = on_feedback(alloc, sender.get(), octets.get(), marked.get());
-    (code, sender, octets, marked)
+    let code = feedback(sender.get(), octets.get(), told.get());
+    (code, sender, octets, told)
 }
 
-/// `Sender::next_repair`, told as a send; where there is none, the length is 0.
+/// `SendingEndpoint::next_repair_into`, told as a send; where there is none, the length is 0.
 #[unsafe(no_mangle)]
-pub unsafe extern "C" fn gozdrit_next_repair(
-    alloc: Global,
-    sender: *mut SenderHandle,
+pub unsafe extern "C" fn gozdrit_retransmit(
+    sender: *mut SenderBlock,
     sent: *mut SentPacket,
     out: *mut u8,
     room: usize,
 ) -> i32
-    ghost before: { Option SenderHandle × Option SentPacket × Option (List ℕ) }
-    requires* { sem 𝓛 (value_lies_at sender_row sender before.0)
+    ghost before: { Option (Handle Sender) × Option SentPacket × Option (List ℕ) }
+    requires* { sem 𝓛 (value_lies_at SenderRow sender before.0)
         ∗ sem 𝓛 (value_lies_at sent_row sent before.1)
         ∗ sem 𝓛 (slice_lies_at u8 out room before.2) }
-    ensures* { ∃ₛ (λ (after : Option SenderHandle × Option SentPacket × Option (List ℕ)).
-        sem 𝓛 (value_lies_at sender_row sender after.0)
+    ensures* { ∃ₛ (λ (after : Option (Handle Sender) × Option SentPacket × Option (List ℕ)).
+        sem 𝓛 (value_lies_at SenderRow sender after.0)
         ∗ sem 𝓛 (value_lies_at sent_row sent after.1)
         ∗ sem 𝓛 (slice_lies_at u8 out room after.2)
-        ∗ ⌜ RepairFor before.0 before.1 before.2 result after.0 after.1 after.2 ⌝) }
+        ∗ ⌜ RetransmitFor before.0 before.1 before.2 result after.0 after.1 after.2 ⌝) }
 {
-    next_repair_lent(
-        alloc,
-        Lent { at: sender },
+    retransmit_lent(
+        Lent {
+            at: sender as *mut SenderHandle,
+        },
         Lent { at: sent },
         LentSlice { at: out, len: room },
     )
     .0
 }
 
-fn next_repair_lent(
-    alloc: Global,
+fn retransmit_lent(
     mut sender: Lent<SenderHandle>,
     mut sent: Lent<SentPacket>,
     mut out: LentSlice<u8>,
 ) -> (i32, Lent<SenderHandle>, Lent<SentPacket>, LentSlice<u8>)
     ensures { ((result.1.at ≡ sender.at) × (result.2.at ≡ sent.at) × (result.3.at ≡ out.at) × (result.3.len ≡ out.len))
-        × RepairFor sender.value sent.value out.items result.0 result.1.value result.2.value result.3.items }
+        × RetransmitFor sender.value sent.value out.items result.0 result.1.value result.2.value result.3.items }
 {
     if sender.is_null() || sent.is_null() || out.is_missing() {
         return (NULL, sender, sent, out);
     }
-    let code = next_repair(alloc, sender.get(), sent.get(), out.get());
+    let code = retransmit(sender.get(), sent.get(), out.get());
     (code, sender, sent, out)
+}
+
+/// `SendingEndpoint::mark_last`. `marked` is told how many packets are to be retransmitted that were not before.
+#[unsafe(no_mangle)]
+pub unsafe extern "C" fn gozdrit_mark_last(sender: *mut SenderBlock, marked: *mut u32) -> i32
+    ghost before: { Option (Handle Sender) × Option ℕ }
+    requires* { sem 𝓛 (value_lies_at SenderRow sender before.0)
+        ∗ sem 𝓛 (value_lies_at u32 marked before.1) }
+    ensures* { ∃ₛ (λ (after : Option (Handle Sender) × Option ℕ).
+        sem 𝓛 (value_lies_at SenderRow sender after.0)
+        ∗ sem 𝓛 (value_lies_at u32 marked after.1)
+        ∗ ⌜ MarkLastFor before.0 before.1 result after.0 after.1 ⌝) }
+{
+    mark_last_lent(
+        Lent {
+            at: sender as *mut SenderHandle,
+        },
+        Lent { at: marked },
+    )
+    .0
+}
+
+fn mark_last_lent(
+    mut sender: Lent<SenderHandle>,
+    mut marked: Lent<u32>,
+) -> (i32, Lent<SenderHandle>, Lent<u32>)
+    ensures { ((result.1.at ≡ sender.at) × (result.2.at ≡ marked.at))
+        × MarkLastFor sender.value marked.value result.0 result.1.value result.2.value }
+{
+    if sender.is_null() || marked.is_null() {
+        return (NULL, sender, marked);
+    }
+    let code = mark_last(sender.get(), marked.get());
+    (code, sender, marked)
 }

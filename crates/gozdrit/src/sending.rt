@@ -1,21 +1,22 @@
 //! The sending end for C.
 ghost use Rattle.gozdrit.specs.Freeing.{AnswersFree};
-ghost use Rattle.gozdrit.specs.Held.{sender_in};
-ghost use Rattle.gozdrit.specs.Sending.{AnswersSenderNew, AnswersSend, AnswersFeedback, AnswersRepair};
+ghost use Rattle.gozdrit.specs.Sending.{AnswersSenderNew, AnswersSend, AnswersFeedback, AnswersRetransmit, AnswersMarkLast};
 
 use crate::answers::SentPacket;
-use crate::code::{HELD, NO_END, NO_ROOM, OK, OUT_OF_MEMORY, TOO_LARGE};
+use crate::code::{HELD, NO_END, OK, OUT_OF_MEMORY, TOO_LARGE};
 use crate::config::SenderFields;
+use crate::handle::Handle;
 use crate::header::Header;
-use crate::sender_handle::SenderHandle;
-use crate::writing::{repair_to, send_to};
-use rtpwire::MAX_DATAGRAM;
-use sender::Sender;
+use crate::heard::ToldFields;
+use endpoint::SendingEndpoint;
 use std::alloc::Global;
 use stores::{History, RingHistory};
 
+/// What C holds of a sender.
+pub type SenderHandle = Handle<SendingEndpoint<RingHistory>>;
+
 pub(crate) fn sender_new(alloc: Global, config: &SenderFields, sender: &mut SenderHandle) -> i32
-    ensures { AnswersSenderNew config.now (sender_in sender.old.handle.inside) result (sender_in sender.new.handle.inside) }
+    ensures { AnswersSenderNew config.now sender.old.inside result sender.new.inside }
 {
     if sender.is_held() {
         return HELD;
@@ -27,7 +28,7 @@ pub(crate) fn sender_new(alloc: Global, config: &SenderFields, sender: &mut Send
     let Ok(history) = RingHistory::new(alloc, config.history as usize) else {
         return OUT_OF_MEMORY;
     };
-    let Ok(inside) = Box::new(alloc, Sender::new(made, history)) else {
+    let Ok(inside) = Box::new(alloc, SendingEndpoint::new(made, history)) else {
         return OUT_OF_MEMORY;
     };
     sender.put(inside);
@@ -35,7 +36,7 @@ pub(crate) fn sender_new(alloc: Global, config: &SenderFields, sender: &mut Send
 }
 
 pub(crate) fn sender_free(alloc: Global, sender: &mut SenderHandle) -> i32
-    ensures { AnswersFree (sender_in sender.old.handle.inside) result (sender_in sender.new.handle.inside) }
+    ensures { AnswersFree sender.old.inside result sender.new.inside }
 {
     if !sender.is_held() {
         return NO_END;
@@ -45,7 +46,6 @@ pub(crate) fn sender_free(alloc: Global, sender: &mut SenderHandle) -> i32
 }
 
 pub(crate) fn send(
-    alloc: Global,
     sender: &mut SenderHandle,
     header: &Header,
     payload: &[u8],
@@ -53,7 +53,7 @@ pub(crate) fn send(
     sent: &mut SentPacket,
     out: &mut [u8],
 ) -> i32
-    ensures { AnswersSend (sender_in sender.old.handle.inside) header.now payload.now padding sent.old out.old result (sender_in sender.new.handle.inside) sent.new out.new }
+    ensures { AnswersSend sender.old.inside header.now payload.now padding sent.old out.old result sender.new.inside sent.new out.new }
 {
     if !sender.is_held() {
         return NO_END;
@@ -61,54 +61,46 @@ pub(crate) fn send(
     let Some(carried) = header.carried(payload) else {
         return TOO_LARGE;
     };
-    if out.len() < MAX_DATAGRAM {
-        return NO_ROOM;
-    }
-    let mut inside = sender.lift(alloc);
-    let code = send_to(&mut inside, &carried, padding, sent, out);
-    sender.put(inside);
-    code
-}
-
-pub(crate) fn on_feedback(
-    alloc: Global,
-    sender: &mut SenderHandle,
-    octets: &[u8],
-    marked: &mut u32,
-) -> i32
-    ensures { AnswersFeedback (sender_in sender.old.handle.inside) octets.now marked.old result (sender_in sender.new.handle.inside) marked.new }
-{
-    if !sender.is_held() {
-        return NO_END;
-    }
-    let mut inside = sender.lift(alloc);
-    let answer = inside.on_feedback(octets);
-    sender.put(inside);
-    match answer {
-        Ok(it) => {
-            *marked = it.places;
+    match sender.lend().send_into(out, &carried, padding) {
+        Ok(Ok((place, length))) => {
+            sent.tell(place, length);
             OK
         }
-        Err(fault) => i32::from(fault.number()),
+        Ok(Err(fault)) => i32::from(fault.number()),
+        Err(short) => i32::from(short.number()),
     }
 }
 
-pub(crate) fn next_repair(
-    alloc: Global,
-    sender: &mut SenderHandle,
-    sent: &mut SentPacket,
-    out: &mut [u8],
-) -> i32
-    ensures { AnswersRepair (sender_in sender.old.handle.inside) sent.old out.old result (sender_in sender.new.handle.inside) sent.new out.new }
+pub(crate) fn feedback(sender: &mut SenderHandle, octets: &[u8], told: &mut ToldFields) -> i32
+    ensures { AnswersFeedback sender.old.inside octets.now told.old result sender.new.inside told.new }
 {
     if !sender.is_held() {
         return NO_END;
     }
-    if out.len() < MAX_DATAGRAM {
-        return NO_ROOM;
+    *told = ToldFields::of(sender.lend().on_datagram(octets));
+    OK
+}
+
+pub(crate) fn retransmit(sender: &mut SenderHandle, sent: &mut SentPacket, out: &mut [u8]) -> i32
+    ensures { AnswersRetransmit sender.old.inside sent.old out.old result sender.new.inside sent.new out.new }
+{
+    if !sender.is_held() {
+        return NO_END;
     }
-    let mut inside = sender.lift(alloc);
-    repair_to(&mut inside, sent, out);
-    sender.put(inside);
+    match sender.lend().next_repair_into(out) {
+        Ok(Some((place, length))) => sent.tell(place, length),
+        Ok(None) => sent.length = 0,
+        Err(short) => return i32::from(short.number()),
+    }
+    OK
+}
+
+pub(crate) fn mark_last(sender: &mut SenderHandle, marked: &mut u32) -> i32
+    ensures { AnswersMarkLast sender.old.inside marked.old result sender.new.inside marked.new }
+{
+    if !sender.is_held() {
+        return NO_END;
+    }
+    *marked = sender.lend().mark_last().places;
     OK
 }

@@ -1,0 +1,41 @@
+-- `gozdrit_receiver_defaults` hands what it was passed to `receiver_defaults_lent`, and gives the memory back.
+use Rattle.gozdrit.proofs.Steps.{ℤ, [], ◌∷◌, refl, Option, proved, word, word-Good, id⊢, emp, ex, ex_i, sep, fact, fact_i, tables, sem, ‵, raw, ◌$◌, ◌∵◌, !, qed, by, move, drop, use0, use1, join, fjoin, enter, of_opd, stop, fld, no_more, and_then, returns, alloc_all, pass_all, free_all, look_at, get, get_in, sets, lands_as, agg, sub, whole, rawptr_vals, rawptr_Tells, nothing, heard, calls_at, on_entry, Vals, triple_of, framed, value_lies_at, Lent, ptr_good, value_made, a_value, code_val, answer1_had, drops, answered, gone_ptr, moved_to, leave}
+use Rattle.gozdrit.specs.Lent.{ReceiverDefaultsFor}
+use Rattle.gozdrit.specs.contracts.config.ReceiverFields.{the_row as receiver_config_row}
+use Rattle.gozdrit.specs.declared.config.ReceiverFields.{ReceiverFields}
+use Rattle.gozdrit.specs.contracts.default_exports.gozdrit_receiver_defaults as f
+use Rattle.gozdrit.proofs.default_exports.gozdrit_receiver_defaults.Statement.{statement}
+use Rattle.gozdrit.proofs.default_exports.gozdrit_receiver_defaults.Code as code
+use Rattle.gozdrit.specs.contracts.default_exports.receiver_defaults_lent as g
+use Rattle.gozdrit.proofs.default_exports.receiver_defaults_lent.Met.{met}
+
+pub gozdrit_receiver_defaults_spec : {M : Type 1} → statement M
+gozdrit_receiver_defaults_spec 𝓤 𝓛 𝓜 𝓡 wired =
+    let c = f.clauses 𝓛 𝓜.mem 𝓡.returns in let 𝓣 = tables 𝓤 𝓛.H 𝓜 𝓡 𝓡.env in
+    proved 𝓛 f.ended (drops f.ended.signature.params f.ended.kept) c 𝓜 𝓡 (gone_ptr 𝓛, tt)
+    f.Key.name code.function (code.unfolded 𝓤 𝓛.H 𝓜 𝓡 wired)
+    (λ κs. (rawptr_vals, tt))
+    (λ κs. (rawptr_Tells, tt)) (λ κs qs bounds a before are.
+    let p1 = a.0 in
+    let vss : Vals f.signature κs = (rawptr_vals p1, tt) in
+    let d1 : (Lent receiver_config_row).Denot = record { at = p1; value = before } in
+    let G = triple_of 𝓛 g.signature (g.spec 𝓛 𝓜.mem 𝓡.returns) in
+    let z : G.Ghost = ((κs, qs, bounds, (d1, tt), (word p1 ∷ [], tt)), tt) in
+    let F = λ (r : ℤ) (after : Option ReceiverFields). sep 𝓤 (sem 𝓛 (value_lies_at receiver_config_row p1 after)) (fact 𝓤 (ReceiverDefaultsFor before r after)) in
+    qed 𝓛 (raw (on_entry 𝓛 f.signature κs qs a vss) ∷ (‵ (value_lies_at receiver_config_row p1 before)) ∷ []) ∵ drop ! $
+    -- what `receiver_defaults_lent` takes, from the last parameter on
+    nothing ! $ move ! (1 ∷ []) $ value_made receiver_config_row ! d1 $ fjoin ! $
+    nothing ! $ join ! $ nothing ! $ move ! (1 ∷ 0 ∷ []) $ join ! $ use1 𝓛 (raw (G.pre z)) (id⊢ 𝓤 _) $
+    enter ! _ _ _ _ _ $ alloc_all ! (λ l. pass_all ! refl (ptr_good p1, tt) $
+    sets ! (agg ! (and_then ! (get ! refl) (no_more !))) refl (word-Good [] p1) $
+    calls_at ! (framed 𝓤 𝓛.H 𝓜 𝓣) G (met 𝓤 𝓛 𝓜 𝓡 (code.calls-gozdrit::default_exports::receiver_defaults_lent 𝓡.env wired)) z
+    (and_then ! (get ! refl) (no_more !)) (λ v.
+    answered ! tt g.ended (g.clauses 𝓛 𝓜.mem 𝓡.returns) z v (λ r ws. answer1_had (a_value receiver_config_row) ! r v (λ is whole' good. move ! (2 ∷ []) $ heard ! _ (λ said.
+    -- [the code; what lies at the pointers]
+    lands_as ! is refl whole' $ sets ! (of_opd ! (get_in ! (fld ! refl (stop !)) (sub ! 0 refl (whole !)))) refl good $
+    returns ! (look_at ! 0 refl) $ free_all ! refl $
+    let after : Option ReceiverFields = r.1.value in let fits = said.1 in
+    use0 𝓛 (raw (fact 𝓤 (ReceiverDefaultsFor before r.0 after))) (fact_i 𝓤 (ReceiverDefaultsFor before r.0 after) (emp 𝓤) fits) $
+    move ! (2 ∷ []) $ moved_to ! receiver_config_row r.1.value (said.0) $ join ! $
+    use1 𝓛 (raw (ex 𝓤 (F r.0))) (ex_i 𝓤 (F r.0) after) $
+    move ! (1 ∷ 0 ∷ []) $ by ! (leave 𝓛 f.ended c ((κs, qs, bounds, a, vss), before) (code_val r.0) r.0 (tt, tt) (id⊢ 𝓤 (emp 𝓤)))))))))

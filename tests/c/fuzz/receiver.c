@@ -1,0 +1,274 @@
+/* The model of a receiver (docs/PROTOCOL.md, from "The receiver's window" to "Endpoints"). */
+#include "receiver.h"
+
+/* What an RTP packet is to a receiver. */
+enum stream { MEDIA, RETRANSMISSION, CANDIDATE };
+
+/* The stream of a packet: 0, or why it has none. */
+static int32_t find_stream(const struct receiver *it, const struct packet *packet, enum stream *stream) {
+    const gozdrit_session *session = &it->config.session;
+    bool is_known = !it->config.learns || it->has_learnt;
+    uint32_t known = it->config.learns ? it->learnt : session->rtx_ssrc;
+    *stream = is_known ? RETRANSMISSION : CANDIDATE;
+    if (packet->ssrc == session->media_ssrc) {
+        *stream = MEDIA;
+        return packet->type == session->media_type ? 0 : GOZDRIT_UNKNOWN_TYPE;
+    }
+    if (is_known ? packet->ssrc != known : packet->ssrc == session->receiver_ssrc) return GOZDRIT_UNKNOWN_SOURCE;
+    return packet->type == session->rtx_type ? 0 : GOZDRIT_UNKNOWN_TYPE;
+}
+
+/* What a packet of a stream carries. */
+struct carried {
+    enum stream stream;
+    uint16_t number;
+    uint64_t digest;
+    size_t length;
+};
+
+/* Finds it: 0, or why there is none. */
+static int32_t find_carried(const struct receiver *it, const uint8_t *octets, const struct packet *packet,
+                            struct carried *carried) {
+    const uint8_t *payload = octets + packet->at;
+    int32_t fault = find_stream(it, packet, &carried->stream);
+    if (fault != 0) return fault;
+    carried->number = packet->sequence;
+    carried->length = packet->length;
+    if (carried->stream != MEDIA) {
+        if (packet->length < 2) return GOZDRIT_NO_OSN;
+        carried->number = get16(payload);
+        carried->length -= 2;
+        payload += 2;
+    }
+    if (carried->length > GOZDRIT_MAX_PAYLOAD || packet->words > GOZDRIT_MAX_WORDS) return GOZDRIT_TOO_LONG;
+    carried->digest = digest(&packet->header, payload, carried->length);
+    return 0;
+}
+
+static bool was_named(const struct window *window, uint64_t sequence) {
+    const struct slot *slot = slot_at(window, sequence);
+    return sequence >= window->next && sequence <= window->highest && !slot->is_held && slot->nacks > 0;
+}
+
+/* Takes what a packet carries into a window. */
+static int32_t take_carried(const struct window *of, struct window *window, const struct carried *carried, uint64_t now,
+                            gozdrit_heard *heard) {
+    int32_t fault;
+    if (carried->stream != MEDIA && !of->has_started) return GOZDRIT_NOT_STARTED;
+    fault = extend(window, carried->number, &heard->sequence);
+    if (fault != 0) return fault;
+    if (carried->stream == CANDIDATE && !was_named(window, heard->sequence)) return GOZDRIT_UNASKED;
+    return take_packet(window, heard->sequence, carried->digest, carried->length, now, &heard->overrun);
+}
+
+/* How many media packets in sequence are wanted before this number is believed; 0 where it has not jumped. */
+static unsigned wanted_for(const struct receiver *it, uint16_t number) {
+    const gozdrit_receiver_config *config = &it->config;
+    unsigned dropout = config->max_dropout ? config->max_dropout : 3000;
+    unsigned misorder = config->max_misorder ? config->max_misorder : 100;
+    unsigned ahead = (uint16_t)(number - (uint16_t)it->window.highest);
+    if (!it->window.has_started || ahead < dropout || 65536 - ahead < misorder) return 0;
+    if (ahead < 32768) return config->min_ahead ? config->min_ahead : 2;
+    return config->min_behind ? config->min_behind : 256;
+}
+
+/* The stream restarts with what was held back. */
+static void restart_stream(struct receiver *it, gozdrit_heard *heard) {
+    struct window left = it->window;
+    if (left.next <= left.highest) heard->abandoned = left.highest + 1 - left.next;
+    it->window = it->spare;
+    it->spare = left;
+    it->held_back = 0;
+    it->has_learnt = false;
+    it->has_played = false;
+    heard->kind = GOZDRIT_RESTARTED;
+}
+
+/* Holds back a media packet that has jumped. */
+static int32_t hold_back(struct receiver *it, int32_t fault, const struct carried *carried, unsigned wanted, uint64_t now,
+                         gozdrit_heard *heard) {
+    if (it->held_back == 0 || carried->number != it->follows) {
+        clear_window(&it->spare);
+        it->held_back = 0;
+        it->wanted = wanted;
+    }
+    if (fault != 0) {
+        it->held_back = 0;
+        return fault;
+    }
+    fault = take_carried(&it->spare, &it->spare, carried, now, heard);
+    holds(fault == 0, "the model takes what it holds back");
+    it->follows = (uint16_t)(carried->number + 1);
+    heard->held = ++it->held_back;
+    if (it->held_back >= it->wanted) {
+        restart_stream(it, heard);
+    } else {
+        heard->kind = GOZDRIT_HELD_BACK;
+        heard->sequence = heard->overrun = 0;
+    }
+    return 0;
+}
+
+/* What the model reads of a datagram that a sender made has to be what the sender was handed; so what is played is what was
+ * sent. (A receiver of another session may see a retransmission in what was media there.) */
+static void check_genuine(const struct origin *origin, const struct carried *carried) {
+    if (!origin->is_genuine || origin->is_retransmission != (carried->stream != MEDIA)) return;
+    same(origin->number, carried->number, "the number that was sent");
+    same(origin->digest, carried->digest, "what was sent");
+}
+
+/* Hears a packet that was read. */
+static int32_t hear_packet(struct receiver *it, const struct datagram *datagram, const struct packet *packet, uint64_t now,
+                           gozdrit_heard *heard) {
+    struct carried carried;
+    int32_t fault = find_carried(it, datagram->octets, packet, &carried);
+    bool is_media = packet->ssrc == it->config.session.media_ssrc && packet->type == it->config.session.media_type;
+    if (fault == 0) check_genuine(&datagram->origin, &carried);
+    if (is_media) {
+        unsigned wanted = wanted_for(it, packet->sequence);
+        if (wanted > 0) {
+            carried.number = packet->sequence;
+            return hold_back(it, fault, &carried, wanted, now, heard);
+        }
+        it->held_back = 0;
+    }
+    if (fault == 0) fault = take_carried(&it->window, &it->window, &carried, now, heard);
+    if (fault != 0) return fault;
+    heard->kind = is_media ? GOZDRIT_MEDIA : GOZDRIT_RETRANSMISSION;
+    if (carried.stream == CANDIDATE) {
+        it->has_learnt = true;
+        it->learnt = packet->ssrc;
+    }
+    return 0;
+}
+
+static void count_heard(gozdrit_receive_counts *counts, const gozdrit_heard *heard) {
+    counts->overrun += heard->overrun;
+    counts->abandoned += heard->abandoned;
+    if (heard->kind == GOZDRIT_MEDIA) counts->media++;
+    else if (heard->kind == GOZDRIT_RETRANSMISSION) counts->retransmissions++;
+    else if (heard->kind == GOZDRIT_RTCP) counts->rtcp++;
+    else if (heard->kind == GOZDRIT_HELD_BACK) counts->held_back++;
+    else if (heard->kind == GOZDRIT_RESTARTED) counts->restarts++;
+    else if (heard->refusal == GOZDRIT_DUPLICATE) counts->duplicate++;
+    else if (heard->refusal == GOZDRIT_LATE) counts->late++;
+    else if (heard->refusal == GOZDRIT_FAR) counts->far++;
+    else counts->refused++;
+}
+
+void hear_datagram(struct receiver *it, const struct datagram *datagram, uint64_t now, gozdrit_heard *heard) {
+    struct packet packet;
+    memset(heard, 0, sizeof *heard);
+    if (is_rtcp(datagram->octets, datagram->length)) {
+        heard->kind = GOZDRIT_RTCP;
+    } else {
+        int32_t fault;
+        read_packet(datagram->octets, datagram->length, &packet);
+        /* One that is all padding is taken without it. */
+        if (packet.fault == GOZDRIT_RTP_PADDING && packet.padding > 0 && packet.padding == packet.length
+            && packet.at <= GOZDRIT_MAX_DATAGRAM) {
+            packet.fault = 0;
+            packet.length = 0;
+        }
+        fault = packet.fault;
+        if (fault == 0) fault = hear_packet(it, datagram, &packet, now, heard);
+        if (fault != 0) {
+            memset(heard, 0, sizeof *heard);
+            heard->refusal = (uint8_t)fault;
+        }
+    }
+    count_heard(&it->counts, heard);
+}
+
+/* ---- playing and asking */
+
+static bool is_since(uint64_t moment, uint64_t span, uint64_t now) { return now >= moment && now - moment >= span; }
+
+uint8_t expect_play(const struct receiver *it, uint64_t now) {
+    const struct slot *slot = front(&it->window);
+    if (slot == NULL) return GOZDRIT_WAIT;
+    if (slot->is_held) return GOZDRIT_PACKET;
+    return is_since(slot->noticed, it->config.patience, now) ? GOZDRIT_GAP : GOZDRIT_WAIT;
+}
+
+static bool is_due(const struct receiver *it, const struct slot *slot, uint64_t now) {
+    if (slot->is_held || slot->nacks >= it->config.nacks) return false;
+    if (slot->nacks > 0) return is_since(slot->last, it->config.retry, now);
+    return it->config.delay == 0 || is_since(slot->noticed, it->config.delay, now);
+}
+
+enum { MOST_PAIRS = 64 };
+
+size_t expect_nack(const struct receiver *it, uint64_t now, size_t most, uint8_t *out, size_t *named) {
+    const struct window *window = &it->window;
+    uint64_t sequence, pid = 0;
+    size_t pairs = 0;
+    *named = 0;
+    if (front(window) == NULL) return 0;
+    for (sequence = window->next; sequence <= window->highest && *named < most && *named < GOZDRIT_MOST; sequence++) {
+        uint8_t *pair = out + 8 + 4 * pairs; /* the last one so far */
+        if (!is_due(it, slot_at(window, sequence), now)) continue;
+        if (pairs > 0 && sequence - pid <= 16) {
+            put16(pair + 2, (uint16_t)(get16(pair + 2) | 1 << (sequence - pid - 1)));
+        } else {
+            if (pairs == MOST_PAIRS) break;
+            pairs++;
+            pid = sequence;
+            put16(pair + 4, (uint16_t)pid);
+            put16(pair + 6, 0);
+        }
+        ++*named;
+    }
+    if (pairs == 0) return 0;
+    out[0] = 129;
+    out[1] = 205;
+    put16(out + 2, (uint16_t)(2 + pairs));
+    put32(out + 4, it->config.session.receiver_ssrc);
+    put32(out + 8, it->config.session.media_ssrc);
+    return 12 + 4 * pairs;
+}
+
+void count_nack(struct receiver *it, uint64_t now, size_t named) {
+    uint64_t sequence;
+    it->counts.nacks++;
+    it->counts.nacked += named;
+    for (sequence = it->window.next; named > 0; sequence++) {
+        struct slot *slot = slot_at(&it->window, sequence);
+        if (!is_due(it, slot, now)) continue;
+        slot->nacks++;
+        slot->last = now;
+        named--;
+    }
+}
+
+/* The sooner of a moment and a span after another one, which may never come. */
+static void sooner(bool *is_known, uint64_t *moment, uint64_t since, uint64_t span) {
+    if (span > UINT64_MAX - since) return;
+    if (!*is_known || since + span < *moment) *moment = since + span;
+    *is_known = true;
+}
+
+bool expect_moment(const struct receiver *it, uint64_t *moment) {
+    const gozdrit_receiver_config *config = &it->config;
+    const struct slot *slot = front(&it->window);
+    bool is_known = false;
+    uint64_t sequence;
+    *moment = 0;
+    if (slot == NULL) return false;
+    if (slot->is_held) return true;
+    sooner(&is_known, moment, slot->noticed, config->patience);
+    for (sequence = it->window.next; sequence <= it->window.highest; sequence++) {
+        slot = slot_at(&it->window, sequence);
+        if (slot->is_held || slot->nacks >= config->nacks) continue;
+        if (slot->nacks > 0) sooner(&is_known, moment, slot->last, config->retry);
+        else sooner(&is_known, moment, config->delay ? slot->noticed : 0, config->delay);
+    }
+    return is_known;
+}
+
+void restart(struct receiver *it) {
+    clear_window(&it->window);
+    it->held_back = 0;
+    it->has_learnt = false;
+    it->has_played = false;
+}

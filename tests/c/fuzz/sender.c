@@ -1,0 +1,471 @@
+/* The model of a sender (docs/PROTOCOL.md, "Sending", "The sender's history", "Compound datagrams"), and the calls of one. */
+#include "fuzz.h"
+
+#include <stdio.h>
+#include <stdlib.h>
+
+/* A packet of the history. */
+struct kept {
+    size_t length; /* of the datagram, and of it */
+    size_t at;     /* where the payload begins, and */
+    uint8_t padding;
+    uint64_t digest;
+    unsigned repeats;
+    bool is_marked;
+    uint8_t datagram[GOZDRIT_MAX_DATAGRAM];
+};
+
+static struct sender {
+    bool is_made;
+    unsigned session;
+    gozdrit_sender_config config;
+    gozdrit_send_counts counts;
+    uint64_t first, next; /* the first packet's sequence, and the next one's */
+    uint16_t rtx_next;
+    uint64_t fed;
+    struct kept *history; /* of GOZDRIT_MAX_STORE packets, each at its sequence modulo that */
+} senders[SESSIONS];
+
+static enum area handle_of(const struct sender *it) { return (enum area)(AREA_HANDLE + (it - senders)); }
+
+void make_senders(void) {
+    unsigned i;
+    for (i = 0; i < SESSIONS; i++) {
+        senders[i].session = i;
+        senders[i].history = calloc(GOZDRIT_MAX_STORE, sizeof(struct kept));
+        if (senders[i].history == NULL) {
+            perror("calloc");
+            exit(2);
+        }
+    }
+}
+
+static struct kept *kept_at(struct sender *it, uint64_t sequence) { return &it->history[sequence % GOZDRIT_MAX_STORE]; }
+
+/* The oldest packet of the history. */
+static uint64_t oldest(const struct sender *it) {
+    return it->next - it->first > it->config.history ? it->next - it->config.history : it->first;
+}
+
+/* ---- the handle, as each call has it */
+
+static gozdrit_sender *lend(struct sender *it, bool to_write) { return pointer(lend_handle(handle_of(it), to_write)); }
+
+/* After a refusal all of it is as it was; else it holds an end or not. */
+static void check_handle(struct sender *it, int32_t answer) {
+    const gozdrit_sender *handle = lies(handle_of(it));
+    check_kept(handle_of(it), answer == GOZDRIT_OK ? sizeof *handle : 0);
+    same(it->is_made, handle->held, "the handle's `held`");
+}
+
+static int32_t unless_none(const struct sender *it, int32_t answer) { return it->is_made ? answer : GOZDRIT_NO_END; }
+
+/* ---- made and freed */
+
+int32_t check_session(const gozdrit_session *session) {
+    uint8_t media_type = session->media_type, rtx_type = session->rtx_type;
+    bool is_static = session->any_media_type && media_type < 64;
+    if (!is_static && (media_type < 96 || media_type > 127)) return GOZDRIT_BAD_TYPE;
+    if (rtx_type < 96 || rtx_type > 127 || rtx_type == media_type) return GOZDRIT_BAD_TYPE;
+    if (session->media_ssrc == session->rtx_ssrc || session->media_ssrc == session->receiver_ssrc
+        || session->rtx_ssrc == session->receiver_ssrc)
+        return GOZDRIT_SAME_SSRC;
+    return GOZDRIT_OK;
+}
+
+static int32_t check_config(const gozdrit_sender_config *config) {
+    int32_t fault = check_session(&config->session);
+    if (fault != GOZDRIT_OK) return fault;
+    if (config->history == 0 || config->history > GOZDRIT_MAX_STORE || config->repeats == 0 || config->reserved != 0)
+        return GOZDRIT_BAD_LIMIT;
+    return GOZDRIT_OK;
+}
+
+static void draw_config(struct sender *it, gozdrit_sender_config *config) {
+    random_octets((uint8_t *)config, sizeof *config);
+    if (!it->is_made && one_in(6)) change_session(it->session);
+    config->session = *usual_session(it->session);
+    config->history = one_in(40) ? below(2) * between(8192, 8194) : between(1, one_in(8) ? 8192 : one_in(3) ? 3 : 100);
+    if (one_in(2)) config->first = (uint16_t)it->next; /* as if the stream went on */
+    config->repeats = (uint8_t)(one_in(30) ? 0 : between(1, one_in(3) ? 255 : 4));
+    config->any_reporter = one_in(4) ? (gozdrit_bool)between(1, 255) : 0;
+    config->reserved = one_in(40) ? random_bits() : 0;
+}
+
+static void call_new(struct sender *it) {
+    gozdrit_sender_config config;
+    const gozdrit_sender_config *lent;
+    int32_t expected, answer;
+    begin_call(CALL_sender_new);
+    draw_config(it, &config);
+    expected = it->is_made ? GOZDRIT_HELD : check_config(&config);
+    lent = pointer(lend_in(AREA_STRUCT, &config, sizeof config));
+    answer = gozdrit_sender_new(lent, lend(it, true));
+    end_call(expected, answer);
+    if (answer == GOZDRIT_OK) {
+        it->is_made = true;
+        it->config = config;
+        it->first = it->next = 65536 + (uint64_t)config.first;
+        it->rtx_next = config.rtx_first;
+        memset(&it->counts, 0, sizeof it->counts);
+    }
+    check_handle(it, answer);
+    check_kept(AREA_STRUCT, 0);
+}
+
+static void call_free(struct sender *it) {
+    int32_t answer;
+    begin_call(CALL_sender_free);
+    answer = gozdrit_sender_free(lend(it, true));
+    end_call(unless_none(it, GOZDRIT_OK), answer);
+    if (answer == GOZDRIT_OK) it->is_made = false;
+    check_handle(it, answer);
+}
+
+void free_senders(void) {
+    unsigned i;
+    for (i = 0; i < SESSIONS; i++) {
+        while (senders[i].is_made) call_free(&senders[i]);
+        free(senders[i].history);
+    }
+}
+
+static void call_defaults(void) {
+    gozdrit_sender_config *config;
+    int32_t answer;
+    begin_call(CALL_sender_defaults);
+    config = lend_out(AREA_STRUCT, sizeof *config);
+    answer = gozdrit_sender_defaults(pointer(config));
+    end_call(GOZDRIT_OK, answer);
+    check_kept(AREA_STRUCT, answer == GOZDRIT_OK ? sizeof *config : 0);
+    if (answer != GOZDRIT_OK) return;
+    same(1024, config->history, "history");
+    same(4, config->repeats, "repeats");
+    holds(config->first == 0 && config->rtx_first == 0 && config->any_reporter == 0 && config->reserved == 0, "all else is 0");
+    holds(config->session.media_ssrc == 0 && config->session.rtx_ssrc == 0 && config->session.receiver_ssrc == 0
+              && config->session.media_type == 0 && config->session.rtx_type == 0 && config->session.any_media_type == 0,
+          "the session is 0");
+}
+
+/* ---- sent and retransmitted */
+
+/* Whether a header and a payload are within the limits; then the datagram that they make is put at the next place of the
+ * history, but not yet counted as one of it. */
+static bool make_packet(struct sender *it, struct kept *made, const gozdrit_header *header, const uint8_t *payload,
+                        size_t length, uint8_t padding) {
+    if (length > GOZDRIT_MAX_PAYLOAD || header->source_count > GOZDRIT_MAX_SOURCES) return false;
+    if (header->has_extension && header->word_count > GOZDRIT_MAX_WORDS) return false;
+    made->length = write_packet(made->datagram, header, payload, length, padding);
+    set_stream(made->datagram, it->config.session.media_type, (uint16_t)it->next, it->config.session.media_ssrc);
+    made->padding = padding;
+    made->at = made->length - padding - length;
+    made->digest = digest(header, payload, length);
+    made->repeats = 0;
+    made->is_marked = false;
+    return true;
+}
+
+static int32_t expect_send(const struct sender *it, const struct kept *made, bool fits, size_t length, size_t room) {
+    if (!it->is_made) return GOZDRIT_NO_END;
+    if (!fits) return GOZDRIT_TOO_LARGE;
+    if (room < made->length) return GOZDRIT_NO_ROOM;
+    return made->padding > 0 && length == 0 ? GOZDRIT_PADDED_EMPTY : GOZDRIT_OK;
+}
+
+/* Tells that `out` has the datagram at its front, and `sent` tells of it. */
+static void check_sent(int32_t answer, const uint8_t *datagram, size_t length, uint64_t sequence) {
+    const gozdrit_sent *sent = lies(AREA_TOLD), *before = lay(AREA_TOLD);
+    bool is_ok = answer == GOZDRIT_OK;
+    check_kept(AREA_TOLD, is_ok ? sizeof *sent : 0);
+    check_kept(AREA_OUT, is_ok ? length : 0);
+    if (!is_ok) return;
+    same(length, sent->length, "sent->length");
+    same(length > 0 ? sequence : before->sequence, sent->sequence, "sent->sequence");
+    holds(length == 0 || memcmp(lies(AREA_OUT), datagram, length) == 0, "the datagram is that of the header and the payload");
+}
+
+/* Keeps a datagram that was made of a packet of the history. */
+static void keep(struct sender *it, const uint8_t *datagram, size_t length, uint64_t sequence, bool is_retransmission) {
+    struct origin origin = {true, false, 0, 0};
+    origin.is_retransmission = is_retransmission;
+    origin.number = (uint16_t)sequence;
+    origin.digest = kept_at(it, sequence)->digest;
+    keep_media(it->session, datagram, length, &origin);
+}
+
+/* Sends one packet with this room, and answers whether it was sent. */
+static bool send_packet(struct sender *it, const gozdrit_header *header, const uint8_t *payload, size_t length,
+                        uint8_t padding, size_t room) {
+    static struct kept made;
+    bool fits = make_packet(it, &made, header, payload, length, padding);
+    const gozdrit_header *lent = pointer(lend_in(AREA_STRUCT, header, sizeof *header));
+    const uint8_t *octets = octets_pointer(lend_in(AREA_IN, payload, length), length);
+    gozdrit_sent *sent = pointer(lend_out(AREA_TOLD, sizeof *sent));
+    uint8_t *out = octets_pointer(lend_out(AREA_OUT, room), room);
+    int32_t answer = gozdrit_send(lend(it, true), lent, octets, length, padding, sent, out, room);
+    end_call(expect_send(it, &made, fits, length, room), answer);
+    check_handle(it, answer);
+    check_kept(AREA_STRUCT, 0);
+    check_kept(AREA_IN, 0);
+    check_sent(answer, made.datagram, made.length, it->next);
+    if (answer != GOZDRIT_OK) return false;
+    memcpy(kept_at(it, it->next), &made, sizeof made);
+    keep(it, made.datagram, made.length, it->next, false);
+    it->next++;
+    it->counts.sent++;
+    it->counts.octets += length;
+    return true;
+}
+
+static void call_send(struct sender *it) {
+    static uint8_t payload[LONGEST];
+    gozdrit_header header;
+    size_t length, needed;
+    uint8_t padding = (uint8_t)(one_in(6) ? between(1, 255) : 0);
+    begin_call(CALL_send);
+    draw_header(&header);
+    length = draw_payload(payload);
+    needed = packet_length(&header, length, padding);
+    if (one_in(8)) { /* one octet too few, and then the same with just enough */
+        send_packet(it, &header, payload, length, padding, needed - 1);
+        begin_call(CALL_send);
+    }
+    send_packet(it, &header, payload, length, padding, draw_room(needed, GOZDRIT_MAX_DATAGRAM));
+}
+
+/* The retransmission of a packet: as the packet, without its padding, in the other stream, and with its number in front. */
+static size_t make_retransmission(struct sender *it, const struct kept *kept, uint8_t *out) {
+    size_t length = kept->length - kept->padding;
+    memcpy(out, kept->datagram, kept->at);
+    memcpy(out + kept->at + 2, kept->datagram + kept->at, length - kept->at);
+    memcpy(out + kept->at, kept->datagram + 2, 2);
+    out[0] &= 0xdf;
+    set_stream(out, it->config.session.rtx_type, it->rtx_next, it->config.session.rtx_ssrc);
+    return length + 2;
+}
+
+/* The least sequence that is to be retransmitted, or the next one where there is none. */
+static uint64_t next_marked(struct sender *it) {
+    uint64_t sequence = it->is_made ? oldest(it) : it->next;
+    while (sequence < it->next && !kept_at(it, sequence)->is_marked) sequence++;
+    return sequence;
+}
+
+static void retransmit(struct sender *it, uint64_t sequence, const uint8_t *datagram, size_t length, size_t room) {
+    gozdrit_sent *sent = pointer(lend_out(AREA_TOLD, sizeof *sent));
+    uint8_t *out = octets_pointer(lend_out(AREA_OUT, room), room);
+    gozdrit_sender *handle = lend(it, true);
+    int32_t answer = one_in(8) ? gozdrit_next_repair(handle, sent, out, room) : gozdrit_retransmit(handle, sent, out, room);
+    end_call(unless_none(it, room < length ? GOZDRIT_NO_ROOM : GOZDRIT_OK), answer);
+    check_handle(it, answer);
+    check_sent(answer, datagram, length, sequence);
+    if (answer == GOZDRIT_OK && length > 0) {
+        struct kept *kept = kept_at(it, sequence);
+        kept->is_marked = false;
+        kept->repeats++;
+        it->rtx_next++;
+        it->counts.retransmissions++;
+        keep(it, datagram, length, sequence, true);
+    }
+}
+
+static void call_retransmit(struct sender *it) {
+    static uint8_t datagram[GOZDRIT_MAX_DATAGRAM];
+    uint64_t sequence = next_marked(it);
+    size_t length = sequence < it->next ? make_retransmission(it, kept_at(it, sequence), datagram) : 0;
+    begin_call(CALL_retransmit);
+    if (length > 0 && one_in(4)) {
+        retransmit(it, sequence, datagram, length, length - 1);
+        begin_call(CALL_retransmit);
+    }
+    retransmit(it, sequence, datagram, length, draw_room(length, GOZDRIT_MAX_DATAGRAM));
+}
+
+/* ---- what it hears */
+
+/* The walk over RTCP packets: 0 where there is a NACK, or the fault that decides. */
+static int32_t walk(const uint8_t *octets, size_t length) {
+    bool has_nack = false, has_feedback = false;
+    size_t at = 0;
+    if (length == 0) return GOZDRIT_FEEDBACK_SHORT;
+    while (at < length) {
+        const uint8_t *packet = octets + at;
+        bool is_nack;
+        size_t whole;
+        if (length - at < 4) return GOZDRIT_FEEDBACK_SHORT;
+        if (packet[0] >> 6 != 2) return GOZDRIT_FEEDBACK_VERSION;
+        is_nack = packet[1] == 205 && (packet[0] & 31) == 1;
+        if (is_nack && (packet[0] & 32) != 0) return GOZDRIT_FEEDBACK_PADDED;
+        whole = 4 + 4 * (size_t)get16(packet + 2);
+        if (whole > length - at) return GOZDRIT_FEEDBACK_LENGTH;
+        if (is_nack && whole < 12) return GOZDRIT_FEEDBACK_SHORT;
+        if (is_nack && whole == 12) return GOZDRIT_FEEDBACK_EMPTY;
+        has_nack |= is_nack;
+        has_feedback |= packet[1] == 205;
+        at += whole;
+    }
+    return has_nack ? 0 : has_feedback ? GOZDRIT_NOT_NACK : GOZDRIT_NOT_RTPFB;
+}
+
+/* A number that a NACK of the session names. */
+static void hear_number(struct sender *it, uint16_t number, gozdrit_told *told) {
+    uint64_t back = (uint16_t)((uint16_t)it->next - number), sequence = it->next - (back == 0 ? 65536 : back);
+    struct kept *kept = kept_at(it, sequence);
+    told->numbers++;
+    if (back == 0 || sequence < oldest(it)) {
+        told->unknown++;
+    } else if (kept->repeats == it->config.repeats) {
+        told->exhausted++;
+    } else if (!kept->is_marked) {
+        kept->is_marked = true;
+        told->marked++;
+    }
+}
+
+static void hear_nack(struct sender *it, const uint8_t *packet, size_t length, gozdrit_told *told) {
+    size_t at, bit;
+    for (at = 12; at < length; at += 4) {
+        uint16_t pid = get16(packet + at), blp = get16(packet + at + 2);
+        hear_number(it, pid, told);
+        for (bit = 0; bit < 16; bit++)
+            if (blp >> bit & 1) hear_number(it, (uint16_t)(pid + 1 + bit), told);
+    }
+    told->nacks++;
+}
+
+/* 0 where a NACK is for this sender, or 18 or 19. */
+static int32_t refuse_nack(const struct sender *it, const uint8_t *packet) {
+    if (get32(packet + 8) != it->config.session.media_ssrc) return GOZDRIT_WRONG_MEDIA;
+    if (!it->config.any_reporter && get32(packet + 4) != it->config.session.receiver_ssrc) return GOZDRIT_WRONG_REPORTER;
+    return 0;
+}
+
+/* Goes on with the NACKs of a datagram without a fault. */
+static void hear_nacks(struct sender *it, const uint8_t *octets, size_t length, gozdrit_told *told) {
+    int32_t first = 0;
+    size_t at, whole;
+    for (at = 0; at < length; at += whole) {
+        int32_t fault;
+        whole = 4 + 4 * (size_t)get16(octets + at + 2);
+        if (octets[at + 1] != 205 || (octets[at] & 31) != 1) continue;
+        fault = refuse_nack(it, octets + at);
+        if (fault == 0) {
+            hear_nack(it, octets + at, whole, told);
+            continue;
+        }
+        told->others++;
+        if (first == 0) first = fault;
+    }
+    told->kind = GOZDRIT_FEEDBACK;
+    if (told->nacks > 0) return;
+    memset(told, 0, sizeof *told);
+    told->refusal = (uint8_t)first;
+}
+
+/* What the model hears, with its counts. */
+static void hear(struct sender *it, const uint8_t *octets, size_t length, gozdrit_told *told) {
+    int32_t fault;
+    memset(told, 0, sizeof *told);
+    if (!is_rtcp(octets, length)) {
+        told->kind = GOZDRIT_MEDIA;
+        it->counts.media++;
+        return;
+    }
+    fault = walk(octets, length);
+    if (fault == GOZDRIT_NOT_RTPFB || fault == GOZDRIT_NOT_NACK) {
+        told->kind = GOZDRIT_REPORTS;
+        it->counts.reports++;
+        return;
+    }
+    told->refusal = (uint8_t)fault;
+    if (fault == 0) hear_nacks(it, octets, length, told);
+    if (told->kind == GOZDRIT_NOT_TAKEN) it->counts.refused++;
+    it->counts.nacks += told->nacks;
+    it->counts.others += told->others;
+    it->counts.numbers += told->numbers;
+    it->counts.unknown += told->unknown;
+    it->counts.exhausted += told->exhausted;
+}
+
+static void call_feedback(struct sender *it) {
+    static struct datagram drawn;
+    gozdrit_told *told, expected;
+    const uint8_t *octets;
+    int32_t answer;
+    begin_call(CALL_feedback);
+    draw_feedback(&drawn, it->session, &it->fed, (uint16_t)it->next);
+    octets = octets_pointer(lend_in(AREA_IN, drawn.octets, drawn.length), drawn.length);
+    told = lend_out(AREA_TOLD, sizeof *told);
+    answer = gozdrit_feedback(lend(it, true), octets, drawn.length, pointer(told));
+    end_call(unless_none(it, GOZDRIT_OK), answer);
+    check_handle(it, answer);
+    check_kept(AREA_IN, 0);
+    check_kept(AREA_TOLD, answer == GOZDRIT_OK ? sizeof *told : 0);
+    if (answer != GOZDRIT_OK) return;
+    hear(it, drawn.octets, drawn.length, &expected);
+    same(expected.kind, told->kind, "told->kind");
+    same(expected.refusal, told->refusal, "told->refusal");
+    same(expected.marked, told->marked, "told->marked");
+    same(expected.nacks, told->nacks, "told->nacks");
+    same(expected.others, told->others, "told->others");
+    same(expected.numbers, told->numbers, "told->numbers");
+    same(expected.unknown, told->unknown, "told->unknown");
+    same(expected.exhausted, told->exhausted, "told->exhausted");
+    count_told(TOLD_KIND, told->kind);
+    count_told(TOLD_REFUSAL, told->refusal);
+}
+
+static void call_mark_last(struct sender *it) {
+    uint32_t *marked, expected = 0;
+    int32_t answer;
+    begin_call(CALL_mark_last);
+    marked = lend_out(AREA_NUMBER, sizeof *marked);
+    answer = gozdrit_mark_last(lend(it, true), pointer(marked));
+    end_call(unless_none(it, GOZDRIT_OK), answer);
+    check_handle(it, answer);
+    check_kept(AREA_NUMBER, answer == GOZDRIT_OK ? sizeof *marked : 0);
+    if (answer != GOZDRIT_OK) return;
+    if (it->next > it->first) {
+        struct kept *kept = kept_at(it, it->next - 1);
+        expected = !kept->is_marked && kept->repeats < it->config.repeats;
+        if (expected) kept->is_marked = true;
+    }
+    same(expected, *marked, "marked");
+}
+
+static void call_counts(struct sender *it) {
+    gozdrit_send_counts *counts;
+    int32_t answer;
+    begin_call(CALL_sender_counts);
+    counts = lend_out(AREA_TOLD, sizeof *counts);
+    answer = gozdrit_sender_counts(lend(it, false), pointer(counts));
+    end_call(unless_none(it, GOZDRIT_OK), answer);
+    check_handle(it, answer);
+    check_kept(AREA_TOLD, answer == GOZDRIT_OK ? sizeof *counts : 0);
+    if (answer != GOZDRIT_OK) return;
+    same(it->counts.sent, counts->sent, "counts->sent");
+    same(it->counts.octets, counts->octets, "counts->octets");
+    same(it->counts.retransmissions, counts->retransmissions, "counts->retransmissions");
+    same(it->counts.nacks, counts->nacks, "counts->nacks");
+    same(it->counts.others, counts->others, "counts->others");
+    same(it->counts.numbers, counts->numbers, "counts->numbers");
+    same(it->counts.unknown, counts->unknown, "counts->unknown");
+    same(it->counts.exhausted, counts->exhausted, "counts->exhausted");
+    same(it->counts.media, counts->media, "counts->media");
+    same(it->counts.reports, counts->reports, "counts->reports");
+    same(it->counts.refused, counts->refused, "counts->refused");
+}
+
+void call_sender(void) {
+    struct sender *it = &senders[below(SESSIONS)];
+    uint32_t which = below(1000);
+    if (!it->is_made && one_in(2)) call_new(it);
+    else if (which < 1) call_free(it);
+    else if (which < 6) call_new(it);
+    else if (which < 10) call_defaults();
+    else if (which < 500) call_send(it);
+    else if (which < 700) call_feedback(it);
+    else if (which < 940) call_retransmit(it);
+    else if (which < 970) call_mark_last(it);
+    else call_counts(it);
+}
