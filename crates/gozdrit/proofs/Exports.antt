@@ -2,7 +2,7 @@
 --     drops, none_fit, none_had      an export has nothing of its parameters at the return
 --     answered     what a callee of one fact answered: its result, and the fact
 --     leave        the end: the result, and the `ensures`
---     gone_ptr, gone_int, gone_sint, gone_heap     the law that a parameter owes of which nothing is had
+--     gone_ptr, gone_int, gone_heap     the law that a parameter owes of which nothing is had
 --     alloc_made   a handle to the heap, which owns nothing
 --     moved_to, slice_moved     what lies at an address that is the same
 use Rattle.std.proofs.Common.{◌≡◌, ℕ, List, [], ◌∷◌, refl}
@@ -17,7 +17,6 @@ use types.Kit.{Item, Goal, Seq, Step, step, Soaks, ‵, raw, ◌⊛◌, some, la
 use denote.RattleType.{RattleType, Denots, Valss}
 use denote.Exit.{yes}
 use denote.Plain.{UInt}
-use denote.Signed.{SInt}
 use denote.RawPtr.{Ptr, RawPtr}
 use denote.Signature.{Slot, plain, types_at, type_at}
 use denote.Steps.{owned, nothing}
@@ -85,9 +84,6 @@ module _ {M : Type 1} {𝓤 : Ura M} (𝓛 : Logic 𝓤) where
 
   pub gone_int : (w : Width) → Goes 𝓛 0 (plain (λ _. UInt w)) yes (stay_dropped (plain (λ _. UInt w)) yes)
   gone_int w = Goes-dropped 𝓛 0 (plain (λ _. UInt w)) yes (λ κs x w'. refl)
-
-  pub gone_sint : (w : Width) → Goes 𝓛 0 (plain (λ _. SInt w)) yes (stay_dropped (plain (λ _. SInt w)) yes)
-  gone_sint w = Goes-dropped 𝓛 0 (plain (λ _. SInt w)) yes (λ κs x w'. refl)
 
   pub gone_heap : Goes 𝓛 0 (plain (λ _. heap.the_row)) yes (stay_dropped (plain (λ _. heap.the_row)) yes)
   gone_heap = Goes-dropped 𝓛 0 (plain (λ _. heap.the_row)) yes (λ κs x w. refl)

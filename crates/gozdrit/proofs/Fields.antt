@@ -1,4 +1,4 @@
--- A pointer beside the heap's handle, which a `Handle`, an `Unboxed`, a box and a pair can all be. Assumes `Logic`.
+-- A pointer beside the heap's handle, which an `Unboxed`, a box and a pair can all be. Assumes `Logic`.
 --     held_val, held_ty, held-Good     its machine value, which the pointer fixes, and that it is of its type; heap_good the same of the handle alone
 --     Held, held_told, heap_in         the fields as a row: they tell that value, and that the heap's handle is one
 --     held_made                        they own nothing, so they are made of nothing

@@ -16,7 +16,6 @@ pub use types.ByLocal.{alloc_all, pass_all, free_all, look_at, get, get_in, sets
 pub use types.Part.{agg, sub, whole}
 pub use denote.Builtin.{i32, u8, u16, u32, u64, usize}
 pub use denote.Plain.{uint_vals, uint_Tells, uint_Makes}
-pub use denote.Signed.{sint_vals, sint_Tells, sint_Makes, sint_Lawful}
 pub use denote.RattleType.{RattleType}
 pub use denote.RawPtr.{Ptr, RawPtr, rawptr_vals, rawptr_Tells}
 pub use denote.Steps.{nothing, heard, owned}
@@ -29,4 +28,4 @@ pub use Rattle.gozdrit.specs.Lying.{value_lies_at, slice_lies_at}
 pub use Rattle.gozdrit.proofs.LentMemory.{Lent, ptr_good, value_made}
 pub use Rattle.gozdrit.proofs.Handed.{Back, a_value, a_slice, code_val, answer1_had, answer2_had, answer3_had, answer4_had, answer5_had}
 pub use Rattle.gozdrit.proofs.SliceMemory.{LentSlice, lent_slice_val, lent_slice-Good, slice_made}
-pub use Rattle.gozdrit.proofs.Exports.{drops, answered, gone_ptr, gone_int, gone_sint, gone_heap, alloc_made, moved_to, slice_moved, leave}
+pub use Rattle.gozdrit.proofs.Exports.{drops, answered, gone_ptr, gone_int, gone_heap, alloc_made, moved_to, slice_moved, leave}

@@ -16,7 +16,7 @@ out_of_memory = pos 73
 abbrev pub too_large : ℤ  -- a length or a count is above its largest
 too_large = pos 74
 
-abbrev pub no_room : ℤ  -- a buffer has less room than the call may need
+abbrev pub no_room : ℤ  -- a buffer has less room than this datagram or payload needs
 no_room = pos 75
 
 abbrev pub null_pointer : ℤ  -- a pointer is null where something has to lie

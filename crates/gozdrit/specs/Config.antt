@@ -46,18 +46,18 @@ pub record HasReceiverLimits (f : ReceiverFields) : Type 0 where
   pub reserved : f.reserved ≡ 0
 
 -- a number, or the usual one in the place of 0
-abbrev pub or_usual : (usual number : ℕ) → ℕ
-or_usual usual zero = usual
-or_usual usual (suc n) = suc n
+abbrev pub or_usual : (number usual : ℕ) → ℕ
+or_usual zero usual = usual
+or_usual (suc n) usual = suc n
 
 -- the probation of a sequence number that has jumped (RFC 3550, appendix A.1)
 abbrev pub probation_of : ReceiverFields → Probation
 probation_of f =
     record {
-      dropout = or_usual 3000 f.max_dropout;
-      misorder = or_usual 100 f.max_misorder;
-      ahead = or_usual 2 f.min_ahead;
-      behind = or_usual 256 f.min_behind;
+      dropout = or_usual f.max_dropout 3000;
+      misorder = or_usual f.max_misorder 100;
+      ahead = or_usual f.min_ahead 2;
+      behind = or_usual f.min_behind 256;
     }
 
 -- The first check that a configuration fails, of streams and limits.

@@ -23,7 +23,7 @@ pub(crate) const OUT_OF_MEMORY: i32 = 73;
 /// A length or a count is above its largest.
 pub(crate) const TOO_LARGE: i32 = 74;
 
-/// A buffer has less room than the call may need.
+/// A buffer has less room than this datagram or payload needs.
 pub(crate) const NO_ROOM: i32 = 75;
 
 /// A pointer is null where something has to lie.

@@ -139,7 +139,7 @@ impl ReceiverFields {
 
 /// A number, or the usual one in the place of 0.
 fn or_usual(number: u16, usual: u16) -> u16
-    ensures { result ≡ or_usual usual number }
+    ensures { result ≡ or_usual number usual }
 {
     if number == 0 { usual } else { number }
 }
