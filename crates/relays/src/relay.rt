@@ -1,0 +1,75 @@
+//! A relay, as what carries its datagrams sees it.
+ghost use Rattle.std.specs.Prelude.{◌≡◌, ◌≤◌, ℕ, List, Option, None, length, IfSome};
+ghost use Rattle.rtpwire.specs.declared.limits.TheConstants.{MAX_DATAGRAM};
+ghost use Rattle.std.specs.declared.net.socket_addr.SocketAddr.{SocketAddr};
+ghost use Rattle.relays.specs.declared.outside.Side.{Side};
+ghost use Rattle.relays.specs.declared.relay.Turn.{Turn};
+ghost use Rattle.relays.specs.Passing.{IsWithin};
+
+use crate::outside::Side;
+use places::Place;
+use rtpwire::MAX_DATAGRAM;
+use std::net::SocketAddr;
+
+/// What a relay did.
+#[derive(Clone, Copy, Debug, PartialEq, Eq)]
+pub enum Note {
+    /// Nothing that anybody needs to know.
+    Nothing,
+    /// It sent what came at this place.
+    Sent(Place),
+}
+
+/// A datagram that leaves: by which side, for which address, and how many octets it has.
+#[derive(Clone, Copy, Debug, PartialEq, Eq)]
+pub struct Departure {
+    pub side: Side,
+    pub to: SocketAddr,
+    pub len: usize,
+}
+
+/// What a relay did, and the datagram that leaves because of it.
+#[derive(Clone, Copy, Debug, PartialEq, Eq)]
+pub struct Turn {
+    pub note: Note,
+    pub leaves: Option<Departure>,
+}
+
+/// One direction of a session, between an application and a network.
+pub trait Relay {
+    /// What it does with octets that came to a side from an address at a moment, and the octets that are written then.
+    ghost hears: { Self → Side → SocketAddr → List ℕ → ℕ → Turn → List ℕ → Self → Type 0 };
+
+    /// What it does of its own at a moment, and the octets that are written then.
+    ghost speaks: { Self → ℕ → Option Turn → List ℕ → Self → Type 0 };
+
+    /// Takes the octets of a datagram that came to a side from an address at the moment `now`, in milliseconds. What leaves
+    /// because of it stands at the front of `out`.
+    fn hear(
+        &mut self,
+        side: Side,
+        from: SocketAddr,
+        octets: &[u8],
+        now: u64,
+        out: &mut [u8],
+    ) -> Turn
+        requires { length out.old ≡ MAX_DATAGRAM }
+        ensures hears { hears self.old side from octets.now now result out.new self.new }
+        ensures within { IsWithin result }
+        ensures room { length out.new ≡ MAX_DATAGRAM };
+
+    /// Does the next thing that is to be done at the moment `now`, in milliseconds. What leaves because of it stands at the
+    /// front of `out`. None: there is nothing to do, and nothing changes.
+    fn speak(&mut self, now: u64, out: &mut [u8]) -> Option<Turn>
+        requires { length out.old ≡ MAX_DATAGRAM }
+        ensures speaks { speaks self.old now result out.new self.new }
+        ensures none { result ≡ None → self.new ≡ self.old }
+        ensures within { IfSome result IsWithin }
+        ensures room { length out.new ≡ MAX_DATAGRAM };
+
+    /// The moment to call [`speak`](Relay::speak) again, in milliseconds, if nothing comes until then.
+    fn next_moment(&self) -> Option<u64>;
+
+    /// Whether it has done all that it was to do.
+    fn is_done(&self, now: u64) -> bool;
+}
