@@ -36,11 +36,15 @@ happen_then {R} hears speaks old was before first mid then [] last new now h g =
     let at_new : Happen hears speaks old was before first new then = subst (λ (r : R). Happen hears speaks old was before first r then) (sym g.0) h in
     let at_now : Happen hears speaks old was before first new now = subst (λ (t : ℕ). Happen hears speaks old was before first new t) (sym g.2) at_new in
     subst (λ (x : List Passage). Happen hears speaks old was before x new now) (sym nothing) at_now
-happen_then {R} hears speaks old was before first mid then (deed ∷ deeds) last new now h g =
-    (g.0, g.1, first ++ g.2, g.3,
-      happen_then hears speaks old was before first mid then deeds g.2 g.0 g.1 h g.4,
-      g.5,
-      ap (λ (x : List Passage). first ++ x) g.6 ∙ sym (append_assoc first g.2 g.3))
+happen_then {R} hears speaks old was before first mid then (deed ∷ deeds) last new now h g = (
+  g.0,
+  g.1,
+  first ++ g.2,
+  g.3,
+  happen_then hears speaks old was before first mid then deeds g.2 g.0 g.1 h g.4,
+  g.5,
+  ap (λ (x : List Passage). first ++ x) g.6 ∙ sym (append_assoc first g.2 g.3),
+)
 
 pub goes_then : {R : Type 0} (hears : Hearing R) (speaks : Speaking R) (old : R) (was : ℕ) (mid : R) (then : ℕ) (new : R) (now : ℕ) (a b c : Option (List Passage))
     → GoesOn hears speaks old was a mid then b → GoesOn hears speaks mid then b new now c → GoesOn hears speaks old was a new now c
@@ -64,20 +68,22 @@ pub met_something : {R : Type 0} (hears : Hearing R) (speaks : Speaking R) (old 
     → GoesOn hears speaks old was a new now c
 met_something hears speaks old was now came side from room octets turn out new a b c some grows is heard_it leaves =
     does hears speaks old was (heard side from room turn out) (Came side from room now ∷ left_by turn out) new now a c
-      (subst (λ (x : List ℕ). hears old side from x now turn out new) is heard_it, refl)
-      (grows_then a b c (Came side from room now ∷ []) (left_by turn out) (subst (λ (o : Option (Side × SocketAddr)). Grows a (passage_at o now room ∷ []) b) some grows) leaves)
+    (subst (λ (x : List ℕ). hears old side from x now turn out new) is heard_it, refl)
+    (grows_then a b c (Came side from room now ∷ []) (left_by turn out) (subst (λ (o : Option (Side × SocketAddr)). Grows a (passage_at o now room ∷ []) b) some grows) leaves)
 
 -- ---- what is done at a moment
 
 pub spoke_one : {R : Type 0} (hears : Hearing R) (speaks : Speaking R) (old : R) (now : ℕ) (answer : Option Turn) (turn : Turn) (out : List ℕ) (new : R) (a b : Option (List Passage))
     → answer ≡ Some turn → speaks old now answer out new → Grows a (left_by turn out) b → GoesOn hears speaks old now a new now b
 spoke_one hears speaks old now answer turn out new a b some spoken grows =
-    does hears speaks old now (spoke turn out) (left_by turn out) new now a b
-      (refl, subst (λ (o : Option Turn). speaks old now o out new) some spoken, refl) grows
+    does hears speaks old now (spoke (Some turn) out) (left_by turn out) new now a b
+    (refl, subst (λ (o : Option Turn). speaks old now o out new) some spoken, refl) grows
 
-pub spoke_none : {R : Type 0} (hears : Hearing R) (speaks : Speaking R) (old mid new : R) (now : ℕ) (a b : Option (List Passage))
-    → GoesOn hears speaks old now a mid now b → new ≡ mid → GoesOn hears speaks old now a new now b
-spoke_none {R} hears speaks old mid new now a b goes same = subst (λ (r : R). GoesOn hears speaks old now a r now b) (sym same) goes
+pub spoke_none : {R : Type 0} (hears : Hearing R) (speaks : Speaking R) (old : R) (now : ℕ) (answer : Option Turn) (out : List ℕ) (new : R) (a : Option (List Passage))
+    → answer ≡ None → speaks old now answer out new → GoesOn hears speaks old now a new now a
+spoke_none hears speaks old now answer out new a none spoken =
+    does hears speaks old now (spoke None out) [] new now a a
+    (refl, subst (λ (o : Option Turn). speaks old now o out new) none spoken, refl) (grows_nothing a)
 
 -- ---- a run
 
@@ -86,13 +92,15 @@ ran_nothing hears speaks r told = (0, stays hears speaks r 0 told)
 
 pub ran_stopped : {R : Type 0} (hears : Hearing R) (speaks : Speaking R) (old mid new : R) (a b c : Option (List Passage))
     → Ran hears speaks old a mid b → new ≡ mid → Grows b [] c → Ran hears speaks old a new c
-ran_stopped {R} hears speaks old mid new a b c ran same grows =
-    (ran.0, record {
-      deeds = ran.1.deeds;
-      passed = ran.1.passed;
-      happen = subst (λ (r : R). Happen hears speaks old 0 ran.1.deeds ran.1.passed r ran.0) (sym same) ran.1.happen;
-      tells = subst (λ (x : List Passage). Grows a x c) (append-nil ran.1.passed) (grows_then a b c ran.1.passed [] ran.1.tells grows);
-    })
+ran_stopped {R} hears speaks old mid new a b c ran same grows = (
+  ran.0,
+  record {
+    deeds = ran.1.deeds;
+    passed = ran.1.passed;
+    happen = subst (λ (r : R). Happen hears speaks old 0 ran.1.deeds ran.1.passed r ran.0) (sym same) ran.1.happen;
+    tells = subst (λ (x : List Passage). Grows a x c) (append-nil ran.1.passed) (grows_then a b c ran.1.passed [] ran.1.tells grows);
+  },
+)
 
 pub ran_then : {R : Type 0} (hears : Hearing R) (speaks : Speaking R) (old mid : R) (now : ℕ) (met new : R) (a b c d : Option (List Passage))
     → Ran hears speaks old a mid b → ((was : ℕ) → GoesOn hears speaks mid was b met now c) → GoesOn hears speaks met now c new now d → Ran hears speaks old a new d

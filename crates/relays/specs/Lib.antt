@@ -1,2 +1,9 @@
 pub mod Passing
 pub mod Running
+pub mod Pacing
+pub mod Following
+pub mod Numbering
+pub mod RoundTrip
+pub mod Leaving
+pub mod SendRelay
+pub mod ReceiveRelay

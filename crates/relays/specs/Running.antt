@@ -4,7 +4,7 @@ use Rattle.arrayvec.specs.ArrayVec.{ArrayVec}
 use Rattle.std.specs.declared.net.socket_addr.SocketAddr.{SocketAddr}
 use Rattle.relays.specs.declared.outside.Side.{Side}
 use Rattle.relays.specs.declared.outside.Passage.{Passage}
-use Rattle.relays.specs.declared.outside.Passage.TheVariants.{Came, Idle, Left}
+use Rattle.relays.specs.declared.outside.Passage.TheVariants.{Came, Idle}
 use Rattle.relays.specs.declared.relay.Turn.{Turn}
 use Rattle.relays.specs.Passing.{Grows, left_by}
 
@@ -15,11 +15,16 @@ Hearing R = R → Side → SocketAddr → List ℕ → ℕ → Turn → List ℕ
 abbrev pub Speaking : Type 0 → Type 1
 Speaking R = R → ℕ → Option Turn → List ℕ → R → Type 0
 
+-- what leaves, if anything was done
+abbrev pub left_by_any : Option Turn → (out : List ℕ) → List Passage
+left_by_any None out = []
+left_by_any (Some turn) out = left_by turn out
+
 -- One thing that happens to a relay.
 pub data Deed : Type 0 where
   heard : (side : Side) → (from : SocketAddr) → (octets : ArrayVec ℕ) → (turn : Turn) → (out : List ℕ) → Deed  -- a datagram came
   waited : Deed  -- nothing came
-  spoke : (turn : Turn) → (out : List ℕ) → Deed  -- it did something of its own
+  spoke : (answer : Option Turn) → (out : List ℕ) → Deed  -- it was asked what it does of its own
 
 -- It happens: what came is handed to the relay, and what it makes leaves. `was` is the moment before, and `now` the one after:
 -- a wait ends at one, and what a relay does of its own it does at the last one that was met.
@@ -27,8 +32,8 @@ abbrev pub Happens : {R : Type 0} → Hearing R → Speaking R → R → (was : 
 Happens hears speaks old was (heard side from octets turn out) passed new now =
     hears old side from octets.items now turn out new × (passed ≡ Came side from octets now ∷ left_by turn out)
 Happens hears speaks old was waited passed new now = (new ≡ old) × (passed ≡ Idle now ∷ [])
-Happens hears speaks old was (spoke turn out) passed new now =
-    (now ≡ was) × speaks old now (Some turn) out new × (passed ≡ left_by turn out)
+Happens hears speaks old was (spoke answer out) passed new now =
+    (now ≡ was) × speaks old now answer out new × (passed ≡ left_by_any answer out)
 
 -- so much happens, the newest first
 abbrev pub Happen : {R : Type 0} → Hearing R → Speaking R → R → (was : ℕ) → List Deed → List Passage → R → (now : ℕ) → Type 0

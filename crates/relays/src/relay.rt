@@ -7,17 +7,39 @@ ghost use Rattle.relays.specs.declared.relay.Turn.{Turn};
 ghost use Rattle.relays.specs.Passing.{IsWithin};
 
 use crate::outside::Side;
+use endpoint::{Heard, Told};
+use fbwire::FeedbackFault;
 use places::Place;
+use receiver::ReceiveFault;
 use rtpwire::MAX_DATAGRAM;
+use sender::Marked;
 use std::net::SocketAddr;
 
 /// What a relay did.
 #[derive(Clone, Copy, Debug, PartialEq, Eq)]
 pub enum Note {
-    /// Nothing that anybody needs to know.
-    Nothing,
-    /// It sent what came at this place.
+    /// A packet of the application was sent at this place.
     Sent(Place),
+    /// A datagram of the application is no packet of the stream, or none that can be sent.
+    Unsent,
+    /// The sending endpoint heard a datagram of the far side.
+    Told(Result<Told, FeedbackFault>),
+    /// A datagram came from an address that is not the far side's, and was taken by nobody.
+    Stray,
+    /// The packet of this place was retransmitted.
+    Retransmitted(Place),
+    /// The stream fell silent, and its last packet is to be retransmitted.
+    Marked(Marked),
+    /// The receiving endpoint heard a datagram of the far side.
+    Heard(Result<Heard, ReceiveFault>),
+    /// The receiving endpoint has other times.
+    Timed,
+    /// The packet of this place was played.
+    Played(Place),
+    /// This place was given up.
+    Gap(Place),
+    /// Missing places were asked for.
+    Asked,
 }
 
 /// A datagram that leaves: by which side, for which address, and how many octets it has.
@@ -33,6 +55,13 @@ pub struct Departure {
 pub struct Turn {
     pub note: Note,
     pub leaves: Option<Departure>,
+}
+
+/// Something was done, and nothing leaves because of it.
+pub(crate) fn silent(note: Note) -> Turn
+    ensures { result ≡ record { note = note; leaves = None } }
+{
+    Turn { note, leaves: None }
 }
 
 /// One direction of a session, between an application and a network.
@@ -59,11 +88,10 @@ pub trait Relay {
         ensures room { length out.new ≡ MAX_DATAGRAM };
 
     /// Does the next thing that is to be done at the moment `now`, in milliseconds. What leaves because of it stands at the
-    /// front of `out`. None: there is nothing to do, and nothing changes.
+    /// front of `out`. None: there is nothing to do.
     fn speak(&mut self, now: u64, out: &mut [u8]) -> Option<Turn>
         requires { length out.old ≡ MAX_DATAGRAM }
         ensures speaks { speaks self.old now result out.new self.new }
-        ensures none { result ≡ None → self.new ≡ self.old }
         ensures within { IfSome result IsWithin }
         ensures room { length out.new ≡ MAX_DATAGRAM };
 

@@ -1,11 +1,12 @@
-use Rattle.std.proofs.Common.{Some}
 use Rattle.relays.proofs.Going.{goes_then, spoke_none, spoke_one}
 use Rattle.relays.proofs.driving.act.Goals as goal
 
 pub returns-in_default-clause-goes : goal.returns-in_default-clause-goes
 returns-in_default-clause-goes g c =
-    spoke_none g.R.Relay.hears g.R.Relay.speaks c.args.relay.now c.loop.relay c.speak.new.self c.args.now (g.O.Outside.traffic c.args.outside.now) (g.O.Outside.traffic c.loop.outside)
-    c.loop.invariant.goes (c.speak.ensures.none c.in_default.is)
+    let a = g.O.Outside.traffic c.args.outside.now in
+    let b = g.O.Outside.traffic c.loop.outside in
+    goes_then g.R.Relay.hears g.R.Relay.speaks c.args.relay.now c.args.now c.loop.relay c.args.now c.speak.new.self c.args.now a b b c.loop.invariant.goes
+    (spoke_none g.R.Relay.hears g.R.Relay.speaks c.loop.relay c.args.now c.speak.result c.speak.new.out c.speak.new.self b c.in_default.is c.speak.ensures.speaks)
 
 pub loop-preserved : goal.loop-preserved
 loop-preserved g c =

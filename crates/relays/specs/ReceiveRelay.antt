@@ -1,0 +1,111 @@
+-- The relay behind a network that loses: what it does with what comes, and what it does of its own. Each case of what it notes has
+-- its equation, and what stands nowhere is never done.
+use Rattle.std.specs.Prelude.{◌≡◌, ℕ, Bool, true, false, List, Option, Some, None, Result, Ok}
+use Rattle.std.specs.declared.net.socket_addr.SocketAddr.{SocketAddr}
+use Rattle.rtpwire.specs.Rtp.{RtpSpells}
+use Rattle.rtpwire.specs.Content.{packet_of}
+use Rattle.receiver.specs.declared.answer.Played.{Played}
+use Rattle.receiver.specs.declared.answer.Played.TheVariants.{Packet, Gap, Wait}
+use Rattle.receiver.specs.declared.fault.ReceiveFault.{ReceiveFault}
+use Rattle.receiver.specs.Receiver.{Receiving, state_of, with_times}
+use Rattle.receiver.specs.Peeking.{play_of, receiver_passed}
+use Rattle.receiver.specs.Asks.{AsksMost}
+use Rattle.endpoint.specs.declared.holding.Run.{Run}
+use Rattle.endpoint.specs.declared.heard.Heard.{Heard}
+use Rattle.endpoint.specs.declared.heard.Heard.TheVariants as heard
+use Rattle.endpoint.specs.declared.probation.Probation.{Probation}
+use Rattle.endpoint.specs.Receiving.{ends_of, HearsDatagram}
+use Rattle.relays.specs.declared.outside.Side.{Side}
+use Rattle.relays.specs.declared.outside.Side.TheVariants.{Near, Far}
+use Rattle.relays.specs.declared.numbering.Numbering.{Numbering}
+use Rattle.relays.specs.declared.round_trip.Smoothed.{Smoothed}
+use Rattle.relays.specs.declared.relay.Note.{Note}
+use Rattle.relays.specs.declared.relay.Note.TheVariants as note
+use Rattle.relays.specs.declared.relay.Departure.{Departure}
+use Rattle.relays.specs.declared.relay.Turn.{Turn}
+use Rattle.relays.specs.Numbering.{numbered, numbered_after, anew}
+use Rattle.relays.specs.RoundTrip.{retry_of, delay_of}
+use Rattle.relays.specs.Leaving.{GoesTo, octets_of}
+
+-- what a relay is between two calls
+pub record ReceiveSide : Type 0 where
+  pub core : Receiving  -- the receivers of its endpoint, what that holds back, and when it believes a jump
+  pub spare : Receiving
+  pub run : Run
+  pub probation : Probation
+  pub far : SocketAddr
+  pub player : SocketAddr
+  pub numbering : Numbering  -- the sequence numbers that the player sees
+  pub smoothed : Option Smoothed  -- the round-trip time, once it was measured
+  pub is_new : Bool  -- it was measured since the times were set
+
+abbrev pub receive_side : Receiving → Receiving → Run → Probation → SocketAddr → SocketAddr → Numbering → Option Smoothed → Bool → ReceiveSide
+receive_side core spare run probation far player numbering smoothed is_new =
+    record { core = core; spare = spare; run = run; probation = probation; far = far; player = player; numbering = numbering; smoothed = smoothed; is_new = is_new }
+
+-- where a stream restarts, the numbers of what is played go on
+abbrev pub numbering_after : Result Heard ReceiveFault → Numbering → Numbering
+numbering_after (Ok (heard.Restarted r)) n = anew n
+numbering_after answer n = n
+
+-- What is done with a datagram at the far side's socket: the endpoint hears what the far side sent, and nobody else's. (What is
+-- measured by it decides nothing but the times.)
+abbrev pub HearsFar : ReceiveSide → (from : SocketAddr) → (octets : List ℕ) → (now : ℕ) → Note → Option Departure → ReceiveSide → Type 0
+HearsFar old from octets now (note.Heard answer) None new =
+    (from ≡ old.far)
+    × HearsDatagram old.probation (ends_of old.core old.spare old.run) octets now answer (ends_of new.core new.spare new.run)
+    × (new ≡ record old { core = new.core; spare = new.spare; run = new.run; numbering = numbering_after answer old.numbering; smoothed = new.smoothed; is_new = new.is_new })
+HearsFar old from octets now note.Stray None new = (from ≡ old.far → ⊥) × (new ≡ old)
+HearsFar old from octets now n leaves new = ⊥
+
+-- nothing is taken from the player
+abbrev pub Hears : ReceiveSide → Side → (from : SocketAddr) → (octets : List ℕ) → (now : ℕ) → Turn → (out : List ℕ) → ReceiveSide → Type 0
+Hears old Far from octets now turn out new = HearsFar old from octets now turn.note turn.leaves new
+Hears old Near from octets now turn out new = (turn ≡ record { note = note.Stray; leaves = None }) × (new ≡ old)
+
+-- What is played goes to the player: a packet with what it carried, under the media's SSRC and type and the next number; and nothing
+-- where a place is given up.
+abbrev pub PlaysOut : Played → ReceiveSide → Note → Option Departure → (out : List ℕ) → ReceiveSide → Type 0
+PlaysOut (Packet place content) old (note.Played p) (Some d) out new =
+    (p ≡ place) × GoesTo d Near old.player
+    × RtpSpells (packet_of content 0 (numbered old.numbering place) old.core.config.session.media_type old.core.config.session.media_ssrc) (octets_of d out)
+    × (new ≡ record old { core = receiver_passed (Packet place content) old.core; numbering = numbered_after old.numbering place })
+PlaysOut (Gap place) old (note.Gap p) None out new = (p ≡ place) × (new ≡ record old { core = receiver_passed (Gap place) old.core })
+PlaysOut played old n leaves out new = ⊥
+
+-- what a play would give at this moment
+abbrev pub next_play : ReceiveSide → (now : ℕ) → Played
+next_play old now = play_of old.core.config.patience now old.core.span
+
+-- places that are due are asked for at the far side, at most 256 in one datagram
+pub record AsksFar (old : ReceiveSide) (now : ℕ) (d : Departure) (out : List ℕ) (new : ReceiveSide) : Type 0 where
+  pub asks : AsksMost old.core.config (state_of old.core) now 256 (Some (record { items = octets_of d out })) (state_of new.core)
+  pub goes : GoesTo d Far old.far
+  pub rest : new ≡ record old { core = new.core }
+
+abbrev pub Asks : ReceiveSide → (now : ℕ) → Note → Option Departure → (out : List ℕ) → ReceiveSide → Type 0
+Asks old now note.Asked (Some d) out new = AsksFar old now d out new
+Asks old now n leaves out new = ⊥
+
+-- the times follow what was measured; the patience stays
+abbrev pub TimedBy : ReceiveSide → (delay retry : Option ℕ) → ReceiveSide → Type 0
+TimedBy old (Some delay) (Some retry) new =
+    new ≡ record old { core = with_times old.core old.core.config.patience delay retry; spare = with_times old.spare old.core.config.patience delay retry; is_new = false }
+TimedBy old delay retry new = new ≡ record old { is_new = false }
+
+-- what is done of its own: the times are set if something was measured, or else what is to be played is, or else what is due is
+-- asked for, or else nothing is to be done
+abbrev pub SpeaksAs : ReceiveSide → (now : ℕ) → Note → Option Departure → (out : List ℕ) → ReceiveSide → Type 0
+SpeaksAs old now note.Timed None out new = (old.is_new ≡ true) × TimedBy old (delay_of old.smoothed) (retry_of old.smoothed) new
+SpeaksAs old now (note.Played place) leaves out new = (old.is_new ≡ false) × PlaysOut (next_play old now) old (note.Played place) leaves out new
+SpeaksAs old now (note.Gap place) leaves out new = (old.is_new ≡ false) × PlaysOut (next_play old now) old (note.Gap place) leaves out new
+SpeaksAs old now note.Asked leaves out new = (old.is_new ≡ false) × (next_play old now ≡ Wait) × Asks old now note.Asked leaves out new
+SpeaksAs old now n leaves out new = ⊥
+
+-- nothing is due
+abbrev pub NothingDue : ReceiveSide → (now : ℕ) → Type 0
+NothingDue old now = AsksMost old.core.config (state_of old.core) now 256 None (state_of old.core)
+
+abbrev pub Speaks : ReceiveSide → (now : ℕ) → Option Turn → (out : List ℕ) → ReceiveSide → Type 0
+Speaks old now None out new = (old.is_new ≡ false) × (next_play old now ≡ Wait) × NothingDue old now × (new ≡ old)
+Speaks old now (Some turn) out new = SpeaksAs old now turn.note turn.leaves out new

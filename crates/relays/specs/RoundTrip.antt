@@ -1,0 +1,55 @@
+-- A round-trip time, from an ask to the retransmission that answers it, smoothed as RFC 6298, section 2, has it. All times are in
+-- milliseconds.
+use Rattle.std.specs.Prelude.{ℕ, Bool, true, false, ◌+◌, ◌-◌, ◌*◌, ◌/◌, ◌==◌, min, Option, Some, None, if◌then◌else◌}
+use Rattle.relays.specs.Pacing.{capped}
+use Rattle.relays.specs.declared.round_trip.RoundTrip.{RoundTrip}
+use Rattle.relays.specs.declared.round_trip.Smoothed.{Smoothed}
+
+-- nothing was measured
+abbrev pub measured_none : RoundTrip
+measured_none = record { probe = None; smoothed = None }
+
+-- the first place that is asked for while none is measured is measured
+abbrev pub probe_with : (probe : Option (ℕ × ℕ)) → (place now : ℕ) → Option (ℕ × ℕ)
+probe_with None place now = Some (place, now)
+probe_with (Some p) place now = Some p
+
+abbrev pub probed : RoundTrip → (place now : ℕ) → RoundTrip
+probed t place now = record { probe = probe_with t.probe place now; smoothed = t.smoothed }
+
+-- Eight times the smoothed time and four times its variation after a measurement r: first r and half of it, then seven parts
+-- of eight of the old time and one of r, and three of four of the old variation and one of how far r lies from the old time.
+abbrev pub smoothed_with : Option Smoothed → (r : ℕ) → Smoothed
+smoothed_with None r = record { time = capped (r * 8); variation = capped (r * 2) }
+smoothed_with (Some s) r =
+    record {
+      time = capped (s.time - s.time / 8 + r);
+      variation = capped (s.variation - s.variation / 4 + ((r - s.time / 8) + (s.time / 8 - r)));
+    }
+
+-- what is taken of a place that is measured is a measurement, of a minute at most
+abbrev pub heard_with : (probe : Option (ℕ × ℕ)) → RoundTrip → (place now : ℕ) → Bool × RoundTrip
+heard_with None t place now = (false, t)
+heard_with (Some p) t place now =
+    if p.0 == place then (true, record { probe = None; smoothed = Some (smoothed_with t.smoothed (min (now - p.1) 60000)) }) else (false, t)
+
+abbrev pub heard_at : RoundTrip → (place now : ℕ) → Bool × RoundTrip
+heard_at t place now = heard_with t.probe t place now
+
+-- a place that is played or given up is measured no longer
+abbrev pub probe_without : (probe : Option (ℕ × ℕ)) → (place : ℕ) → Option (ℕ × ℕ)
+probe_without None place = None
+probe_without (Some p) place = if p.0 == place then None else Some p
+
+abbrev pub passed_at : RoundTrip → (place : ℕ) → RoundTrip
+passed_at t place = record { probe = probe_without t.probe place; smoothed = t.smoothed }
+
+-- how long to wait for a retransmission: the smoothed time, four times its variation, and five for timers
+abbrev pub retry_of : Option Smoothed → Option ℕ
+retry_of None = None
+retry_of (Some s) = Some (capped (capped (s.time / 8 + s.variation) + 5))
+
+-- how long to wait for a packet that may only be late: half of the smoothed time
+abbrev pub delay_of : Option Smoothed → Option ℕ
+delay_of None = None
+delay_of (Some s) = Some (s.time / 16)

@@ -1,0 +1,293 @@
+//! The relay behind a network that loses.
+ghost use Rattle.std.specs.Prelude.{◌≡◌, ◌≤◌, ◌<◌, ℕ, List, length, None, IfSome, IfOk, take, true};
+ghost use Rattle.receiver.specs.declared.answer.Played.TheVariants.{Wait};
+ghost use Rattle.rtpwire.specs.declared.limits.TheConstants.{MAX_DATAGRAM};
+ghost use Rattle.rtpwire.specs.Rtp.{RtpSpells};
+ghost use Rattle.rtpwire.specs.Content.{packet_of};
+ghost use Rattle.endpoint.specs.Receiving.{fresh};
+ghost use Rattle.relays.specs.Passing.{IsWithin};
+ghost use Rattle.relays.specs.ReceiveRelay.{Asks, HearsFar, next_play, NothingDue, numbering_after, PlaysOut, receive_side, SpeaksAs};
+
+use crate::bounds::Bounds;
+use crate::numbering::Numbering;
+use crate::outside::Side;
+use crate::relay::{Departure, Note, Relay, Turn, silent};
+use crate::round_trip::RoundTrip;
+use endpoint::{Heard, Probation, ReceiveCounts, ReceivingEndpoint};
+use places::near;
+use receiver::{Peeked, ReceiveFault, ReceiverConfig};
+use rtpwire::{Carried, Content, MAX_DATAGRAM, Session, media_len, u16_at, write_media_into};
+use std::alloc::Global;
+use std::net::SocketAddr;
+use stores::{OutOfMemory, SlotRef, Window, sooner};
+
+/// How many places one ask names at most.
+const MOST: usize = 256;
+
+/// It takes a session from a network, asks the far side for what is lost, and hands what is played to a player as RTP of one SSRC,
+/// whose sequence numbers have holes where places were given up or overrun, and nowhere else. How long it waits before it asks,
+/// and asks again, follows the round-trip time.
+#[derive(Drop)]
+pub struct ReceiveRelay<W: Window> {
+    endpoint: ReceivingEndpoint<W>,
+    far: SocketAddr,
+    player: SocketAddr,
+    numbering: Numbering,
+    trip: RoundTrip,
+    /// Whether the round-trip time was measured since the times were set.
+    is_new: bool,
+    /// The moment of the last play.
+    last: Option<u64>,
+    bounds: Bounds,
+}
+
+impl<W: Window> ReceiveRelay<W> {
+    /// A relay from a far side to a player that took nothing so far. Its windows keep up to `capacity` places each, from 1 to 8192
+    /// of them. The player's sequence numbers go on from `numbering`.
+    ///
+    /// `OutOfMemory`: the allocator refused the memory.
+    pub fn new(
+        alloc: Global,
+        config: ReceiverConfig,
+        capacity: usize,
+        far: SocketAddr,
+        player: SocketAddr,
+        numbering: Numbering,
+        bounds: Bounds,
+    ) -> Result<ReceiveRelay<W>, OutOfMemory>
+        requires nonzero { 0 < capacity }
+        requires limit { capacity ≤ 8192 }
+        ensures core { IfOk result (λ made. made.endpoint.core ≡ fresh config capacity) }
+        ensures far { IfOk result (λ made. made.far ≡ far) }
+        ensures player { IfOk result (λ made. made.player ≡ player) }
+        ensures numbering { IfOk result (λ made. made.numbering ≡ numbering) }
+    {
+        Ok(ReceiveRelay {
+            endpoint: ReceivingEndpoint::new(alloc, config, Probation::usual(), capacity)?,
+            far,
+            player,
+            numbering,
+            trip: RoundTrip::new(),
+            is_new: false,
+            last: None,
+            bounds,
+        })
+    }
+
+    /// What its endpoint answered so far.
+    pub fn counts(&self) -> ReceiveCounts
+        ensures { result ≡ self.now.endpoint.counts }
+    {
+        self.endpoint.counts()
+    }
+
+    /// The sequence numbers of what is played, for a relay that comes after this one.
+    pub fn numbering(&self) -> Numbering
+        ensures { result ≡ self.now.numbering }
+    {
+        self.numbering
+    }
+
+    /// The moment at which it ends by its bounds.
+    fn end(&self) -> Option<u64> {
+        let counts = self.endpoint.counts();
+        self.bounds
+            .end(counts.played.saturating_add(counts.gaps), self.last)
+    }
+
+    /// Hears a datagram at the far side's socket.
+    fn hear_far(&mut self, from: SocketAddr, octets: &[u8], now: u64) -> Turn
+        ensures hears { HearsFar (receive_side self.old.endpoint.core self.old.endpoint.spare self.old.endpoint.run self.old.endpoint.probation self.old.far self.old.player self.old.numbering self.old.trip.smoothed self.old.is_new) from octets.now now result.note result.leaves
+            (receive_side self.new.endpoint.core self.new.endpoint.spare self.new.endpoint.run self.new.endpoint.probation self.new.far self.new.player self.new.numbering self.new.trip.smoothed self.new.is_new) }
+        ensures within { IsWithin result }
+    {
+        if from != self.far {
+            return silent(Note::Stray);
+        }
+        let answer = self.endpoint.on_datagram(octets, now);
+        renumber(&mut self.numbering, &answer);
+        if measure(&mut self.trip, &answer, now) {
+            self.is_new = true;
+        }
+        silent(Note::Heard(answer))
+    }
+
+    /// Has the times follow what was measured.
+    fn set_times(&mut self) -> Turn
+        requires { self.old.is_new ≡ true }
+        ensures sets { (now : ℕ) (out : List ℕ) → SpeaksAs (receive_side self.old.endpoint.core self.old.endpoint.spare self.old.endpoint.run self.old.endpoint.probation self.old.far self.old.player self.old.numbering self.old.trip.smoothed self.old.is_new) now result.note result.leaves out
+            (receive_side self.new.endpoint.core self.new.endpoint.spare self.new.endpoint.run self.new.endpoint.probation self.new.far self.new.player self.new.numbering self.new.trip.smoothed self.new.is_new) }
+        ensures within { IsWithin result }
+    {
+        self.is_new = false;
+        if let (Some(delay), Some(retry)) = (self.trip.delay(), self.trip.retry()) {
+            let patience = self.endpoint.core().config().patience();
+            let _ = self.endpoint.set_times(patience, delay, retry);
+        }
+        silent(Note::Timed)
+    }
+
+    /// Plays, and writes what goes to the player.
+    fn play(&mut self, now: u64, out: &mut [u8]) -> Option<Turn>
+        requires { length out.old ≡ MAX_DATAGRAM }
+        ensures some { IfSome result (λ turn. PlaysOut (next_play (receive_side self.old.endpoint.core self.old.endpoint.spare self.old.endpoint.run self.old.endpoint.probation self.old.far self.old.player self.old.numbering self.old.trip.smoothed self.old.is_new) now) (receive_side self.old.endpoint.core self.old.endpoint.spare self.old.endpoint.run self.old.endpoint.probation self.old.far self.old.player self.old.numbering self.old.trip.smoothed self.old.is_new) turn.note turn.leaves out.new
+            (receive_side self.new.endpoint.core self.new.endpoint.spare self.new.endpoint.run self.new.endpoint.probation self.new.far self.new.player self.new.numbering self.new.trip.smoothed self.new.is_new)) }
+        ensures none { result ≡ None → next_play (receive_side self.old.endpoint.core self.old.endpoint.spare self.old.endpoint.run self.old.endpoint.probation self.old.far self.old.player self.old.numbering self.old.trip.smoothed self.old.is_new) now ≡ Wait }
+        ensures same { result ≡ None → (receive_side self.new.endpoint.core self.new.endpoint.spare self.new.endpoint.run self.new.endpoint.probation self.new.far self.new.player self.new.numbering self.new.trip.smoothed self.new.is_new) ≡ (receive_side self.old.endpoint.core self.old.endpoint.spare self.old.endpoint.run self.old.endpoint.probation self.old.far self.old.player self.old.numbering self.old.trip.smoothed self.old.is_new) }
+        ensures within { IfSome result IsWithin }
+        ensures room { length out.new ≡ MAX_DATAGRAM }
+    {
+        match self.endpoint.core().peek(now) {
+            Peeked::Wait => None,
+            Peeked::Gap(place) => {
+                self.endpoint.pass(now);
+                self.trip.pass(place);
+                self.last = Some(now);
+                Some(silent(Note::Gap(place)))
+            }
+            Peeked::Packet(place, content) => {
+                let session = self.endpoint.core().config().session();
+                let len = write(content, self.numbering.number(place), &session, out);
+                self.endpoint.pass(now);
+                self.numbering.play(place);
+                self.trip.pass(place);
+                self.last = Some(now);
+                Some(Turn {
+                    note: Note::Played(place),
+                    leaves: Some(Departure {
+                        side: Side::Near,
+                        to: self.player,
+                        len,
+                    }),
+                })
+            }
+        }
+    }
+
+    /// Asks the far side for what is due.
+    fn ask(&mut self, now: u64, out: &mut [u8]) -> Option<Turn>
+        requires { length out.old ≡ MAX_DATAGRAM }
+        ensures some { IfSome result (λ turn. Asks (receive_side self.old.endpoint.core self.old.endpoint.spare self.old.endpoint.run self.old.endpoint.probation self.old.far self.old.player self.old.numbering self.old.trip.smoothed self.old.is_new) now turn.note turn.leaves out.new
+            (receive_side self.new.endpoint.core self.new.endpoint.spare self.new.endpoint.run self.new.endpoint.probation self.new.far self.new.player self.new.numbering self.new.trip.smoothed self.new.is_new)) }
+        ensures none { result ≡ None → NothingDue (receive_side self.old.endpoint.core self.old.endpoint.spare self.old.endpoint.run self.old.endpoint.probation self.old.far self.old.player self.old.numbering self.old.trip.smoothed self.old.is_new) now }
+        ensures same { result ≡ None → (receive_side self.new.endpoint.core self.new.endpoint.spare self.new.endpoint.run self.new.endpoint.probation self.new.far self.new.player self.new.numbering self.new.trip.smoothed self.new.is_new) ≡ (receive_side self.old.endpoint.core self.old.endpoint.spare self.old.endpoint.run self.old.endpoint.probation self.old.far self.old.player self.old.numbering self.old.trip.smoothed self.old.is_new) }
+        ensures within { IfSome result IsWithin }
+        ensures room { length out.new ≡ MAX_DATAGRAM }
+    {
+        match self.endpoint.ask_most_into(out, now, MOST) {
+            Ok(Some(len)) => {
+                self.probe(&out[..len], now);
+                Some(Turn {
+                    note: Note::Asked,
+                    leaves: Some(Departure {
+                        side: Side::Far,
+                        to: self.far,
+                        len,
+                    }),
+                })
+            }
+            Ok(None) => None,
+            Err(_) => None,
+        }
+    }
+
+    /// Has the round-trip time measured by the first place of a NACK, if it was asked for once.
+    fn probe(&mut self, nack: &[u8], now: u64)
+        ensures rest { self.new ≡ record self.old { trip = self.new.trip } }
+        ensures smoothed { self.new.trip.smoothed ≡ self.old.trip.smoothed }
+    {
+        let window = self.endpoint.core().window();
+        let Some(highest) = window.highest() else {
+            return;
+        };
+        if nack.len() < 14 {
+            return;
+        }
+        let Ok(place) = near(highest, u16_at(nack, 12)) else {
+            return;
+        };
+        if let Some(SlotRef::Missing { asks: 1, .. }) = window.slot(place) {
+            self.trip.ask(place, now);
+        }
+    }
+}
+
+/// Where a stream restarts, the numbers of what is played go on.
+fn renumber(numbering: &mut Numbering, answer: &Result<Heard, ReceiveFault>)
+    ensures { numbering.new ≡ numbering_after answer.now numbering.old }
+{
+    if let Ok(Heard::Restarted(_)) = answer {
+        numbering.restart();
+    }
+}
+
+/// Measures by a retransmission that was taken, and answers whether it did.
+fn measure(trip: &mut RoundTrip, answer: &Result<Heard, ReceiveFault>, now: u64) -> bool {
+    match answer {
+        Ok(Heard::Repair(taken)) => trip.hear(taken.place, now),
+        _ => false,
+    }
+}
+
+/// Writes a packet for the player, and answers how many octets it has.
+fn write(content: &Content, number: u16, session: &Session, out: &mut [u8]) -> usize
+    requires { length out.old ≡ MAX_DATAGRAM }
+    ensures spells { RtpSpells (packet_of content.now 0 number session.now.media_type session.now.media_ssrc) (take result out.new) }
+    ensures within { result ≤ MAX_DATAGRAM }
+    ensures room { length out.new ≡ MAX_DATAGRAM }
+{
+    let carried = Carried::of_content(content);
+    let len = media_len(&carried, 0);
+    prove!(len <= out.len());
+    write_media_into(
+        out,
+        &carried,
+        0,
+        number,
+        session.media_type(),
+        session.media_ssrc(),
+    )
+}
+
+impl<W: Window> Relay for ReceiveRelay<W> {
+    ghost use Rattle.relays.specs.ReceiveRelay.{Hears, Speaks, receive_side};
+
+    ghost hears = { λ old side from octets now turn out new. Hears (receive_side old.endpoint.core old.endpoint.spare old.endpoint.run old.endpoint.probation old.far old.player old.numbering old.trip.smoothed old.is_new) side from octets now turn out (receive_side new.endpoint.core new.endpoint.spare new.endpoint.run new.endpoint.probation new.far new.player new.numbering new.trip.smoothed new.is_new) };
+
+    ghost speaks = { λ old now turn out new. Speaks (receive_side old.endpoint.core old.endpoint.spare old.endpoint.run old.endpoint.probation old.far old.player old.numbering old.trip.smoothed old.is_new) now turn out (receive_side new.endpoint.core new.endpoint.spare new.endpoint.run new.endpoint.probation new.far new.player new.numbering new.trip.smoothed new.is_new) };
+
+    fn hear(
+        &mut self,
+        side: Side,
+        from: SocketAddr,
+        octets: &[u8],
+        now: u64,
+        _out: &mut [u8],
+    ) -> Turn {
+        match side {
+            Side::Near => silent(Note::Stray),
+            Side::Far => self.hear_far(from, octets, now),
+        }
+    }
+
+    fn speak(&mut self, now: u64, out: &mut [u8]) -> Option<Turn> {
+        if self.is_new {
+            return Some(self.set_times());
+        }
+        if let Some(turn) = self.play(now, out) {
+            return Some(turn);
+        }
+        self.ask(now, out)
+    }
+
+    fn next_moment(&self) -> Option<u64> {
+        sooner(self.endpoint.core().next_moment(), self.end())
+    }
+
+    fn is_done(&self, now: u64) -> bool {
+        match self.end() {
+            Some(end) => now >= end,
+            None => false,
+        }
+    }
+}
