@@ -30,6 +30,8 @@ pub struct SendRelay<H: History> {
     pace: Pace,
     /// Whether the last packet is still to be retransmitted, once the stream falls silent.
     tail: bool,
+    /// Whether a packet may be marked that waits for the pace.
+    is_pending: bool,
     bounds: Bounds,
     ghost same: { session ≡ endpoint.core.config.session },
 }
@@ -57,6 +59,7 @@ impl<H: History> SendRelay<H> {
             stream,
             pace,
             tail: false,
+            is_pending: false,
             bounds,
         }
     }
@@ -87,6 +90,12 @@ impl<H: History> SendRelay<H> {
             Ok(carried) => Some((ssrc, carried)),
             Err(_) => None,
         }
+    }
+
+    /// The moment at which it ends by its bounds.
+    fn end(&self) -> Option<u64> {
+        self.bounds
+            .end(self.endpoint.counts().sent, self.stream.last())
     }
 
     /// Sends a packet of the application.
@@ -122,6 +131,7 @@ impl<H: History> SendRelay<H> {
         if from != self.far {
             return silent(Note::Stray);
         }
+        self.is_pending = true;
         silent(Note::Told(self.endpoint.on_datagram(octets)))
     }
 
@@ -149,7 +159,10 @@ impl<H: History> SendRelay<H> {
                     }),
                 })
             }
-            Ok(None) => None,
+            Ok(None) => {
+                self.is_pending = false;
+                None
+            }
             Err(_) => None,
         }
     }
@@ -194,6 +207,7 @@ impl<H: History> Relay for SendRelay<H> {
             return None;
         }
         self.tail = false;
+        self.is_pending = true;
         Some(silent(Note::Marked(self.endpoint.mark_last())))
     }
 
@@ -202,17 +216,12 @@ impl<H: History> Relay for SendRelay<H> {
             Some(last) if self.tail => Some(last.saturating_add(SILENT)),
             _ => None,
         };
-        let end = self
-            .bounds
-            .end(self.endpoint.counts().sent, self.stream.last());
-        sooner(tail, end)
+        let marked = self.is_pending.then_some(self.pace.opens());
+        sooner(sooner(tail, marked), self.end())
     }
 
     fn is_done(&self, now: u64) -> bool {
-        match self
-            .bounds
-            .end(self.endpoint.counts().sent, self.stream.last())
-        {
+        match self.end() {
             Some(end) => now >= end,
             None => false,
         }

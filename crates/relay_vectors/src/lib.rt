@@ -1,0 +1,11 @@
+//! Test vectors of relays: what leaves, to whom and when, for what comes. There is no code in it.
+#![tactic(auto)]
+
+#[cfg(test)]
+mod receiving;
+#[cfg(test)]
+mod script;
+#[cfg(test)]
+mod sending;
+#[cfg(test)]
+mod times;
