@@ -1,7 +1,7 @@
 """How the parts start GStreamer at both ends: a source that sends a clip in real time, and a decoder behind the far end."""
 import subprocess
 
-from stage import RAW, content, frames_of, packets_of, same
+from stage import FRAMES, RAW, content, frames_of, packets_of, same
 
 
 def source(clip, codec, kept, pay=""):
@@ -42,6 +42,13 @@ class Far:
 
 def contents(packets):
     return [content(one) for one in packets]
+
+
+def head(packets, frames=FRAMES):
+    """The packets of the first frames, by their timestamps."""
+    times = dict.fromkeys(one[4:8] for one in packets)
+    wanted = set(list(times)[:frames])
+    return [one for one in packets if one[4:8] in wanted]
 
 
 def tell(name, sent, path, frames, raw, more):
