@@ -55,13 +55,14 @@ def from_gstreamer(checks, stage):
     checks.count(far["refused"] == far["overrun"] == 0 and far["rtcp"] > 0, f"{name}: far: {far}")
 
 
-def receives(stage, port, rtcp_port, streams):
-    """GStreamer receives streams, each with the SSRCs and the files of its packets and its frames, and asks for what is lost."""
+def receives(stage, port, rtcp_port, streams, interval=20):
+    """GStreamer receives streams, each with the SSRCs and the files of its packets and its frames, and asks for what is lost,
+    where it may: a report is due in so many milliseconds."""
     maps = ",".join(f"{media}=(uint){repair}" for media, repair, _, _ in streams)
     ends = "\n".join(f"""d.src_{media} ! rtpjitterbuffer do-retransmission=true do-lost=true latency={LATENCY} rtx-next-seqnum=false
         ! tee name=t{media} ! queue ! rtpstreampay ! filesink buffer-mode=unbuffered sync=false async=false location={packets}
         t{media}. ! queue ! {VP8.unpack} ! {RAW}{raw}""" for media, _, packets, raw in streams)
-    return stage.play(f"""rtpsession name=s rtp-profile=avpf bandwidth=40000000 rtcp-min-interval=20000000
+    return stage.play(f"""rtpsession name=s rtp-profile=avpf bandwidth=40000000 rtcp-min-interval={interval}000000
         udpsrc address=127.0.0.1 port={port} reuse=false buffer-size=1000000
           caps=application/x-rtp{VP8.caps},rtcp-fb-nack=(boolean)true ! s.recv_rtp_sink
         s.recv_rtp_src ! rtprtxreceive {TYPES} ssrc-map=application/x-rtp-ssrc-map,{maps} ! rtpssrcdemux name=d
