@@ -7,7 +7,7 @@
  * CSRCs and extensions, each behind two octets of its length (RFC 4571). A pipe loses nothing, and its end is the
  * decoder's.
  *
- * The times are those of the library, in milliseconds: 2000, 25, 90, and 20 NACKs. It ends by SIGTERM, after --seconds N
+ * The times are those of the library, in milliseconds: 2000, 40, 90, and 20 NACKs. It ends by SIGTERM, after --seconds N
  * (60), or where no new packet came for --idle N (2500) milliseconds since the first one, and nothing is missing. Then a line
  * of counts goes to the error output. The status is 0 where all that was played was written. */
 #define _POSIX_C_SOURCE 200809L
@@ -127,7 +127,7 @@ static bool make_far(far_end *f, char **words) {
     const option known[] = {{"patience", &f->patience}, {"delay", &f->delay}, {"retry", &f->retry}, {"nacks", &f->nacks},
                             {"idle", &f->idle}, {"seconds", &f->seconds}, {NULL, NULL}};
     gozdrit_receiver_config config;
-    f->patience = 2000, f->delay = 25, f->retry = 90, f->nacks = 20, f->idle = 2500, f->seconds = 60;
+    f->patience = 2000, f->delay = 40, f->retry = 90, f->nacks = 20, f->idle = 2500, f->seconds = 60;
     words = options_of(words, known);
     if (!words || !words[0] || !words[1] || !words[2] || !stream_of(words[2], &f->of)) return false;
     f->at = bound_at(port_of(words[0]));

@@ -15,6 +15,7 @@ FIRST = 65300  # so that the sequence numbers wrap in the middle of a clip
 WIDTH, HEIGHT, RATE = 320, 240, 15
 FRAME = WIDTH * HEIGHT * 3 // 2  # octets of a frame as I420
 FRAMES = 150
+TAIL = 3 * RATE // 2  # frames behind those that are compared, where an end of a peer can't be repaired
 LOSSY = "--drop 100 --reorder 100 --hold 20 --double 10 --delay 20".split()
 
 

@@ -23,12 +23,11 @@ except ImportError as lack:
     aiortc = lack
 
 from ends import Far, contents, head, sink, source, tell
-from stage import (FIRST, FRAMES, LOSSY, MEDIA, RATE, REPAIR, REPORTER, VP8, Checks, Stage, counts_of, encode, number,
+from stage import (FIRST, FRAMES, LOSSY, MEDIA, RATE, REPAIR, REPORTER, TAIL, VP8, Checks, Stage, counts_of, encode, number,
                    packets_of, skip_without, wait_for_ports)
 
 ELEMENTS = """videotestsrc videoconvert vp8enc vp8dec rtpvp8pay rtpvp8depay matroskamux matroskademux clocksync rtpstreampay
     rtpstreamdepay udpsink tee queue filesink"""
-TAIL = 3 * RATE // 2  # frames behind those that are compared
 EXTENSIONS = {1: "urn:ietf:params:rtp-hdrext:sdes:mid", 3: "http://www.webrtc.org/experiments/rtp-hdrext/abs-send-time"}
 
 
