@@ -2,11 +2,11 @@
  *
  *   path [OPTIONS] FRONT AHEAD BACK HOME [STREAM..]
  *
- * What comes to the port FRONT goes on to the port AHEAD, and what comes to BACK goes to HOME: media and feedback. Each datagram is
- * drawn for by --seed N (1), in each way by itself: so many of 1000 are lost (--drop), come twice (--double), and are held back
- * for --hold N more milliseconds, behind later ones (--reorder). Nothing of that befalls the first --spare N of each way, for
- * a peer that can't be told with which packet a stream begins. Each way takes --delay N milliseconds. --flip N alters an octet of the
- * payload of the first that comes of the N-th RTP packet and those behind it. All of it is 0 where it is not given.
+ * What comes to the port FRONT goes on to the port AHEAD, and what comes to BACK goes to HOME: media and feedback. Each datagram
+ * is drawn for by --seed N (1), in each way by itself: so many of 1000 are lost (--drop), come twice (--double), and are held
+ * back for --hold N more milliseconds, behind later ones (--reorder). Nothing of that befalls the first --spare N of each way,
+ * for a peer that can't be told with which packet a stream begins. Each way takes --delay N milliseconds. --flip N alters the last
+ * octet of one RTP packet, the first that is not lost from the N-th on. All of it is 0 where it is not given.
  *
  * It ends by SIGTERM, or after --seconds N (60), and tells its counts: a line of each STREAM (net.h, ledger.h) and a line of
  * the whole. */

@@ -48,6 +48,7 @@ def whole(checks, stage, name, codec):
     checks.count(largest == 1400, f"{name}: the largest packet has {largest} octets")
     checks.count(run.near["gaps"] == run.near["bad"] == 0 and run.near["taken"] == len(run.sent), f"{name}: near: {run.near}")
     checks.count(lost * 20 > len(run.sent) and run.path["repaired"] == lost, f"{name}: path: {run.path}")
+    checks.count(run.path["vain"] * 10 <= len(run.sent), f"{name}: {run.path['vain']} asked for in vain")
     checks.count(run.far["gaps"] == run.far["refused"] == run.far["overrun"] == 0, f"{name}: far: {run.far}")
 
 
