@@ -198,6 +198,7 @@ async def to_aiortc(checks, stage):
     good = [number(one) == key and contents([one]) == contents([come[key]]) for key, one in packets.items() if key in come]
     checks.count(raw == frames[:FRAMES], f"{name}: the frames")
     checks.count(len(good) == len(packets) and all(good), f"{name}: the packets")
+    checks.count(all((FIRST + at) & 65535 in packets for at in range(len(head(sent)))), f"{name}: packets that did not come")
     checks.count(counts["lost"] > 20 and counts["repaired"] * 100 >= counts["lost"] * 90, f"{name}: path: {counts}")
     checks.count(session["gaps"] == session["bad"] == session["refused"] == session["unknown"] == 0, f"{name}: near: {session}")
 
