@@ -20,7 +20,7 @@ def run(stage, clips, kept, files):
     """Sends both clips. It gives what the path and the near ends told."""
     front, ahead, back, home, *encoders = stage.ports(6)
     words = [VP8.stream(media, repair, 0, first) for _, media, repair, first in STREAMS]
-    path = stage.path((front, ahead, back, home), words, *LOSSY, "--spare", 40)
+    path = stage.path((front, ahead, back, home), words, *LOSSY, "--spare", 200)  # both first frames
     near = stage.run("near", "--seconds", 120, home, front, *(one for pair in zip(encoders, words) for one in pair))
     player = receives(stage, ahead, back, [(one[1], one[2], *two) for one, two in zip(STREAMS, files)], BANDWIDTH)
     wait_for_ports((front, ahead, back, home, *encoders))
