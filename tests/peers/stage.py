@@ -5,6 +5,7 @@ import hashlib
 import pathlib
 import random
 import shutil
+import signal
 import subprocess
 import sys
 import tempfile
@@ -74,18 +75,21 @@ class Program(subprocess.Popen):
             except subprocess.TimeoutExpired:
                 self.kill()
                 said = self.communicate()
+            except (OSError, ValueError):  # another thread reads it too: the part is ended from outside
+                said = "", ""
             self.said = (said[0] or "") + (said[1] or "")
         return self.said
 
 
 class Stage:
-    """A folder of files, the built programs, and what runs. It ends all of it where its block ends."""
+    """A folder of files, the built programs, and what runs. It ends all of it where its block ends, also by SIGTERM."""
 
     def __init__(self, programs, seed):
         self.programs, self.seed, self.running = pathlib.Path(programs).resolve(), int(seed), []
         self.room = pathlib.Path(tempfile.mkdtemp())
         self.errors = open(self.room / "errors", "w")
         self.drawn = random.Random()
+        signal.signal(signal.SIGTERM, lambda *_: sys.exit(1))
 
     def __enter__(self):
         return self
