@@ -45,6 +45,22 @@ const FIRST: [u8; 13] = [0x80, 0xa1, 0, 1, 0, 0, 0, 100, 0x0a, 0x0b, 0x0c, 0x0d,
 const SECOND: [u8; 13] = [0x80, 0x21, 0, 2, 0, 0, 0, 200, 0x0a, 0x0b, 0x0c, 0x0d, 0xbb];
 /// One of another stream.
 const OTHER: [u8; 13] = [0x80, 0x21, 0, 2, 0, 0, 0, 200, 0x0e, 0x0b, 0x0c, 0x0d, 0xbb];
+/// Both as the session's media.
+const SENT_FIRST: [u8; 13] = [
+    0x80, 0xa1, 0xff, 0xff, 0, 0, 0, 100, 0x11, 0x11, 0x11, 0x11, 0xaa,
+];
+
+const SENT_SECOND: [u8; 13] = [0x80, 0x21, 0, 0, 0, 0, 0, 200, 0x11, 0x11, 0x11, 0x11, 0xbb];
+
+/// Both as retransmissions: the original number stands before the payload (RFC 4588, section 4).
+const REPAIRED_FIRST: [u8; 15] = [
+    0x80, 0xff, 0, 7, 0, 0, 0, 100, 0x22, 0x22, 0x22, 0x22, 0xff, 0xff, 0xaa,
+];
+
+const REPAIRED_SECOND: [u8; 15] = [
+    0x80, 0x7f, 0, 8, 0, 0, 0, 200, 0x22, 0x22, 0x22, 0x22, 0, 0, 0xbb,
+];
+
 /// A generic NACK of the session for number 65535.
 const NACK: [u8; 16] = [
     0x81, 0xcd, 0, 3, 0x33, 0x33, 0x33, 0x33, 0x11, 0x11, 0x11, 0x11, 0xff, 0xff, 0, 0,
@@ -62,41 +78,11 @@ fn a_stream_is_sent_and_a_lost_packet_again(rt: HostRuntime) -> Result<(), Fail>
     if run(&mut script, &mut relay).is_err() {
         return Err(Fail::from("it ends by its bounds"));
     }
-    let sent = script.went(
-        0,
-        5,
-        Side::Far,
-        FAR,
-        &[
-            0x80, 0xa1, 0xff, 0xff, 0, 0, 0, 100, 0x11, 0x11, 0x11, 0x11, 0xaa,
-        ],
-    ) && script.went(
-        1,
-        8,
-        Side::Far,
-        FAR,
-        &[0x80, 0x21, 0, 0, 0, 0, 0, 200, 0x11, 0x11, 0x11, 0x11, 0xbb],
-    );
-    // RFC 4588, section 4: the original number stands before the payload.
-    let repaired = script.went(
-        2,
-        48,
-        Side::Far,
-        FAR,
-        &[
-            0x80, 0xff, 0, 7, 0, 0, 0, 100, 0x22, 0x22, 0x22, 0x22, 0xff, 0xff, 0xaa,
-        ],
-    );
+    let sent = script.went(0, 5, Side::Far, FAR, &SENT_FIRST)
+        && script.went(1, 8, Side::Far, FAR, &SENT_SECOND);
+    let repaired = script.went(2, 48, Side::Far, FAR, &REPAIRED_FIRST);
     // The stream was silent for a tenth of a second.
-    let tail = script.went(
-        3,
-        108,
-        Side::Far,
-        FAR,
-        &[
-            0x80, 0x7f, 0, 8, 0, 0, 0, 200, 0x22, 0x22, 0x22, 0x22, 0, 0, 0xbb,
-        ],
-    );
+    let tail = script.went(3, 108, Side::Far, FAR, &REPAIRED_SECOND);
     // Two seconds after the last packet it is done.
     if sent && repaired && tail && script.gone.len() == 4 && script.now == 2008 {
         Ok(())
@@ -136,15 +122,7 @@ fn a_stream_that_takes_the_place_of_another(rt: HostRuntime) -> Result<(), Fail>
         return Err(Fail::from("it ends by its bounds"));
     }
     let counts = relay.counts();
-    if counts.sent == 2
-        && script.went(
-            2,
-            1005,
-            Side::Far,
-            FAR,
-            &[0x80, 0x21, 0, 0, 0, 0, 0, 200, 0x11, 0x11, 0x11, 0x11, 0xbb],
-        )
-    {
+    if counts.sent == 2 && script.went(2, 1005, Side::Far, FAR, &SENT_SECOND) {
         Ok(())
     } else {
         Err(Fail::from("a second of silence"))
