@@ -1,0 +1,41 @@
+#include "common.h"
+
+guint32 draw_ssrc(guint32 one, guint32 other) {
+    guint32 drawn;
+    do drawn = g_random_int();
+    while (drawn == one || drawn == other || drawn == SSRC_UNSET);
+    return drawn;
+}
+
+gint64 caps_number(const GstCaps *caps, const gchar *field, gint64 otherwise) {
+    const GstStructure *structure = gst_caps_get_structure(caps, 0);
+    gint number;
+    guint positive;
+    if (gst_structure_get_int(structure, field, &number)) return number;
+    if (gst_structure_get_uint(structure, field, &positive)) return positive;
+    return otherwise;
+}
+
+void element_time_begin(element_time *time, GstElement *element) {
+    element_time_end(time);
+    time->clock = gst_element_get_clock(element);
+    if (!time->clock) time->clock = gst_system_clock_obtain();
+    time->offset = 0;
+}
+
+void element_time_switch(element_time *time, GstClock *clock) {
+    if (!time->clock || !clock || clock == time->clock) return;
+    GstClockTime now = element_time_now(time);
+    gst_object_replace((GstObject **)&time->clock, GST_OBJECT(clock));
+    time->offset = GST_CLOCK_DIFF(gst_clock_get_time(clock), now);
+}
+
+void element_time_end(element_time *time) { gst_object_replace((GstObject **)&time->clock, NULL); }
+
+GstClockTime element_time_now(const element_time *time) {
+    return gst_clock_get_time(time->clock) + (GstClockTime)time->offset;
+}
+
+GstClockID element_time_id(const element_time *time, GstClockTime when) {
+    return gst_clock_new_single_shot_id(time->clock, when - (GstClockTime)time->offset);
+}

@@ -1,0 +1,53 @@
+/* What both elements share: SSRCs, caps, the clock, and the library's answers. */
+#ifndef GOZDRIT_GST_COMMON_H
+#define GOZDRIT_GST_COMMON_H
+
+#include <gozdrit.h>
+#include <gst/gst.h>
+
+GST_DEBUG_CATEGORY_EXTERN(gozdrit_debug);
+#define GST_CAT_DEFAULT gozdrit_debug
+
+/* Unsigned, as times are. */
+#define MILLISECOND ((GstClockTime)GST_MSECOND)
+
+/* A property of an SSRC that was not set, as the payloaders have it. */
+#define SSRC_UNSET G_MAXUINT32
+
+/* The payload type of the retransmissions where nothing says another. */
+enum { RTX_TYPE = 97 };
+
+/* An SSRC at random that is neither of the two, and not SSRC_UNSET. */
+guint32 draw_ssrc(guint32 one, guint32 other);
+
+/* A number of caps, which have it as an int or as a uint, or `otherwise`. */
+gint64 caps_number(const GstCaps *caps, const gchar *field, gint64 otherwise);
+
+/* What an RTP packet shows without being read: RFC 3550, section 5.1. There are 12 octets or more. */
+#define PACKET_TYPE(octets) ((guint8)((octets)[1] & 127))
+#define PACKET_SEQUENCE(octets) GST_READ_UINT16_BE((octets) + 2)
+#define PACKET_TIMESTAMP(octets) GST_READ_UINT32_BE((octets) + 4)
+#define PACKET_SSRC(octets) GST_READ_UINT32_BE((octets) + 8)
+
+/* The elements' time: that of the pipeline's clock, and of the system's until there is one. Where the clock is another
+ * one from now on, the time goes on from where it was. */
+typedef struct element_time {
+    GstClock *clock;
+    GstClockTimeDiff offset; /* from the clock's time to the element's */
+} element_time;
+
+void element_time_begin(element_time *time, GstElement *element);
+void element_time_switch(element_time *time, GstClock *clock);
+void element_time_end(element_time *time);
+GstClockTime element_time_now(const element_time *time);
+
+/* The clock's id of a moment of the element, to wait for. */
+GstClockID element_time_id(const element_time *time, GstClockTime when);
+
+/* An installed GStreamer property: blurbs tell unit and default. */
+#define PROPERTY_FLAGS ((GParamFlags)(G_PARAM_READWRITE | G_PARAM_STATIC_STRINGS))
+
+/* Adds a count to a structure of counts. */
+#define ADD_COUNT(structure, name, value) gst_structure_set((structure), (name), G_TYPE_UINT64, (guint64)(value), NULL)
+
+#endif

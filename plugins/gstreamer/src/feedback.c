@@ -1,0 +1,104 @@
+#include "recv.h"
+
+#include <gst/rtp/rtp.h>
+
+/* ---- waking the timer. The lock is held. */
+
+void feedback_wake(GstGozdritRecv *self) {
+    self->timer_moment = 0;
+    if (self->timer_id) gst_clock_id_unschedule(self->timer_id);
+    g_cond_signal(&self->timer_cond);
+}
+
+void feedback_schedule(GstGozdritRecv *self) {
+    gozdrit_moment next = {0};
+    if (!self->end.held || self->stalled) return;
+    gozdrit_next_moment(&self->end, &next);
+    if (next.known && next.moment < self->timer_moment) feedback_wake(self);
+}
+
+/* ---- the stream of feedback */
+
+/* Begins the stream. The gap event makes a sink downstream ready, which else were so with the first NACK only: until then
+ * a pipeline would know no latency. */
+static void begin_stream(GstGozdritRecv *self) {
+    GstSegment segment;
+    GstCaps *caps = gst_caps_new_empty_simple("application/x-rtcp");
+    gchar *id = gst_pad_create_stream_id(self->feedback, GST_ELEMENT(self), "feedback");
+    gst_segment_init(&segment, GST_FORMAT_TIME);
+    gst_pad_push_event(self->feedback, gst_event_new_stream_start(id));
+    gst_pad_push_event(self->feedback, gst_event_new_caps(caps));
+    gst_pad_push_event(self->feedback, gst_event_new_segment(&segment));
+    gst_pad_push_event(self->feedback, gst_event_new_gap(0, GST_CLOCK_TIME_NONE));
+    gst_caps_unref(caps);
+    g_free(id);
+}
+
+/* The next NACK, or NULL where none is due. The lock is held. */
+static GstBuffer *next_nack(GstGozdritRecv *self, guint64 now) {
+    guint8 octets[GOZDRIT_MAX_NACK];
+    gsize length = 0;
+    if (!self->end.held) return NULL;
+    gint32 number = gozdrit_nack(&self->end, now, GOZDRIT_MOST, &length, octets, sizeof octets);
+    if (number != GOZDRIT_OK || length == 0) return NULL;
+    receiving_asked(self, GST_READ_UINT16_BE(octets + 12), now); /* the first that it names: RFC 4585, section 6.2.1 */
+    return gst_buffer_new_memdup(octets, length);
+}
+
+/* ---- the task */
+
+/* Waits for the session's next moment, for a call, or, where there is none, for the latter alone. The lock is held. */
+static void wait_for_moment(GstGozdritRecv *self, guint64 now) {
+    gozdrit_moment next = {0};
+    if (self->end.held && !self->stalled) gozdrit_next_moment(&self->end, &next);
+    if (next.known && next.moment <= now) return;
+    self->timer_moment = next.known ? next.moment : G_MAXUINT64;
+    if (!next.known) {
+        while (self->timer_moment == G_MAXUINT64) g_cond_wait(&self->timer_cond, &self->lock);
+    } else {
+        GstClockID id = self->timer_id = element_time_id(&self->time, next.moment * MILLISECOND);
+        g_mutex_unlock(&self->lock);
+        gst_clock_id_wait(id, NULL);
+        g_mutex_lock(&self->lock);
+        self->timer_id = NULL;
+        gst_clock_id_unref(id);
+    }
+    self->timer_moment = 0;
+}
+
+/* What a turn of the task found to do. */
+typedef enum turn { TURN_AGAIN, TURN_BEGIN, TURN_NACK, TURN_END, TURN_STOP } turn;
+
+/* One turn: what is due now, and else it waits. The lock is held. */
+static turn take_turn(GstGozdritRecv *self, GstBuffer **nack) {
+    guint64 now = receiving_now(self);
+    if (!self->timer_active) return TURN_STOP;
+    if (!self->feedback_begun) {
+        self->feedback_begun = TRUE;
+        return TURN_BEGIN;
+    }
+    playing_all(self, now);
+    if (self->ended) return TURN_END;
+    *nack = next_nack(self, now);
+    if (*nack) return TURN_NACK;
+    wait_for_moment(self, now);
+    return TURN_AGAIN;
+}
+
+void feedback_task(gpointer pad) {
+    GstGozdritRecv *self = GST_GOZDRIT_RECV(GST_OBJECT_PARENT(pad));
+    GstBuffer *nack = NULL;
+    g_mutex_lock(&self->lock);
+    turn found = take_turn(self, &nack);
+    g_mutex_unlock(&self->lock);
+    switch (found) {
+    case TURN_BEGIN: begin_stream(self); break;
+    case TURN_NACK: gst_pad_push(self->feedback, nack); break; /* who gets none is asked again */
+    case TURN_END:
+        gst_pad_push_event(self->feedback, gst_event_new_eos());
+        gst_pad_pause_task(self->feedback);
+        break;
+    case TURN_STOP: gst_pad_pause_task(self->feedback); break;
+    case TURN_AGAIN: break;
+    }
+}

@@ -1,0 +1,207 @@
+#include "recv.h"
+
+/* A packet is played into the middle of a buffer, and its header is written in front of it. So the payload is copied once. */
+enum { FRONT = 12 + 4 * GOZDRIT_MAX_SOURCES + 4 + 4 * GOZDRIT_MAX_WORDS };
+
+/* ---- what is ready */
+
+static void push_ready(GstGozdritRecv *self, gpointer item) {
+    gst_queue_array_push_tail(self->ready, item);
+    if (self->src_waits) g_cond_signal(&self->ready_cond);
+}
+
+/* What was lost is told with times between those of the packets around it. */
+static void tell_lost(GstGozdritRecv *self, GstClockTime next) {
+    GstClockTime from = GST_CLOCK_TIME_IS_VALID(self->last_pts) ? self->last_pts : next, step = 0;
+    if (GST_CLOCK_TIME_IS_VALID(next) && next > from) step = (next - from) / (self->lost + 1);
+    if (!GST_CLOCK_TIME_IS_VALID(from)) from = 0;
+    for (guint i = 0; self->settings.do_lost && i < self->lost; i++) {
+        GstStructure *told = gst_structure_new("GstRTPPacketLost", "seqnum", G_TYPE_UINT, (guint)(guint16)(self->lost_from + i),
+                                               "timestamp", G_TYPE_UINT64, from + step * (i + 1), "duration", G_TYPE_UINT64,
+                                               step, "retry", G_TYPE_UINT, self->settings.nacks, NULL);
+        push_ready(self, gst_event_new_custom(GST_EVENT_CUSTOM_DOWNSTREAM, told));
+    }
+    self->lost = 0;
+}
+
+static void count_lost(GstGozdritRecv *self, guint64 from, guint count) {
+    if (self->lost == 0) self->lost_from = (guint16)from;
+    self->lost += count;
+    self->discont = TRUE;
+}
+
+/* ---- events, which go out behind the packets that came before them */
+
+/* Sends those on that wait for no packet above this one. */
+static void release(GstGozdritRecv *self, guint64 sequence) {
+    held_event *first;
+    while ((first = g_queue_peek_head(&self->held)) && first->behind <= sequence) {
+        if (self->lost > 0) tell_lost(self, GST_CLOCK_TIME_NONE);
+        push_ready(self, first->event);
+        g_free(g_queue_pop_head(&self->held));
+    }
+}
+
+void playing_release(GstGozdritRecv *self) { release(self, G_MAXUINT64); }
+
+void playing_event(GstGozdritRecv *self, GstEvent *event) {
+    gozdrit_sequence next = {0}, highest = {0};
+    if (self->end.held) {
+        gozdrit_next_sequence(&self->end, &next);
+        gozdrit_highest_sequence(&self->end, &highest);
+    }
+    if (next.known && highest.known && highest.sequence >= next.sequence) {
+        held_event *held = g_new(held_event, 1);
+        *held = (held_event){event, highest.sequence};
+        g_queue_push_tail(&self->held, held);
+    } else {
+        if (self->lost > 0) tell_lost(self, GST_CLOCK_TIME_NONE);
+        push_ready(self, event);
+    }
+}
+
+/* ---- packets */
+
+/* The times of a packet: those that it came with, where these are what its timestamp says, and else what that says. All
+ * packets with one timestamp have one time. */
+static void set_times(GstGozdritRecv *self, GstBuffer *out, const gozdrit_played *played) {
+    guint32 timestamp = played->header.timestamp;
+    arrival *came = &self->arrivals[(guint16)played->sequence % ARRIVALS];
+    gboolean known = came->known && came->timestamp == timestamp;
+    GstClockTime own = rtp_times_of(&self->times, timestamp);
+    came->known = FALSE;
+    if (GST_CLOCK_TIME_IS_VALID(self->last_pts) && self->last_timestamp == timestamp) {
+        /* as the one before */
+    } else if (known && rtp_times_same(&self->times, came->pts, own)) {
+        self->last_pts = came->pts;
+        self->last_dts = came->dts;
+    } else {
+        self->last_pts = GST_CLOCK_TIME_IS_VALID(own) ? own : self->last_pts;
+        self->last_dts = GST_CLOCK_TIME_NONE;
+    }
+    self->last_timestamp = timestamp;
+    GST_BUFFER_PTS(out) = self->last_pts;
+    GST_BUFFER_DTS(out) = self->last_dts;
+}
+
+/* Writes the header in front of the payload, and takes the buffer. */
+static GstBuffer *finish_packet(GstGozdritRecv *self, const gozdrit_played *played) {
+    const gozdrit_packet packet = {.header = played->header, .ssrc = self->session.media_ssrc,
+                                   .sequence = (guint16)played->sequence, .payload_type = self->session.media_type};
+    gsize extension = played->header.has_extension ? 4 + 4 * (gsize)played->header.word_count : 0;
+    gsize head = 12 + 4 * (gsize)played->header.source_count + extension, written;
+    gozdrit_rtp_write(&packet, NULL, 0, &written, self->map.data + FRONT - head, head);
+    GstBuffer *out = g_steal_pointer(&self->spare);
+    gst_buffer_unmap(out, &self->map);
+    gst_buffer_resize(out, (gssize)(FRONT - head), (gssize)(head + played->length));
+    return out;
+}
+
+static void play_packet(GstGozdritRecv *self, const gozdrit_played *played) {
+    GstClockTime before = self->last_pts;
+    GstBuffer *out = finish_packet(self, played);
+    if (played->sequence > self->expected)
+        count_lost(self, self->expected, (guint)MIN(played->sequence - self->expected, G_MAXUINT16));
+    set_times(self, out, played);
+    if (self->lost > 0) {
+        GstClockTime pts = self->last_pts;
+        self->last_pts = before;
+        tell_lost(self, pts);
+        self->last_pts = pts;
+    }
+    if (played->header.marker) GST_BUFFER_FLAG_SET(out, GST_BUFFER_FLAG_MARKER);
+    if (self->discont) GST_BUFFER_FLAG_SET(out, GST_BUFFER_FLAG_DISCONT);
+    self->discont = FALSE;
+    push_ready(self, out);
+}
+
+static void make_spare(GstGozdritRecv *self) {
+    if (self->spare) return;
+    self->spare = gst_buffer_new_allocate(NULL, FRONT + GOZDRIT_MAX_PAYLOAD, NULL);
+    gst_buffer_map(self->spare, &self->map, GST_MAP_WRITE);
+}
+
+void playing_all(GstGozdritRecv *self, guint64 now) {
+    gozdrit_played played;
+    while (self->end.held) {
+        self->stalled = gst_queue_array_get_length(self->ready) >= self->settings.window && now != G_MAXINT64;
+        if (self->stalled) return;
+        make_spare(self);
+        gint32 number = gozdrit_play(&self->end, now, &played, self->map.data + FRONT, GOZDRIT_MAX_PAYLOAD);
+        if (number != GOZDRIT_OK || played.kind == GOZDRIT_WAIT) return;
+        if (played.sequence > 0) release(self, played.sequence - 1);
+        if (played.kind == GOZDRIT_GAP) count_lost(self, played.sequence, 1);
+        else play_packet(self, &played);
+        self->expected = played.sequence + 1;
+        release(self, played.sequence);
+    }
+}
+
+/* ---- the stream */
+
+void playing_begin_stream(GstGozdritRecv *self) {
+    gozdrit_sequence next = {0};
+    if (self->end.held) gozdrit_next_sequence(&self->end, &next);
+    self->expected = next.known ? next.sequence : G_MAXUINT64;
+    self->lost = 0;
+    self->discont = TRUE;
+    self->last_pts = self->last_dts = GST_CLOCK_TIME_NONE;
+}
+
+void playing_clear(GstGozdritRecv *self) {
+    held_event *first;
+    while ((first = g_queue_pop_head(&self->held))) {
+        gst_event_unref(first->event);
+        g_free(first);
+    }
+    while (!gst_queue_array_is_empty(self->ready)) gst_mini_object_unref(gst_queue_array_pop_head(self->ready));
+    if (self->spare) gst_buffer_unmap(self->spare, &self->map);
+    gst_clear_buffer(&self->spare);
+    self->stalled = FALSE;
+}
+
+/* ---- the task */
+
+/* The next item, or NULL where the pad is no longer active. */
+static gpointer next_item(GstGozdritRecv *self) {
+    while (self->src_active && gst_queue_array_is_empty(self->ready)) {
+        self->src_waits = TRUE;
+        g_cond_wait(&self->ready_cond, &self->lock);
+        self->src_waits = FALSE;
+    }
+    if (!self->src_active) return NULL;
+    gpointer item = gst_queue_array_pop_head(self->ready);
+    if (self->stalled && gst_queue_array_get_length(self->ready) <= self->settings.window / 2) feedback_wake(self);
+    return item;
+}
+
+/* An error of what is downstream reaches upstream with the next packet; where none comes any more, it is posted. */
+static void pushed(GstGozdritRecv *self, GstFlowReturn flow) {
+    g_mutex_lock(&self->lock);
+    self->flow = self->src_active ? flow : GST_FLOW_FLUSHING;
+    gboolean tell = self->ending && self->src_active && (flow == GST_FLOW_NOT_LINKED || flow < GST_FLOW_EOS);
+    g_mutex_unlock(&self->lock);
+    gst_pad_pause_task(self->src);
+    if (tell) GST_ELEMENT_FLOW_ERROR(self, flow);
+}
+
+void playing_task(gpointer pad) {
+    GstGozdritRecv *self = GST_GOZDRIT_RECV(GST_OBJECT_PARENT(pad));
+    g_mutex_lock(&self->lock);
+    gpointer item = next_item(self);
+    g_mutex_unlock(&self->lock);
+    if (!item) {
+        gst_pad_pause_task(self->src);
+    } else if (GST_IS_BUFFER(item)) {
+        GstFlowReturn flow = gst_pad_push(self->src, item);
+        if (flow != GST_FLOW_OK) pushed(self, flow);
+    } else {
+        gboolean last = GST_EVENT_TYPE(item) == GST_EVENT_EOS;
+        gst_pad_push_event(self->src, item);
+        if (!last) return;
+        g_mutex_lock(&self->lock);
+        self->ended = TRUE;
+        feedback_wake(self);
+        g_mutex_unlock(&self->lock);
+    }
+}

@@ -1,0 +1,144 @@
+/* gozdritrecv, the receiving element. recv.c is the element: its pads, properties and states. receiving.c takes packets into
+ * the session, playing.c makes of what the session plays what goes out, and feedback.c has the timer.
+ *
+ * Three threads run in it. The one that packets come by takes them, and never waits. The source pad's task pushes what
+ * was played, and waits for what is behind it. The feedback pad's task waits for the session's next moment, and asks. */
+#ifndef GOZDRIT_GST_RECV_H
+#define GOZDRIT_GST_RECV_H
+
+#include "common.h"
+#include "times.h"
+
+#include <gst/base/base.h>
+
+G_DECLARE_FINAL_TYPE(GstGozdritRecv, gst_gozdrit_recv, GST, GOZDRIT_RECV, GstElement)
+
+/* The properties. Times are milliseconds. */
+typedef struct recv_settings {
+    guint latency;
+    guint delay;
+    gint retry; /* -1: from the round trips that were measured */
+    guint nacks;
+    guint window;
+    guint32 ssrc;          /* SSRC_UNSET: that of the caps or of the first packet */
+    guint32 rtx_ssrc;      /* SSRC_UNSET: that of the caps, or learnt */
+    guint32 receiver_ssrc; /* SSRC_UNSET: drawn */
+    gint type;             /* -1: that of the caps or of the first packet */
+    gint rtx_type;         /* -1: that of the caps, or RTX_TYPE */
+    gboolean do_lost;
+} recv_settings;
+
+/* What the caps say of the session; -1 where they don't. */
+typedef struct recv_caps {
+    gint64 type, rtx_type, ssrc, rtx_ssrc, first, clock_rate;
+} recv_caps;
+
+/* The times with which a media packet came. A packet with another timestamp is not the one. */
+typedef struct arrival {
+    GstClockTime pts, dts;
+    guint32 timestamp;
+    gboolean known;
+} arrival;
+
+/* Both the window and what is held back after a jump have a place: twice the largest window. */
+enum { ARRIVALS = 2 * GOZDRIT_MAX_STORE };
+
+/* An event that goes out behind the packet with that number. */
+typedef struct held_event {
+    GstEvent *event;
+    guint64 behind;
+} held_event;
+
+/* The packet with which a stream of another SSRC may begin. */
+typedef struct candidate {
+    GstBuffer *buffer;
+    guint32 ssrc;
+    guint16 next;
+} candidate;
+
+/* A packet that was asked for once, so that its repair shows the round trip. */
+typedef struct round_trip {
+    gboolean waiting;
+    guint16 asked;
+    guint64 at;
+    gint64 smooth, apart; /* milliseconds, eight and four times: as RFC 6298 has them; smooth is -1 at first */
+} round_trip;
+
+struct _GstGozdritRecv {
+    GstElement parent;
+    GstPad *sink;
+    GstPad *src;
+    GstPad *feedback;
+
+    GMutex lock; /* one call of the library at a time, and all that follows */
+    recv_settings settings;
+    recv_caps caps;
+    element_time time;
+    GstSegment segment;
+
+    gozdrit_receiver end; /* holds one from the first packet on */
+    gozdrit_session session;
+    gozdrit_receive_counts past; /* the counts of the sessions before */
+    guint64 sessions;
+    guint64 strays;  /* packets that came before there was a session, and began none */
+    gint32 refused;  /* an answer of the library that is to be told without the lock, or 0 */
+    gboolean warned; /* a packet that was too long was told */
+    candidate other;
+    round_trip trip;
+
+    rtp_times times;
+    arrival *arrivals; /* ARRIVALS of them, by the sequence number */
+    GQueue held;       /* held_event */
+    GstBuffer *spare;  /* the buffer that the next packet is played into, and */
+    GstMapInfo map;    /* its octets */
+    guint64 expected;  /* the number of the packet that goes out next */
+    guint lost;        /* how many before it were lost, and are to be told */
+    guint16 lost_from; /* the first of these */
+    GstClockTime last_pts, last_dts; /* of the last packet that went out */
+    guint32 last_timestamp;
+    gboolean discont;
+
+    GstQueueArray *ready; /* buffers and events, in the order in which they go out */
+    GCond ready_cond;     /* for the source pad's task */
+    gboolean src_waits, src_active, stalled; /* stalled: what could be played was not, since too much is ready */
+    GstFlowReturn flow;   /* how the last push went */
+    gboolean ending;      /* the end of the stream came */
+    gboolean ended;       /* and went out */
+
+    GCond timer_cond; /* for the feedback pad's task */
+    GstClockID timer_id;
+    guint64 timer_moment; /* what it waits for: 0 where it does not, and G_MAXUINT64 where only for a call */
+    gboolean timer_active;
+    gboolean feedback_begun;
+};
+
+/* ---- receiving.c. The lock is held in all of these. */
+
+guint64 receiving_now(GstGozdritRecv *self);
+void receiving_caps(GstGozdritRecv *self, const GstCaps *caps);
+void receiving_packet(GstGozdritRecv *self, GstBuffer *buffer, const guint8 *octets, gsize length);
+/* Gives up what is missing, plays all else, and ends the session. */
+void receiving_end(GstGozdritRecv *self);
+/* Forgets what is held, and where the packets' times lie. */
+void receiving_flush(GstGozdritRecv *self);
+void receiving_set_times(GstGozdritRecv *self);
+void receiving_asked(GstGozdritRecv *self, guint16 number, guint64 now);
+GstStructure *receiving_counts(GstGozdritRecv *self);
+
+/* ---- playing.c. The lock is held in all but the task. */
+
+void playing_all(GstGozdritRecv *self, guint64 now);
+void playing_event(GstGozdritRecv *self, GstEvent *event);
+void playing_release(GstGozdritRecv *self);
+void playing_begin_stream(GstGozdritRecv *self);
+void playing_clear(GstGozdritRecv *self);
+void playing_task(gpointer pad);
+
+/* ---- feedback.c */
+
+/* Wakes the timer, where the session wants to be called earlier than it waits for. The lock is held. */
+void feedback_schedule(GstGozdritRecv *self);
+void feedback_wake(GstGozdritRecv *self);
+void feedback_task(gpointer pad);
+
+#endif

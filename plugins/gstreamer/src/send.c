@@ -1,0 +1,279 @@
+/**
+ * SECTION:element-gozdritsend
+ * @title: gozdritsend
+ * @short_description: sends RTP packets that the far side may ask for again
+ * @see_also: gozdritrecv, rtprtxsend
+ *
+ * Sends the RTP packets of one stream as the media of a session, keeps them, and retransmits those that generic NACKs
+ * (RFC 4585) of the far side name, on an SSRC and with a payload type of their own (RFC 4588, SSRC multiplexing). Media
+ * and retransmissions leave by the source pad.
+ *
+ * A packet keeps its timestamp, marker, CSRC list, header extension, padding and payload. Its SSRC is
+ * #GstGozdritSend:ssrc, or what it came with; its sequence numbers follow one another from the first packet's on.
+ *
+ * `feedback_sink` takes the RTCP of the far side, whatever it is: what is no NACK of this session is passed over. At the
+ * end of the stream the last packet is repeated, and feedback is answered for #GstGozdritSend:eos-delay more.
+ *
+ * ## Example pipeline
+ * |[
+ * gst-launch-1.0 videotestsrc is-live=true ! vp8enc deadline=1 ! rtpvp8pay ! gozdritsend name=s
+ *     ! udpsink host=127.0.0.1 port=6004   udpsrc port=6005 ! s.feedback_sink
+ * ]|
+ */
+#include "send.h"
+
+enum {
+    PROP_SSRC = 1,
+    PROP_RTX_SSRC,
+    PROP_RECEIVER_SSRC,
+    PROP_RTX_TYPE,
+    PROP_FIRST,
+    PROP_HISTORY,
+    PROP_REPEATS,
+    PROP_EOS_DELAY,
+    PROP_STATS
+};
+
+static GstStaticPadTemplate sink_template =
+    GST_STATIC_PAD_TEMPLATE("sink", GST_PAD_SINK, GST_PAD_ALWAYS, GST_STATIC_CAPS("application/x-rtp"));
+static GstStaticPadTemplate feedback_template =
+    GST_STATIC_PAD_TEMPLATE("feedback_sink", GST_PAD_SINK, GST_PAD_ALWAYS, GST_STATIC_CAPS("application/x-rtcp"));
+static GstStaticPadTemplate src_template =
+    GST_STATIC_PAD_TEMPLATE("src", GST_PAD_SRC, GST_PAD_ALWAYS, GST_STATIC_CAPS("application/x-rtp"));
+
+G_DEFINE_TYPE(GstGozdritSend, gst_gozdrit_send, GST_TYPE_ELEMENT)
+
+/* ---- media */
+
+static GstFlowReturn chain(GstPad *pad, GstObject *parent, GstBuffer *buffer) {
+    GstGozdritSend *self = GST_GOZDRIT_SEND(parent);
+    GstBuffer *out;
+    (void)pad;
+    GstFlowReturn flow = sending_packet(self, buffer, &out);
+    return out ? gst_pad_push(self->src, out) : flow;
+}
+
+/* A payloader gives all packets of a frame at once, and they go on so. */
+static GstFlowReturn chain_list(GstPad *pad, GstObject *parent, GstBufferList *list) {
+    GstGozdritSend *self = GST_GOZDRIT_SEND(parent);
+    guint length = gst_buffer_list_length(list);
+    GstBufferList *out_list = gst_buffer_list_new_sized(length);
+    GstFlowReturn flow = GST_FLOW_OK;
+    (void)pad;
+    for (guint i = 0; i < length && flow == GST_FLOW_OK; i++) {
+        GstBuffer *out;
+        flow = sending_packet(self, gst_buffer_ref(gst_buffer_list_get(list, i)), &out);
+        if (out) gst_buffer_list_add(out_list, out);
+    }
+    gst_buffer_list_unref(list);
+    if (flow == GST_FLOW_OK && gst_buffer_list_length(out_list) > 0) return gst_pad_push_list(self->src, out_list);
+    gst_buffer_list_unref(out_list);
+    return flow;
+}
+
+/* ---- events */
+
+static void set_flushing(GstGozdritSend *self, gboolean flushing) {
+    g_mutex_lock(&self->lock);
+    self->flushing = flushing;
+    if (flushing && self->waiting) gst_clock_id_unschedule(self->waiting);
+    g_mutex_unlock(&self->lock);
+}
+
+static gboolean sink_event(GstPad *pad, GstObject *parent, GstEvent *event) {
+    GstGozdritSend *self = GST_GOZDRIT_SEND(parent);
+    GstCaps *caps;
+    switch (GST_EVENT_TYPE(event)) {
+    case GST_EVENT_CAPS:
+        gst_event_parse_caps(event, &caps);
+        caps = sending_caps(self, caps);
+        gst_event_unref(event);
+        event = gst_event_new_caps(caps);
+        gst_caps_unref(caps);
+        break;
+    case GST_EVENT_EOS:
+        if (gst_pad_is_linked(self->feedback)) sending_tail(self);
+        break;
+    case GST_EVENT_FLUSH_START:
+    case GST_EVENT_FLUSH_STOP:
+        set_flushing(self, GST_EVENT_TYPE(event) == GST_EVENT_FLUSH_START);
+        break;
+    default:
+        break;
+    }
+    (void)pad;
+    return gst_pad_push_event(self->src, event);
+}
+
+/* ---- feedback */
+
+static GstFlowReturn feedback_chain(GstPad *pad, GstObject *parent, GstBuffer *buffer) {
+    (void)pad;
+    sending_feedback(GST_GOZDRIT_SEND(parent), buffer);
+    gst_buffer_unref(buffer);
+    return GST_FLOW_OK;
+}
+
+/* The feedback's stream ends here. */
+static gboolean feedback_event(GstPad *pad, GstObject *parent, GstEvent *event) {
+    (void)pad;
+    (void)parent;
+    gst_event_unref(event);
+    return TRUE;
+}
+
+/* Media goes through; feedback does not, so what is asked of one side, as its latency, is asked of the other alone. */
+static GstIterator *linked_inside(GstPad *pad, GstObject *parent) {
+    GstGozdritSend *self = GST_GOZDRIT_SEND(parent);
+    GValue value = G_VALUE_INIT;
+    if (pad == self->feedback) return NULL;
+    g_value_init(&value, GST_TYPE_PAD);
+    g_value_set_object(&value, pad == self->sink ? self->src : self->sink);
+    GstIterator *found = gst_iterator_new_single(GST_TYPE_PAD, &value);
+    g_value_unset(&value);
+    return found;
+}
+
+/* ---- states */
+
+static void begin(GstGozdritSend *self) {
+    g_mutex_lock(&self->lock);
+    self->flushing = FALSE;
+    self->next = self->caps_ssrc = self->caps_first = -1;
+    self->past = (gozdrit_send_counts){0};
+    self->rtx_ssrc = self->settings.rtx_ssrc;
+    if (self->rtx_ssrc == SSRC_UNSET) self->rtx_ssrc = draw_ssrc(self->settings.ssrc, self->settings.receiver_ssrc);
+    g_mutex_unlock(&self->lock);
+}
+
+/* The counts can still be read. */
+static void end(GstGozdritSend *self) {
+    g_mutex_lock(&self->lock);
+    sending_end(self);
+    g_mutex_unlock(&self->lock);
+}
+
+static GstStateChangeReturn change_state(GstElement *element, GstStateChange change) {
+    GstGozdritSend *self = GST_GOZDRIT_SEND(element);
+    if (change == GST_STATE_CHANGE_READY_TO_PAUSED) begin(self);
+    if (change == GST_STATE_CHANGE_PAUSED_TO_READY) set_flushing(self, TRUE);
+    GstStateChangeReturn done = GST_ELEMENT_CLASS(gst_gozdrit_send_parent_class)->change_state(element, change);
+    if (change == GST_STATE_CHANGE_PAUSED_TO_READY) end(self);
+    return done;
+}
+
+/* ---- properties */
+
+static void set_property(GObject *object, guint id, const GValue *value, GParamSpec *spec) {
+    GstGozdritSend *self = GST_GOZDRIT_SEND(object);
+    send_settings *settings = &self->settings;
+    g_mutex_lock(&self->lock);
+    switch (id) {
+    case PROP_SSRC: settings->ssrc = g_value_get_uint(value); break;
+    case PROP_RTX_SSRC: settings->rtx_ssrc = g_value_get_uint(value); break;
+    case PROP_RECEIVER_SSRC: settings->receiver_ssrc = g_value_get_uint(value); break;
+    case PROP_RTX_TYPE: settings->rtx_type = g_value_get_uint(value); break;
+    case PROP_FIRST: settings->first = g_value_get_int(value); break;
+    case PROP_HISTORY: settings->history = g_value_get_uint(value); break;
+    case PROP_REPEATS: settings->repeats = g_value_get_uint(value); break;
+    case PROP_EOS_DELAY: settings->eos_delay = g_value_get_uint(value); break;
+    default: G_OBJECT_WARN_INVALID_PROPERTY_ID(object, id, spec);
+    }
+    g_mutex_unlock(&self->lock);
+}
+
+static void get_property(GObject *object, guint id, GValue *value, GParamSpec *spec) {
+    GstGozdritSend *self = GST_GOZDRIT_SEND(object);
+    g_mutex_lock(&self->lock);
+    send_settings settings = self->settings;
+    g_mutex_unlock(&self->lock);
+    switch (id) {
+    case PROP_SSRC: g_value_set_uint(value, settings.ssrc); break;
+    case PROP_RTX_SSRC: g_value_set_uint(value, settings.rtx_ssrc); break;
+    case PROP_RECEIVER_SSRC: g_value_set_uint(value, settings.receiver_ssrc); break;
+    case PROP_RTX_TYPE: g_value_set_uint(value, settings.rtx_type); break;
+    case PROP_FIRST: g_value_set_int(value, settings.first); break;
+    case PROP_HISTORY: g_value_set_uint(value, settings.history); break;
+    case PROP_REPEATS: g_value_set_uint(value, settings.repeats); break;
+    case PROP_EOS_DELAY: g_value_set_uint(value, settings.eos_delay); break;
+    case PROP_STATS: g_value_take_boxed(value, sending_counts(self)); break;
+    default: G_OBJECT_WARN_INVALID_PROPERTY_ID(object, id, spec);
+    }
+}
+
+static void finalize(GObject *object) {
+    GstGozdritSend *self = GST_GOZDRIT_SEND(object);
+    gozdrit_sender_free(&self->end);
+    g_mutex_clear(&self->lock);
+    G_OBJECT_CLASS(gst_gozdrit_send_parent_class)->finalize(object);
+}
+
+/* ---- the class */
+
+static void install_uint(GObjectClass *class, guint id, const gchar *name, const gchar *blurb, guint least, guint most,
+                         guint otherwise) {
+    g_object_class_install_property(
+        class, id, g_param_spec_uint(name, NULL, blurb, least, most, otherwise, PROPERTY_FLAGS));
+}
+
+static void install_properties(GObjectClass *class) {
+    install_uint(class, PROP_SSRC, "ssrc",
+                 "The SSRC of the media (default == that of the caps or of the packets)", 0, G_MAXUINT32, SSRC_UNSET);
+    install_uint(class, PROP_RTX_SSRC, "rtx-ssrc",
+                 "The SSRC of the retransmissions (default == random)", 0, G_MAXUINT32, SSRC_UNSET);
+    install_uint(class, PROP_RECEIVER_SSRC, "receiver-ssrc",
+                 "The SSRC whose NACKs are heard (default == any)", 0, G_MAXUINT32, SSRC_UNSET);
+    install_uint(class, PROP_RTX_TYPE, "rtx-payload-type",
+                 "The payload type of the retransmissions", 96, 127, RTX_TYPE);
+    g_object_class_install_property(
+        class, PROP_FIRST, g_param_spec_int("seqnum-offset", NULL, "The first packet's sequence number (-1 == that of the "
+                                            "caps or of the packet)", -1, G_MAXUINT16, -1, PROPERTY_FLAGS));
+    install_uint(class, PROP_HISTORY, "max-size-packets",
+                 "How many packets are kept for retransmission", 1, GOZDRIT_MAX_STORE, 1024);
+    install_uint(class, PROP_REPEATS, "rtx-max-repeats",
+                 "How often one packet is retransmitted at most", 1, 255, 8);
+    install_uint(class, PROP_EOS_DELAY, "eos-delay",
+                 "How long feedback is answered behind the last packet, in ms, where feedback_sink is linked", 0, 60000, 500);
+    g_object_class_install_property(
+        class, PROP_STATS, g_param_spec_boxed("stats", NULL, "What was counted since the element began: the library's counts",
+                                              GST_TYPE_STRUCTURE, (GParamFlags)(G_PARAM_READABLE | G_PARAM_STATIC_STRINGS)));
+}
+
+static void gst_gozdrit_send_class_init(GstGozdritSendClass *class) {
+    GstElementClass *element = GST_ELEMENT_CLASS(class);
+    GObjectClass *object = G_OBJECT_CLASS(class);
+    object->set_property = set_property;
+    object->get_property = get_property;
+    object->finalize = finalize;
+    element->change_state = change_state;
+    install_properties(object);
+    gst_element_class_add_static_pad_template(element, &sink_template);
+    gst_element_class_add_static_pad_template(element, &feedback_template);
+    gst_element_class_add_static_pad_template(element, &src_template);
+    gst_element_class_set_static_metadata(element, "RTP sender that retransmits", "Codec/Network/RTP",
+                                          "Sends RTP packets, and again those that generic NACKs name (RFC 4585, RFC 4588)",
+                                          "Gozdrit maintainers");
+}
+
+static GstPad *add_pad(GstGozdritSend *self, GstStaticPadTemplate *template) {
+    GstPad *pad = gst_pad_new_from_static_template(template, template->name_template);
+    gst_pad_set_iterate_internal_links_function(pad, linked_inside);
+    gst_element_add_pad(GST_ELEMENT(self), pad);
+    return pad;
+}
+
+static void gst_gozdrit_send_init(GstGozdritSend *self) {
+    g_mutex_init(&self->lock);
+    self->settings = (send_settings){.ssrc = SSRC_UNSET, .rtx_ssrc = SSRC_UNSET, .receiver_ssrc = SSRC_UNSET,
+                                     .rtx_type = RTX_TYPE, .first = -1, .history = 1024, .repeats = 8, .eos_delay = 500};
+    self->sink = add_pad(self, &sink_template);
+    self->feedback = add_pad(self, &feedback_template);
+    self->src = add_pad(self, &src_template);
+    gst_pad_set_chain_function(self->sink, chain);
+    gst_pad_set_chain_list_function(self->sink, chain_list);
+    gst_pad_set_event_function(self->sink, sink_event);
+    GST_PAD_SET_PROXY_CAPS(self->sink);
+    GST_PAD_SET_PROXY_CAPS(self->src);
+    gst_pad_set_chain_function(self->feedback, feedback_chain);
+    gst_pad_set_event_function(self->feedback, feedback_event);
+}

@@ -1,0 +1,60 @@
+/* gozdritsend, the sending element. send.c is the element: its pads, properties and states. sending.c is what it does
+ * with packets and feedback. */
+#ifndef GOZDRIT_GST_SEND_H
+#define GOZDRIT_GST_SEND_H
+
+#include "common.h"
+
+G_DECLARE_FINAL_TYPE(GstGozdritSend, gst_gozdrit_send, GST, GOZDRIT_SEND, GstElement)
+
+/* The properties, which a session takes as it begins. */
+typedef struct send_settings {
+    guint32 ssrc;          /* SSRC_UNSET: that of the caps or of the packets */
+    guint32 rtx_ssrc;      /* SSRC_UNSET: drawn */
+    guint32 receiver_ssrc; /* SSRC_UNSET: any reporter is heard */
+    guint rtx_type;
+    gint first; /* -1: that of the caps or of the first packet */
+    guint history;
+    guint repeats;
+    guint eos_delay; /* milliseconds */
+} send_settings;
+
+struct _GstGozdritSend {
+    GstElement parent;
+    GstPad *sink;
+    GstPad *feedback;
+    GstPad *src;
+
+    GMutex lock; /* one call of the library at a time, and all that follows */
+    send_settings settings;
+    gozdrit_sender end; /* holds one from the first packet on */
+    gozdrit_session session;
+    gozdrit_send_counts past; /* the counts of the sessions before */
+    guint32 source_ssrc; /* the SSRC that the packets come with */
+    guint32 rtx_ssrc;    /* of the retransmissions, from the caps on */
+    gint64 next;         /* the number of the next packet, where a session follows another; else -1 */
+    gint64 caps_ssrc;    /* what the caps say, or -1 */
+    gint64 caps_first;
+    GstClockID waiting; /* for the tail to be repaired */
+    gboolean flushing;  /* nothing is waited for */
+};
+
+/* The caps of the packets that go out, from those that come in. */
+GstCaps *sending_caps(GstGozdritSend *self, const GstCaps *caps);
+
+/* Takes the reference of a packet that came, and gives the one that goes out. */
+GstFlowReturn sending_packet(GstGozdritSend *self, GstBuffer *buffer, GstBuffer **out);
+
+/* Sends what a datagram of feedback asks for. */
+void sending_feedback(GstGozdritSend *self, GstBuffer *buffer);
+
+/* Repeats the last packet, and answers until the time is over. */
+void sending_tail(GstGozdritSend *self);
+
+/* What was counted so far, by this session and those before. */
+GstStructure *sending_counts(GstGozdritSend *self);
+
+/* Ends the session, and keeps its counts. The lock is held. */
+void sending_end(GstGozdritSend *self);
+
+#endif

@@ -1,0 +1,267 @@
+#include "send.h"
+
+#include <gst/rtp/rtp.h>
+#include <string.h>
+
+/* ---- the session */
+
+void sending_end(GstGozdritSend *self) {
+    gozdrit_send_counts counts;
+    if (gozdrit_sender_counts(&self->end, &counts) != GOZDRIT_OK) return;
+    guint64 *past = (guint64 *)&self->past;
+    const guint64 *now = (const guint64 *)&counts;
+    for (gsize i = 0; i < sizeof counts / sizeof *now; i++) past[i] += now[i];
+    gozdrit_sender_free(&self->end);
+}
+
+/* The first packet's number: as the property or the caps say, or its own. A session behind another one goes on. */
+static guint16 first_number(const GstGozdritSend *self, guint16 own) {
+    if (self->next >= 0) return (guint16)self->next;
+    if (self->settings.first >= 0) return (guint16)self->settings.first;
+    return self->caps_first >= 0 ? (guint16)self->caps_first : own;
+}
+
+/* Begins a session for packets like this one. */
+static gint32 begin(GstGozdritSend *self, guint8 type, guint32 ssrc, guint16 own) {
+    const send_settings *settings = &self->settings;
+    gozdrit_sender_config config;
+    guint32 media = settings->ssrc != SSRC_UNSET ? settings->ssrc : ssrc;
+    sending_end(self);
+    if (self->rtx_ssrc == media && settings->rtx_ssrc == SSRC_UNSET) self->rtx_ssrc = draw_ssrc(media, media);
+    gozdrit_sender_defaults(&config);
+    config.session.media_ssrc = media;
+    config.session.rtx_ssrc = self->rtx_ssrc;
+    config.session.media_type = type;
+    config.session.rtx_type = (guint8)settings->rtx_type;
+    config.session.any_media_type = 1;
+    config.any_reporter = settings->receiver_ssrc == SSRC_UNSET;
+    config.session.receiver_ssrc =
+        config.any_reporter ? draw_ssrc(media, self->rtx_ssrc) : settings->receiver_ssrc;
+    config.history = settings->history;
+    config.repeats = (guint8)settings->repeats;
+    config.first = first_number(self, own);
+    config.rtx_first = (guint16)g_random_int();
+    self->source_ssrc = ssrc;
+    self->session = config.session;
+    return gozdrit_sender_new(&config, &self->end);
+}
+
+/* Whether packets of this type and SSRC are those of the session. */
+static gboolean is_session(const GstGozdritSend *self, guint8 type, guint32 ssrc) {
+    return self->end.held && self->session.media_type == type && self->source_ssrc == ssrc;
+}
+
+/* ---- caps */
+
+/* The number that the first packet will have is told where it is known before the packet comes. */
+GstCaps *sending_caps(GstGozdritSend *self, const GstCaps *caps) {
+    GstCaps *out = gst_caps_copy(caps);
+    g_mutex_lock(&self->lock);
+    self->caps_ssrc = caps_number(caps, "ssrc", -1);
+    self->caps_first = caps_number(caps, "seqnum-offset", -1);
+    gint64 media = self->settings.ssrc != SSRC_UNSET ? (gint64)self->settings.ssrc : self->caps_ssrc;
+    gint64 first = self->settings.first >= 0 ? self->settings.first : self->caps_first;
+    while (self->settings.rtx_ssrc == SSRC_UNSET && (gint64)self->rtx_ssrc == media)
+        self->rtx_ssrc = draw_ssrc(self->rtx_ssrc, self->rtx_ssrc);
+    gst_caps_set_simple(out, "rtcp-fb-nack", G_TYPE_BOOLEAN, TRUE, "rtx-payload-type", G_TYPE_INT,
+                        (gint)self->settings.rtx_type, "rtx-ssrc", G_TYPE_UINT, self->rtx_ssrc, NULL);
+    if (media >= 0) gst_caps_set_simple(out, "ssrc", G_TYPE_UINT, (guint)media, NULL);
+    if (first >= 0 && !self->end.held && self->next < 0)
+        gst_caps_set_simple(out, "seqnum-base", G_TYPE_UINT, (guint)first, NULL);
+    g_mutex_unlock(&self->lock);
+    return out;
+}
+
+/* ---- media */
+
+/* The words of a header extension. More than the library takes are not told. */
+static gboolean read_extension(GstRTPBuffer *rtp, gozdrit_header *header) {
+    gpointer octets;
+    guint words = 0;
+    if (!gst_rtp_buffer_get_extension_data(rtp, &header->profile, &octets, &words)) return TRUE;
+    if (words > GOZDRIT_MAX_WORDS) return FALSE;
+    header->has_extension = 1;
+    header->word_count = (guint8)words;
+    for (guint i = 0; i < words; i++) header->words[i] = GST_READ_UINT32_BE((const guint8 *)octets + 4 * i);
+    return TRUE;
+}
+
+static gboolean read_header(GstRTPBuffer *rtp, gozdrit_header *header) {
+    header->timestamp = gst_rtp_buffer_get_timestamp(rtp);
+    header->marker = (gozdrit_bool)gst_rtp_buffer_get_marker(rtp);
+    header->source_count = gst_rtp_buffer_get_csrc_count(rtp);
+    header->has_extension = 0;
+    for (guint8 i = 0; i < header->source_count; i++) header->sources[i] = gst_rtp_buffer_get_csrc(rtp, i);
+    return read_extension(rtp, header);
+}
+
+/* Says why a packet does not go out: it is never dropped in silence. */
+static GstFlowReturn refuse(GstGozdritSend *self, gint32 number, guint length) {
+    if (number == GOZDRIT_TOO_LARGE)
+        GST_ELEMENT_ERROR(self, STREAM, FORMAT, ("A packet is too long to be repaired."),
+                          ("its payload has %u octets, and this build of the library takes %d, and %d words of a header "
+                           "extension: set the payloader's mtu to %d", length, GOZDRIT_MAX_PAYLOAD, GOZDRIT_MAX_WORDS,
+                           GOZDRIT_MAX_PAYLOAD));
+    else if (number == GOZDRIT_BAD_TYPE || number == GOZDRIT_SAME_SSRC)
+        GST_ELEMENT_ERROR(self, STREAM, FORMAT, ("The session can't begin."),
+                          ("%s: rtx-payload-type, rtx-ssrc or receiver-ssrc is that of the media, or the media's type is "
+                           "64 to 95", gozdrit_refusal_name(number)));
+    else
+        GST_ELEMENT_ERROR(self, STREAM, FAILED, ("A packet can't be sent."), ("%s", gozdrit_refusal_name(number)));
+    return GST_FLOW_ERROR;
+}
+
+/* Writes the session's packet of a header and a payload into a buffer of just its length. The lock is held. */
+static gint32 write_packet(GstGozdritSend *self, const gozdrit_header *header, GstRTPBuffer *rtp, GstBuffer **out) {
+    guint length = gst_rtp_buffer_get_payload_len(rtp), head = gst_rtp_buffer_get_header_len(rtp);
+    guint padding = length > 0 ? gst_rtp_buffer_get_packet_len(rtp) - head - length : 0;
+    gozdrit_sent sent;
+    GstMapInfo map;
+    if (length > GOZDRIT_MAX_PAYLOAD) return GOZDRIT_TOO_LARGE;
+    GstBuffer *made = gst_buffer_new_allocate(NULL, head + length + padding, NULL);
+    gst_buffer_map(made, &map, GST_MAP_WRITE);
+    gint32 number = gozdrit_send(&self->end, header, gst_rtp_buffer_get_payload(rtp), length, (guint8)padding, &sent,
+                                 map.data, map.size);
+    gst_buffer_unmap(made, &map);
+    if (number == GOZDRIT_OK) {
+        self->next = (gint64)((sent.sequence + 1) & 0xffff);
+        *out = made;
+    } else {
+        gst_buffer_unref(made);
+    }
+    return number;
+}
+
+/* The same, in the session that the packet belongs to. */
+static gint32 send_packet(GstGozdritSend *self, GstRTPBuffer *rtp, GstBuffer **out) {
+    guint8 type = gst_rtp_buffer_get_payload_type(rtp);
+    guint32 ssrc = gst_rtp_buffer_get_ssrc(rtp);
+    gozdrit_header header;
+    gint32 number = GOZDRIT_OK;
+    if (!read_header(rtp, &header)) return GOZDRIT_TOO_LARGE;
+    g_mutex_lock(&self->lock);
+    if (!is_session(self, type, ssrc)) number = begin(self, type, ssrc, gst_rtp_buffer_get_seq(rtp));
+    if (number == GOZDRIT_OK) number = write_packet(self, &header, rtp, out);
+    g_mutex_unlock(&self->lock);
+    return number;
+}
+
+GstFlowReturn sending_packet(GstGozdritSend *self, GstBuffer *buffer, GstBuffer **out) {
+    GstRTPBuffer rtp = GST_RTP_BUFFER_INIT;
+    *out = NULL;
+    if (!gst_rtp_buffer_map(buffer, GST_MAP_READ, &rtp)) {
+        GST_ELEMENT_WARNING(self, STREAM, DECODE, ("A buffer is dropped."), ("it is no RTP packet"));
+        gst_buffer_unref(buffer);
+        return GST_FLOW_OK;
+    }
+    guint length = gst_rtp_buffer_get_payload_len(&rtp);
+    gint32 number = send_packet(self, &rtp, out);
+    gst_rtp_buffer_unmap(&rtp);
+    if (number == GOZDRIT_OK)
+        gst_buffer_copy_into(*out, buffer, GST_BUFFER_COPY_FLAGS | GST_BUFFER_COPY_TIMESTAMPS | GST_BUFFER_COPY_META, 0,
+                             (gsize)-1);
+    gst_buffer_unref(buffer);
+    return number == GOZDRIT_OK ? GST_FLOW_OK : refuse(self, number, length);
+}
+
+/* ---- feedback */
+
+/* The next retransmission, or NULL. The lock is held. */
+static GstBuffer *next_retransmission(GstGozdritSend *self) {
+    gozdrit_sent sent = {0};
+    GstMapInfo map;
+    GstBuffer *out = gst_buffer_new_allocate(NULL, GOZDRIT_MAX_DATAGRAM, NULL);
+    gst_buffer_map(out, &map, GST_MAP_WRITE);
+    gint32 number = gozdrit_retransmit(&self->end, &sent, map.data, map.size);
+    gst_buffer_unmap(out, &map);
+    if (number != GOZDRIT_OK || sent.length == 0) {
+        gst_buffer_unref(out);
+        return NULL;
+    }
+    gst_buffer_set_size(out, (gssize)sent.length);
+    GST_BUFFER_FLAG_SET(out, GST_RTP_BUFFER_FLAG_RETRANSMISSION);
+    return out;
+}
+
+/* Sends what is to be retransmitted. The network loses what can't go out, and the receiver asks again: so how it went is
+ * not looked at. They have no time of their own, and a sink that waits for times sends them at once. */
+static void push_retransmissions(GstGozdritSend *self) {
+    for (;;) {
+        g_mutex_lock(&self->lock);
+        GstBuffer *out = self->end.held ? next_retransmission(self) : NULL;
+        g_mutex_unlock(&self->lock);
+        if (!out) return;
+        gst_pad_push(self->src, out);
+    }
+}
+
+void sending_feedback(GstGozdritSend *self, GstBuffer *buffer) {
+    GstMapInfo map;
+    gozdrit_told told = {0};
+    if (!gst_buffer_map(buffer, &map, GST_MAP_READ)) return;
+    g_mutex_lock(&self->lock);
+    if (self->end.held) gozdrit_feedback(&self->end, map.data, map.size, &told);
+    g_mutex_unlock(&self->lock);
+    gst_buffer_unmap(buffer, &map);
+    if (told.marked > 0) push_retransmissions(self);
+}
+
+/* ---- the tail */
+
+/* Waits for a while. It is over at once where the element stops or is flushed. */
+static gboolean wait_for(GstGozdritSend *self, GstClock *clock, GstClockTime until) {
+    g_mutex_lock(&self->lock);
+    gboolean go_on = !self->flushing;
+    if (go_on) {
+        GstClockID id = self->waiting = gst_clock_new_single_shot_id(clock, until);
+        g_mutex_unlock(&self->lock);
+        go_on = gst_clock_id_wait(id, NULL) != GST_CLOCK_UNSCHEDULED;
+        g_mutex_lock(&self->lock);
+        self->waiting = NULL;
+        gst_clock_id_unref(id);
+    }
+    g_mutex_unlock(&self->lock);
+    return go_on;
+}
+
+/* A receiver notices only what is missing below the highest packet that came, so the last one is repeated, as often as one
+ * may be. */
+void sending_tail(GstGozdritSend *self) {
+    GstClockTime step = self->settings.eos_delay * MILLISECOND / (self->settings.repeats + 1);
+    GstClock *clock = gst_element_get_clock(GST_ELEMENT(self));
+    if (!clock) clock = gst_system_clock_obtain();
+    GstClockTime until = gst_clock_get_time(clock);
+    for (guint i = 0; i < self->settings.repeats + 1; i++) {
+        guint32 marked = 0;
+        g_mutex_lock(&self->lock);
+        if (i < self->settings.repeats && self->end.held) gozdrit_mark_last(&self->end, &marked);
+        g_mutex_unlock(&self->lock);
+        push_retransmissions(self);
+        until += step;
+        if (!wait_for(self, clock, until)) break;
+    }
+    gst_object_unref(clock);
+}
+
+/* ---- counts */
+
+GstStructure *sending_counts(GstGozdritSend *self) {
+    GstStructure *told = gst_structure_new_empty("application/x-gozdrit-send-counts");
+    gozdrit_send_counts now = {0}, past;
+    g_mutex_lock(&self->lock);
+    if (self->end.held) gozdrit_sender_counts(&self->end, &now);
+    past = self->past;
+    g_mutex_unlock(&self->lock);
+    ADD_COUNT(told, "sent", now.sent + past.sent);
+    ADD_COUNT(told, "octets", now.octets + past.octets);
+    ADD_COUNT(told, "retransmissions", now.retransmissions + past.retransmissions);
+    ADD_COUNT(told, "nacks", now.nacks + past.nacks);
+    ADD_COUNT(told, "others", now.others + past.others);
+    ADD_COUNT(told, "numbers", now.numbers + past.numbers);
+    ADD_COUNT(told, "unknown", now.unknown + past.unknown);
+    ADD_COUNT(told, "exhausted", now.exhausted + past.exhausted);
+    ADD_COUNT(told, "media", now.media + past.media);
+    ADD_COUNT(told, "reports", now.reports + past.reports);
+    ADD_COUNT(told, "refused", now.refused + past.refused);
+    return told;
+}
