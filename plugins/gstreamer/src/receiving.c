@@ -156,12 +156,18 @@ static void restarted(GstGozdritRecv *self, GstBuffer *buffer, const guint8 *oct
 
 static void take(GstGozdritRecv *self, GstBuffer *buffer, const guint8 *octets, gsize length, guint64 now);
 
+/* Whether it is a media packet of another SSRC. While that of the retransmissions is learnt, such a one is refused for its
+ * type. */
+static gboolean is_other_stream(const GstGozdritRecv *self, const guint8 *octets, guint8 refusal) {
+    return (refusal == GOZDRIT_UNKNOWN_SOURCE || refusal == GOZDRIT_UNKNOWN_TYPE) && is_free_ssrc(self) &&
+           PACKET_TYPE(octets) == self->session.media_type && PACKET_SSRC(octets) != self->session.media_ssrc;
+}
+
 /* A media packet of another SSRC. Two in sequence of one SSRC are a stream that takes the place of this one, where nobody
  * said which it has to be: the far side began anew. */
 static void take_other(GstGozdritRecv *self, GstBuffer *buffer, const guint8 *octets, gsize length, guint64 now) {
     candidate *other = &self->other;
     GstMapInfo map;
-    if (!is_free_ssrc(self) || PACKET_TYPE(octets) != self->session.media_type) return;
     if (!other->buffer || other->ssrc != PACKET_SSRC(octets) || other->next != PACKET_SEQUENCE(octets)) {
         gst_buffer_replace(&other->buffer, buffer);
         other->ssrc = PACKET_SSRC(octets);
@@ -205,7 +211,7 @@ static void take(GstGozdritRecv *self, GstBuffer *buffer, const guint8 *octets, 
     case GOZDRIT_NOT_TAKEN:
         GST_LOG_OBJECT(self, "not taken: %s", gozdrit_refusal_name(heard.refusal));
         if (heard.refusal == GOZDRIT_TOO_LONG) self->refused = GOZDRIT_TOO_LONG;
-        if (heard.refusal == GOZDRIT_UNKNOWN_SOURCE) take_other(self, buffer, octets, length, now);
+        if (is_other_stream(self, octets, heard.refusal)) take_other(self, buffer, octets, length, now);
         break;
     default: break;
     }

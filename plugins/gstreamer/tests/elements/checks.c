@@ -1,0 +1,186 @@
+#include "checks.h"
+
+#include <string.h>
+
+static guint passed, failed;
+
+gboolean check(gboolean holds, const gchar *what, const gchar *file, gint line) {
+    static GMutex lock;
+    g_mutex_lock(&lock);
+    if (holds) passed++;
+    else failed++;
+    g_mutex_unlock(&lock);
+    if (!holds) g_print("FAILED: %s:%d: %s\n", file, line, what);
+    return holds;
+}
+
+/* ---- packets */
+
+guint32 timestamp_of(packet of) { return of.offset + (guint32)gst_util_uint64_scale_round(of.pts, RATE, GST_SECOND); }
+
+GstBuffer *make_packet(packet of) {
+    GstRTPBuffer rtp = GST_RTP_BUFFER_INIT;
+    guint length = of.length > 0 ? of.length : 10;
+    GstBuffer *buffer = gst_rtp_buffer_new_allocate(length, 0, 0);
+    gst_rtp_buffer_map(buffer, GST_MAP_WRITE, &rtp);
+    gst_rtp_buffer_set_payload_type(&rtp, of.type ? of.type : TYPE);
+    gst_rtp_buffer_set_ssrc(&rtp, of.ssrc ? of.ssrc : MEDIA);
+    gst_rtp_buffer_set_seq(&rtp, of.sequence);
+    gst_rtp_buffer_set_timestamp(&rtp, timestamp_of(of));
+    gst_rtp_buffer_set_marker(&rtp, of.marker);
+    memset(gst_rtp_buffer_get_payload(&rtp), of.fill, length);
+    gst_rtp_buffer_unmap(&rtp);
+    GST_BUFFER_PTS(buffer) = GST_BUFFER_DTS(buffer) = of.pts;
+    return buffer;
+}
+
+GstBuffer *make_repair(packet of, guint16 sequence) {
+    guint16 original = of.sequence;
+    GstMapInfo map;
+    of.length = (of.length > 0 ? of.length : 10) + 2;
+    of.sequence = sequence;
+    of.ssrc = of.ssrc ? of.ssrc : RTX;
+    of.type = RTX_TYPE;
+    GstBuffer *buffer = make_packet(of);
+    gst_buffer_map(buffer, &map, GST_MAP_WRITE);
+    GST_WRITE_UINT16_BE(map.data + 12, original);
+    gst_buffer_unmap(buffer, &map);
+    GST_BUFFER_PTS(buffer) = GST_BUFFER_DTS(buffer) = 999 * GST_SECOND; /* when it came: of no meaning for the media */
+    return buffer;
+}
+
+GstBuffer *make_nack(guint16 pid, guint16 blp) {
+    guint8 octets[16] = {0x81, 205, 0, 3, 0x33, 0x33, 0x33, 0x33, 0x11, 0x11, 0x11, 0x11};
+    GST_WRITE_UINT16_BE(octets + 12, pid);
+    GST_WRITE_UINT16_BE(octets + 14, blp);
+    return gst_buffer_new_memdup(octets, sizeof octets);
+}
+
+gboolean same_octets(GstBuffer *a, GstBuffer *b) {
+    GstMapInfo map;
+    gst_buffer_map(a, &map, GST_MAP_READ);
+    gboolean same = gst_buffer_get_size(b) == map.size && gst_buffer_memcmp(b, 0, map.data, map.size) == 0;
+    gst_buffer_unmap(a, &map);
+    return same;
+}
+
+gboolean is_packet(GstBuffer *buffer, packet of) {
+    GstBuffer *same = make_packet(of);
+    gboolean is = buffer && same_octets(buffer, same) && GST_BUFFER_PTS(buffer) == of.pts;
+    gst_buffer_unref(same);
+    return is;
+}
+
+gboolean is_nack(GstBuffer *buffer, guint16 pid, guint16 blp) {
+    guint8 octets[16] = {0};
+    if (!buffer || gst_buffer_get_size(buffer) != sizeof octets) return FALSE;
+    gst_buffer_extract(buffer, 0, octets, sizeof octets);
+    return octets[0] == 0x81 && octets[1] == 205 && GST_READ_UINT32_BE(octets + 8) == MEDIA &&
+           GST_READ_UINT16_BE(octets + 12) == pid && GST_READ_UINT16_BE(octets + 14) == blp;
+}
+
+/* ---- what an element tells */
+
+guint64 count_of(GstElement *element, const gchar *name) {
+    GstStructure *stats;
+    guint64 count = G_MAXUINT64;
+    g_object_get(element, "stats", &stats, NULL);
+    gst_structure_get_uint64(stats, name, &count);
+    gst_structure_free(stats);
+    return count;
+}
+
+GstBuffer *next_buffer(GstHarness *harness) {
+    for (gint i = 0; i < 2000; i++) {
+        GstBuffer *buffer = gst_harness_buffers_in_queue(harness) > 0 ? gst_harness_try_pull(harness) : NULL;
+        if (buffer) return buffer;
+        g_usleep(1000);
+    }
+    return NULL;
+}
+
+GstEvent *next_event(GstHarness *harness, GstEventType type) {
+    for (gint i = 0; i < 2000; i++) {
+        GstEvent *event = gst_harness_try_pull_event(harness);
+        if (event && GST_EVENT_TYPE(event) == type) return event;
+        if (event) gst_event_unref(event);
+        else g_usleep(1000);
+    }
+    return NULL;
+}
+
+gboolean comes(GstHarness *harness, packet of) {
+    GstBuffer *buffer = next_buffer(harness);
+    gboolean is = is_packet(buffer, of);
+    gst_clear_buffer(&buffer);
+    return is;
+}
+
+gboolean is_silent(GstHarness *harness) {
+    g_usleep(20000);
+    return gst_harness_buffers_in_queue(harness) == 0;
+}
+
+GstBus *bus_of(GstElement *element) {
+    GstBus *bus = gst_bus_new();
+    gst_element_set_bus(element, bus);
+    return bus;
+}
+
+gboolean posted(GstBus *bus, GstMessageType type) {
+    GstMessage *message = gst_bus_pop_filtered(bus, type);
+    if (message) gst_message_unref(message);
+    return message != NULL;
+}
+
+void drop_bus(GstElement *element, GstBus *bus) {
+    gst_element_set_bus(element, NULL);
+    gst_object_unref(bus);
+}
+
+/* ---- a receiver */
+
+receiver make_receiver(const gchar *caps) {
+    receiver r;
+    r.element = gst_element_factory_make("gozdritrecv", NULL);
+    g_object_set(r.element, "do-lost", TRUE, "rtx-retry-timeout", 60, NULL);
+    r.media = gst_harness_new_with_element(r.element, "sink", "src");
+    r.feedback = gst_harness_new_with_element(r.element, NULL, "feedback_src");
+    gst_harness_set_src_caps_str(r.media, caps);
+    return r;
+}
+
+void drop_receiver(receiver *r) {
+    gst_harness_teardown(r->feedback);
+    gst_harness_teardown(r->media);
+    gst_object_unref(r->element);
+}
+
+gboolean ticks(receiver *r, guint64 at) {
+    if (!gst_harness_wait_for_clock_id_waits(r->media, 1, 2)) return FALSE;
+    GstTestClock *clock = gst_harness_get_testclock(r->media);
+    gboolean due = gst_test_clock_get_next_entry_time(clock) == at * GST_MSECOND;
+    if (!due) g_print("due: %" GST_TIME_FORMAT "\n", GST_TIME_ARGS(gst_test_clock_get_next_entry_time(clock)));
+    gst_object_unref(clock);
+    return gst_harness_crank_single_clock_wait(r->media) && due;
+}
+
+void set_clock_to(receiver *r, guint64 at) { gst_harness_set_time(r->media, at * GST_MSECOND); }
+
+/* ---- all tests, or those that are named */
+
+int main(int count, char **words) {
+    static const struct { const gchar *name; void (*test)(void); } tests[] = {
+        {"send", test_send},       {"feedback", test_feedback}, {"tail", test_tail},         {"receive", test_receive},
+        {"times", test_times},     {"streams", test_streams},   {"restarts", test_restarts}, {"states", test_states},
+    };
+    gst_init(NULL, NULL);
+    for (guint i = 0; i < G_N_ELEMENTS(tests); i++) {
+        gboolean wanted = count == 1;
+        for (gint word = 1; word < count; word++) wanted |= g_str_equal(words[word], tests[i].name);
+        if (wanted) tests[i].test();
+    }
+    gst_deinit();
+    g_print("%u passed, %u failed\n", passed, failed);
+    return failed > 0;
+}

@@ -1,0 +1,194 @@
+/* What a receiver makes of packets: their order, asks, repairs, and what is lost for good. */
+#include "checks.h"
+
+#include <string.h>
+
+#define MS(n) ((n) * (GstClockTime)GST_MSECOND)
+
+/* A packet that has everything goes out as it came, but for its padding. */
+static void test_whole_packet(void) {
+    receiver r = make_receiver(CAPS);
+    GstRTPBuffer rtp = GST_RTP_BUFFER_INIT;
+    static const guint8 words[8] = {1, 2, 3, 4, 5, 6};
+    GstBuffer *buffer = make_packet((packet){.sequence = 65535, .fill = 7, .marker = TRUE, .length = 100});
+    gst_rtp_buffer_map(buffer, GST_MAP_READWRITE, &rtp);
+    gst_rtp_buffer_add_extension_onebyte_header(&rtp, 3, words, 6);
+    gst_rtp_buffer_unmap(&rtp);
+    GST_BUFFER_PTS(buffer) = 5 * GST_SECOND;
+    GST_BUFFER_DTS(buffer) = 4 * GST_SECOND;
+    gst_harness_push(r.media, gst_buffer_ref(buffer));
+    GstBuffer *out = next_buffer(r.media);
+    if (CHECK(out != NULL)) {
+        CHECK(same_octets(out, buffer));
+        CHECK(GST_BUFFER_PTS(out) == 5 * GST_SECOND && GST_BUFFER_DTS(out) == 4 * GST_SECOND);
+        CHECK(GST_BUFFER_FLAG_IS_SET(out, GST_BUFFER_FLAG_MARKER | GST_BUFFER_FLAG_DISCONT));
+        gst_buffer_unref(out);
+    }
+    gst_buffer_unref(buffer);
+    drop_receiver(&r);
+}
+
+/* Packets are put into their order, and each comes once; what comes in time is not asked for. */
+static void test_order(void) {
+    receiver r = make_receiver(CAPS);
+    static const guint16 sent[] = {65534, 0, 65535, 65535, 3, 2, 1, 0};
+    for (guint i = 0; i < G_N_ELEMENTS(sent); i++) SEND(&r, .sequence = sent[i], .fill = (guint8)sent[i]);
+    for (guint16 i = 65534; i != 4; i++) COMES(r.media, .sequence = i, .fill = (guint8)i);
+    CHECK(is_silent(r.media) && is_silent(r.feedback));
+    CHECK(count_of(r.element, "duplicate") + count_of(r.element, "late") == 2 && count_of(r.element, "nacks") == 0);
+    drop_receiver(&r);
+}
+
+/* A missing packet is asked for when the delay is over and at each retry, and its repair has the times of its frame. */
+static void test_repair(void) {
+    receiver r = make_receiver(CAPS);
+    GstBuffer *nack;
+    SEND(&r, .sequence = 10, .pts = MS(40));
+    COMES(r.media, .sequence = 10, .pts = MS(40));
+    SEND(&r, .sequence = 12, .pts = MS(80), .fill = 12);
+    SEND(&r, .sequence = 14, .pts = MS(120), .fill = 14);
+    TICKS(&r, 20);
+    nack = next_buffer(r.feedback);
+    CHECK(is_nack(nack, 11, 2));
+    gst_clear_buffer(&nack);
+    REPAIR(&r, 50, .sequence = 11, .pts = MS(80), .fill = 11);
+    COMES(r.media, .sequence = 11, .pts = MS(80), .fill = 11);
+    COMES(r.media, .sequence = 12, .pts = MS(80), .fill = 12);
+    CHECK(is_silent(r.media));
+    TICKS(&r, 80);
+    nack = next_buffer(r.feedback);
+    CHECK(is_nack(nack, 13, 0));
+    gst_clear_buffer(&nack);
+    REPAIR(&r, 51, .sequence = 13, .pts = MS(100), .fill = 13);
+    COMES(r.media, .sequence = 13, .pts = MS(100), .fill = 13);
+    COMES(r.media, .sequence = 14, .pts = MS(120), .fill = 14);
+    CHECK(count_of(r.element, "retransmissions") == 2 && count_of(r.element, "nacked") == 3);
+    drop_receiver(&r);
+}
+
+static gboolean is_lost(GstHarness *h, guint sequence, GstClockTime at, GstClockTime span) {
+    GstEvent *event = next_event(h, GST_EVENT_CUSTOM_DOWNSTREAM);
+    guint number = 0;
+    guint64 timestamp = 0, duration = 0;
+    if (!event) return FALSE;
+    const GstStructure *s = gst_event_get_structure(event);
+    gboolean is = gst_structure_has_name(s, "GstRTPPacketLost") &&
+                  gst_structure_get(s, "seqnum", G_TYPE_UINT, &number, "timestamp", G_TYPE_UINT64, &timestamp, "duration",
+                                    G_TYPE_UINT64, &duration, NULL) &&
+                  number == sequence && timestamp == at && duration == span;
+    gst_event_unref(event);
+    return is;
+}
+
+/* What is not repaired is given up when its patience is over, and told; what is behind it goes on, marked. */
+static void test_loss(void) {
+    receiver r = make_receiver(CAPS);
+    SEND(&r, .sequence = 10);
+    COMES(r.media, .sequence = 10);
+    SEND(&r, .sequence = 13, .pts = MS(90));
+    for (guint64 at = 20; at <= 200; at += 60) TICKS(&r, at);
+    GstBuffer *out = next_buffer(r.media);
+    CHECK(is_packet(out, (packet){.sequence = 13, .pts = MS(90)}));
+    CHECK(out && GST_BUFFER_FLAG_IS_SET(out, GST_BUFFER_FLAG_DISCONT));
+    gst_clear_buffer(&out);
+    CHECK(is_lost(r.media, 11, MS(30), MS(30)));
+    CHECK(is_lost(r.media, 12, MS(60), MS(30)));
+    SEND(&r, .sequence = 14, .pts = MS(120));
+    out = next_buffer(r.media);
+    CHECK(is_packet(out, (packet){.sequence = 14, .pts = MS(120)}) && !GST_BUFFER_FLAG_IS_SET(out, GST_BUFFER_FLAG_DISCONT));
+    gst_clear_buffer(&out);
+    CHECK(gst_harness_buffers_in_queue(r.feedback) == 4 - 1); /* at 20, 80 and 140; 200 is the end of patience */
+    CHECK(count_of(r.element, "gaps") == 2 && count_of(r.element, "played") == 3);
+    drop_receiver(&r);
+}
+
+/* Nothing is told where nobody wants it. */
+static void test_loss_untold(void) {
+    receiver r = make_receiver(CAPS);
+    g_object_set(r.element, "do-lost", FALSE, "latency", 0, NULL);
+    SEND(&r, .sequence = 10);
+    guint events = gst_harness_events_received(r.media);
+    SEND(&r, .sequence = 12);
+    COMES(r.media, .sequence = 10);
+    COMES(r.media, .sequence = 12);
+    CHECK(gst_harness_events_received(r.media) == MAX(events, 3));
+    drop_receiver(&r);
+}
+
+/* What the window has no room for is told as lost too. */
+static void test_overrun(void) {
+    receiver r = make_receiver(CAPS);
+    gst_element_set_state(r.element, GST_STATE_NULL);
+    g_object_set(r.element, "max-size-packets", 2, NULL);
+    gst_element_set_state(r.element, GST_STATE_PLAYING);
+    gst_harness_set_src_caps_str(r.media, CAPS);
+    SEND(&r, .sequence = 10);
+    SEND(&r, .sequence = 12);
+    SEND(&r, .sequence = 13, .pts = MS(40));
+    COMES(r.media, .sequence = 10);
+    COMES(r.media, .sequence = 12);
+    CHECK(is_lost(r.media, 11, 0, 0));
+    CHECK(count_of(r.element, "overrun") == 1);
+    drop_receiver(&r);
+}
+
+/* Packets that are no media of this session. */
+static void test_others(void) {
+    receiver r = make_receiver(CAPS);
+    GstBus *bus = bus_of(r.element);
+    gst_harness_push(r.media, make_nack(1, 0));
+    SEND(&r, .sequence = 10);
+    gst_harness_push(r.media, make_nack(1, 0));
+    gst_harness_push(r.media, gst_buffer_new_memdup("noise", 5));
+    SEND(&r, .sequence = 11, .ssrc = 77);
+    SEND(&r, .sequence = 12, .ssrc = 77);
+    SEND(&r, .sequence = 11, .type = 100);
+    CHECK(!posted(bus, GST_MESSAGE_WARNING));
+    SEND(&r, .sequence = 11, .length = GOZDRIT_MAX_PAYLOAD + 1);
+    CHECK(posted(bus, GST_MESSAGE_WARNING));
+    SEND(&r, .sequence = 11, .length = GOZDRIT_MAX_PAYLOAD);
+    COMES(r.media, .sequence = 10);
+    COMES(r.media, .sequence = 11, .length = GOZDRIT_MAX_PAYLOAD);
+    CHECK(count_of(r.element, "strays") == 1 && count_of(r.element, "rtcp") == 1);
+    CHECK(count_of(r.element, "refused") == 5 && count_of(r.element, "sessions") == 1);
+    drop_bus(r.element, bus);
+    drop_receiver(&r);
+}
+
+/* A session that can't be is told. */
+static void test_refused(void) {
+    receiver r = make_receiver("application/x-rtp,clock-rate=90000,payload=97");
+    GstBus *bus = bus_of(r.element);
+    CHECK(SEND(&r, .sequence = 10, .type = 97) == GST_FLOW_ERROR);
+    CHECK(posted(bus, GST_MESSAGE_ERROR));
+    drop_bus(r.element, bus);
+    drop_receiver(&r);
+}
+
+/* The round trips decide when an answer is waited for no longer: at first 60 ms, and then 8/8 + 5 + 1 more, or 2/2 .. */
+static void test_retry(void) {
+    receiver r = make_receiver(CAPS);
+    g_object_set(r.element, "rtx-retry-timeout", -1, NULL);
+    SEND(&r, .sequence = 10);
+    SEND(&r, .sequence = 12);
+    TICKS(&r, 20);
+    set_clock_to(&r, 30); /* the answer to the ask at 20 */
+    REPAIR(&r, 50, .sequence = 11);
+    CHECK(count_of(r.element, "rtx-round-trip") == MS(10));
+    SEND(&r, .sequence = 14);
+    TICKS(&r, 50);
+    TICKS(&r, 50 + 10 + 4 * 5 + 1);
+    drop_receiver(&r);
+}
+
+void test_receive(void) {
+    test_whole_packet();
+    test_order();
+    test_repair();
+    test_loss();
+    test_loss_untold();
+    test_overrun();
+    test_others();
+    test_refused();
+    test_retry();
+}

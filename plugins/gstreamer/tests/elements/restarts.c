@@ -1,0 +1,122 @@
+/* A receiver whose far side begins anew, and what caps say of a session. */
+#include "checks.h"
+
+#define MS(n) ((n) * (GstClockTime)GST_MSECOND)
+#define FREE_CAPS "application/x-rtp,media=video,clock-rate=90000,encoding-name=X,payload=96"
+
+/* Numbers and timestamps that jump, under the same SSRC: nothing of the new stream is lost. */
+static void test_jump(void) {
+    receiver r = make_receiver(CAPS);
+    SEND(&r, .sequence = 10, .pts = MS(20));
+    SEND(&r, .sequence = 30000, .pts = MS(40), .offset = 12345678);
+    SEND(&r, .sequence = 30001, .pts = MS(60), .offset = 12345678);
+    COMES(r.media, .sequence = 10, .pts = MS(20));
+    GstBuffer *out = next_buffer(r.media);
+    CHECK(is_packet(out, (packet){.sequence = 30000, .pts = MS(40), .offset = 12345678}));
+    CHECK(out && GST_BUFFER_FLAG_IS_SET(out, GST_BUFFER_FLAG_DISCONT));
+    gst_clear_buffer(&out);
+    COMES(r.media, .sequence = 30001, .pts = MS(60), .offset = 12345678);
+    CHECK(count_of(r.element, "restarts") == 1);
+    drop_receiver(&r);
+}
+
+/* An event that waits for a packet of the stream before does not wait for one of the new stream. */
+static void test_event(void) {
+    receiver r = make_receiver(CAPS);
+    SEND(&r, .sequence = 10);
+    SEND(&r, .sequence = 12);
+    gst_harness_push_event(r.media, gst_event_new_custom(GST_EVENT_CUSTOM_DOWNSTREAM, gst_structure_new_empty("one")));
+    SEND(&r, .sequence = 30000);
+    SEND(&r, .sequence = 30001);
+    COMES(r.media, .sequence = 10);
+    COMES(r.media, .sequence = 30000);
+    COMES(r.media, .sequence = 30001);
+    GstEvent *event = next_event(r.media, GST_EVENT_CUSTOM_DOWNSTREAM);
+    CHECK(event != NULL);
+    if (event) gst_event_unref(event);
+    drop_receiver(&r);
+}
+
+/* Two packets in sequence of another SSRC take the place of a stream whose SSRC nobody named, and one does not. */
+static void test_ssrc(void) {
+    receiver r = make_receiver(FREE_CAPS);
+    SEND(&r, .sequence = 10);
+    SEND(&r, .sequence = 12);
+    SEND(&r, .sequence = 500, .ssrc = 7);
+    SEND(&r, .sequence = 502, .ssrc = 7);
+    SEND(&r, .sequence = 500, .ssrc = 8);
+    COMES(r.media, .sequence = 10);
+    CHECK(is_silent(r.media));
+    SEND(&r, .sequence = 502, .ssrc = 7, .fill = 1);
+    SEND(&r, .sequence = 503, .ssrc = 7, .fill = 2);
+    COMES(r.media, .sequence = 12);
+    COMES(r.media, .sequence = 502, .ssrc = 7, .fill = 1);
+    COMES(r.media, .sequence = 503, .ssrc = 7, .fill = 2);
+    CHECK(count_of(r.element, "sessions") == 2 && count_of(r.element, "gaps") == 1 && count_of(r.element, "media") == 4);
+    drop_receiver(&r);
+}
+
+/* The caps tell the first number: what is lost before the first packet that comes is asked for. */
+static void test_first(void) {
+    receiver r = make_receiver(CAPS ",seqnum-base=(uint)65535,rtx-ssrc=(uint)572662306,rtx-payload-type=97");
+    SEND(&r, .sequence = 1);
+    TICKS(&r, 20);
+    GstBuffer *nack = next_buffer(r.feedback);
+    CHECK(is_nack(nack, 65535, 1));
+    gst_clear_buffer(&nack);
+    REPAIR(&r, 1, .sequence = 0, .ssrc = 99); /* not the one that the caps name */
+    REPAIR(&r, 1, .sequence = 65535);
+    REPAIR(&r, 2, .sequence = 0);
+    COMES(r.media, .sequence = 65535);
+    COMES(r.media, .sequence = 0);
+    COMES(r.media, .sequence = 1);
+    CHECK(count_of(r.element, "refused") == 1);
+    drop_receiver(&r);
+}
+
+/* An attribute of SDP names both SSRCs. */
+static void test_group(void) {
+    receiver r = make_receiver(FREE_CAPS ",a-ssrc-group=(string)\"FID 286331153 572662306\"");
+    SEND(&r, .sequence = 1, .ssrc = 5);
+    SEND(&r, .sequence = 2, .ssrc = 5);
+    SEND(&r, .sequence = 3);
+    SEND(&r, .sequence = 5);
+    TICKS(&r, 20);
+    REPAIR(&r, 1, .sequence = 4, .ssrc = 99);
+    REPAIR(&r, 1, .sequence = 4);
+    COMES(r.media, .sequence = 3);
+    COMES(r.media, .sequence = 4);
+    COMES(r.media, .sequence = 5);
+    CHECK(count_of(r.element, "strays") == 2 && count_of(r.element, "refused") == 1);
+    drop_receiver(&r);
+}
+
+/* Caps with another type or SSRC begin another session; what is held goes out first, and the new caps behind it. */
+static void test_caps(void) {
+    receiver r = make_receiver(CAPS);
+    SEND(&r, .sequence = 10);
+    SEND(&r, .sequence = 12);
+    gst_harness_set_src_caps_str(r.media, "application/x-rtp,clock-rate=8000,payload=101,ssrc=(uint)9");
+    SEND(&r, .sequence = 13);
+    SEND(&r, .sequence = 90, .ssrc = 9, .type = 101);
+    COMES(r.media, .sequence = 10);
+    COMES(r.media, .sequence = 12);
+    GstBuffer *out = next_buffer(r.media);
+    CHECK(is_packet(out, (packet){.sequence = 90, .ssrc = 9, .type = 101}));
+    gst_clear_buffer(&out);
+    GstCaps *caps = gst_pad_get_current_caps(r.media->sinkpad);
+    gint rate = 0;
+    CHECK(gst_structure_get_int(gst_caps_get_structure(caps, 0), "clock-rate", &rate) && rate == 8000);
+    gst_caps_unref(caps);
+    CHECK(count_of(r.element, "strays") == 1);
+    drop_receiver(&r);
+}
+
+void test_restarts(void) {
+    test_jump();
+    test_event();
+    test_ssrc();
+    test_first();
+    test_group();
+    test_caps();
+}

@@ -1,0 +1,151 @@
+/* What a sender makes of packets and caps. */
+#include "checks.h"
+
+#include <string.h>
+
+static GstHarness *make_sender(void) {
+    GstHarness *h = gst_harness_new_with_padnames("gozdritsend", "sink", "src");
+    gst_harness_set_src_caps_str(h, CAPS);
+    return h;
+}
+
+/* A packet that has everything that one can have goes out as it came in, and with its times. */
+static void test_whole_packet(void) {
+    GstHarness *h = make_sender();
+    GstRTPBuffer rtp = GST_RTP_BUFFER_INIT;
+    static const guint8 word[4] = {1, 2, 3, 4};
+    GstBuffer *buffer = gst_rtp_buffer_new_allocate(20, 5, 2);
+    gst_rtp_buffer_map(buffer, GST_MAP_READWRITE, &rtp);
+    gst_rtp_buffer_set_payload_type(&rtp, TYPE);
+    gst_rtp_buffer_set_ssrc(&rtp, MEDIA);
+    gst_rtp_buffer_set_seq(&rtp, 65535);
+    gst_rtp_buffer_set_timestamp(&rtp, 0xfffffff0);
+    gst_rtp_buffer_set_marker(&rtp, TRUE);
+    gst_rtp_buffer_set_csrc(&rtp, 0, 7);
+    gst_rtp_buffer_set_csrc(&rtp, 1, 0xffffffff);
+    gst_rtp_buffer_add_extension_onebyte_header(&rtp, 3, word, sizeof word);
+    memset(gst_rtp_buffer_get_payload(&rtp), 0x5a, 20);
+    gst_rtp_buffer_unmap(&rtp);
+    GST_BUFFER_PTS(buffer) = 5 * GST_SECOND;
+    GST_BUFFER_DTS(buffer) = 4 * GST_SECOND;
+    GST_BUFFER_DURATION(buffer) = GST_MSECOND;
+    GST_BUFFER_FLAG_SET(buffer, GST_BUFFER_FLAG_DELTA_UNIT);
+    gst_harness_push(h, gst_buffer_ref(buffer));
+    GstBuffer *out = next_buffer(h);
+    if (CHECK(out != NULL)) {
+        gst_rtp_buffer_map(buffer, GST_MAP_READ, &rtp);
+        CHECK(gst_rtp_buffer_get_padding(&rtp) && gst_rtp_buffer_get_extension(&rtp));
+        gst_rtp_buffer_unmap(&rtp);
+        GstMapInfo map;
+        gst_buffer_map(out, &map, GST_MAP_READ);
+        CHECK(map.size == gst_buffer_get_size(buffer) && gst_buffer_memcmp(buffer, 0, map.data, map.size - 5) == 0);
+        CHECK(map.data[map.size - 1] == 5); /* the padding's other octets may be any */
+        gst_buffer_unmap(out, &map);
+        CHECK(GST_BUFFER_PTS(out) == 5 * GST_SECOND && GST_BUFFER_DTS(out) == 4 * GST_SECOND);
+        CHECK(GST_BUFFER_DURATION(out) == GST_MSECOND && GST_BUFFER_FLAG_IS_SET(out, GST_BUFFER_FLAG_DELTA_UNIT));
+        gst_buffer_unref(out);
+    }
+    gst_buffer_unref(buffer);
+    gst_harness_teardown(h);
+}
+
+/* Numbers follow one another from the first packet's on, whatever the packets behind it have. */
+static void test_numbers(void) {
+    GstHarness *h = make_sender();
+    gst_harness_push(h, make_packet((packet){.sequence = 65535}));
+    gst_harness_push(h, make_packet((packet){.sequence = 0, .fill = 1}));
+    gst_harness_push(h, make_packet((packet){.sequence = 9, .fill = 2}));
+    COMES(h, .sequence = 65535);
+    COMES(h, .sequence = 0, .fill = 1);
+    COMES(h, .sequence = 1, .fill = 2);
+    CHECK(count_of(h->element, "sent") == 3 && count_of(h->element, "octets") == 30);
+    gst_harness_teardown(h);
+}
+
+/* The payloaders give lists, which go out as lists. */
+static void test_list(void) {
+    GstHarness *h = make_sender();
+    GstBufferList *list = gst_buffer_list_new();
+    for (guint16 i = 0; i < 5; i++) gst_buffer_list_add(list, make_packet((packet){.sequence = i, .fill = (guint8)i}));
+    CHECK(gst_pad_push_list(h->srcpad, list) == GST_FLOW_OK);
+    for (guint16 i = 0; i < 5; i++) COMES(h, .sequence = i, .fill = (guint8)i);
+    CHECK(is_silent(h));
+    gst_harness_teardown(h);
+}
+
+static gboolean has(const GstStructure *s, const gchar *text) {
+    GstStructure *wanted = gst_structure_from_string(text, NULL);
+    gboolean is = gst_structure_is_subset(s, wanted);
+    gst_structure_free(wanted);
+    return is;
+}
+
+/* What the caps of a payloader become, and properties that say otherwise. */
+static void test_caps(void) {
+    GstHarness *h = gst_harness_new_with_padnames("gozdritsend", "sink", "src");
+    g_object_set(h->element, "rtx-ssrc", RTX, "rtx-payload-type", 99, NULL);
+    gst_element_set_state(h->element, GST_STATE_READY);
+    gst_harness_play(h);
+    gst_harness_set_src_caps_str(h, CAPS ",seqnum-offset=(uint)300");
+    gst_harness_push(h, make_packet((packet){.sequence = 302}));
+    COMES(h, .sequence = 300);
+    GstCaps *caps = gst_pad_get_current_caps(h->sinkpad);
+    const GstStructure *s = gst_caps_get_structure(caps, 0);
+    CHECK(has(s, "application/x-rtp,media=video,clock-rate=90000,encoding-name=X,payload=96,ssrc=(uint)286331153"));
+    CHECK(has(s, "application/x-rtp,rtcp-fb-nack=true,rtx-payload-type=99,rtx-ssrc=(uint)572662306,seqnum-base=(uint)300"));
+    gst_caps_unref(caps);
+    gst_harness_teardown(h);
+}
+
+/* Another SSRC and first number than the payloader's. */
+static void test_own_ssrc(void) {
+    GstHarness *h = gst_harness_new_with_padnames("gozdritsend", "sink", "src");
+    g_object_set(h->element, "ssrc", 5, "seqnum-offset", 7, NULL);
+    gst_harness_set_src_caps_str(h, CAPS);
+    gst_harness_push(h, make_packet((packet){.sequence = 100}));
+    COMES(h, .sequence = 7, .ssrc = 5);
+    GstCaps *caps = gst_pad_get_current_caps(h->sinkpad);
+    CHECK(has(gst_caps_get_structure(caps, 0), "application/x-rtp,ssrc=(uint)5,seqnum-base=(uint)7"));
+    gst_caps_unref(caps);
+    gst_harness_teardown(h);
+}
+
+/* A payloader that goes on with another type: so do the numbers, and the counts. */
+static void test_renegotiation(void) {
+    GstHarness *h = make_sender();
+    gst_harness_push(h, make_packet((packet){.sequence = 10}));
+    gst_harness_set_src_caps_str(h, "application/x-rtp,media=video,clock-rate=90000,encoding-name=Y,payload=100,ssrc=(uint)286331153");
+    gst_harness_push(h, make_packet((packet){.sequence = 500, .type = 100}));
+    COMES(h, .sequence = 10);
+    COMES(h, .sequence = 11, .type = 100);
+    CHECK(count_of(h->element, "sent") == 2);
+    gst_harness_teardown(h);
+}
+
+/* What can't be sent is told. */
+static void test_refused(void) {
+    GstHarness *h = make_sender();
+    GstBus *bus = bus_of(h->element);
+    CHECK(gst_harness_push(h, make_packet((packet){.length = GOZDRIT_MAX_PAYLOAD})) == GST_FLOW_OK);
+    CHECK(!posted(bus, GST_MESSAGE_ERROR | GST_MESSAGE_WARNING));
+    CHECK(gst_harness_push(h, make_packet((packet){.length = GOZDRIT_MAX_PAYLOAD + 1})) == GST_FLOW_ERROR);
+    CHECK(posted(bus, GST_MESSAGE_ERROR));
+    CHECK(gst_harness_push(h, gst_buffer_new_memdup("no packet of RTP", 16)) == GST_FLOW_OK);
+    CHECK(posted(bus, GST_MESSAGE_WARNING));
+    CHECK(gst_harness_push(h, make_packet((packet){.type = RTX_TYPE})) == GST_FLOW_ERROR);
+    CHECK(posted(bus, GST_MESSAGE_ERROR));
+    COMES(h, .length = GOZDRIT_MAX_PAYLOAD);
+    CHECK(is_silent(h));
+    drop_bus(h->element, bus);
+    gst_harness_teardown(h);
+}
+
+void test_send(void) {
+    test_whole_packet();
+    test_numbers();
+    test_list();
+    test_caps();
+    test_own_ssrc();
+    test_renegotiation();
+    test_refused();
+}

@@ -1,0 +1,149 @@
+/* The times of packets, latency, and clocks. */
+#include "checks.h"
+
+#define MS(n) ((n) * (GstClockTime)GST_MSECOND)
+
+static GstClockTime next_pts(receiver *r) {
+    GstBuffer *buffer = next_buffer(r->media);
+    GstClockTime pts = buffer ? GST_BUFFER_PTS(buffer) : GST_CLOCK_TIME_NONE;
+    gst_clear_buffer(&buffer);
+    return pts;
+}
+
+/* Sends a packet whose timestamp stands for `of`, at the time `at`. */
+static void send_at(receiver *r, guint16 sequence, GstClockTime of, GstClockTime at) {
+    GstBuffer *buffer = make_packet((packet){.sequence = sequence, .pts = of, .offset = 0xffffff00});
+    GST_BUFFER_PTS(buffer) = GST_BUFFER_DTS(buffer) = at;
+    gst_harness_push(r->media, buffer);
+}
+
+/* What the network does to arrivals is not in the times; they follow the earliest arrival. The timestamp wraps. */
+static void test_jitter(void) {
+    receiver r = make_receiver(CAPS);
+    send_at(&r, 0, 0, MS(1000));
+    send_at(&r, 1, MS(20), MS(1035));
+    send_at(&r, 2, MS(40), MS(1041));
+    send_at(&r, 3, MS(60), MS(1055)); /* 5 ms earlier than the first one */
+    send_at(&r, 4, MS(80), MS(1095));
+    CHECK(next_pts(&r) == MS(1000));
+    CHECK(next_pts(&r) == MS(1020));
+    CHECK(next_pts(&r) == MS(1040));
+    CHECK(next_pts(&r) == MS(1055));
+    CHECK(next_pts(&r) == MS(1075));
+    drop_receiver(&r);
+}
+
+/* A far clock that is slower by one in a thousand: after 30 seconds the times are late by no more than the last spans. */
+static void test_skew(void) {
+    receiver r = make_receiver(CAPS);
+    GstClockTime at = 0, pts = 0;
+    for (guint16 i = 0; i < 1500; i++) {
+        at = MS(20) * i + MS(20) * i / 1000;
+        send_at(&r, i, MS(20) * i, at);
+        pts = next_pts(&r);
+    }
+    CHECK(pts <= at && at - pts < MS(8)); /* without it, 30 ms */
+    drop_receiver(&r);
+}
+
+/* Timestamps that jump are another stream's, and begin where the packet came. */
+static void test_jump(void) {
+    receiver r = make_receiver(CAPS);
+    send_at(&r, 0, 0, MS(1000));
+    send_at(&r, 1, MS(3000), MS(1020));
+    send_at(&r, 2, MS(3020), MS(1040));
+    CHECK(next_pts(&r) == MS(1000));
+    CHECK(next_pts(&r) == MS(1020));
+    CHECK(next_pts(&r) == MS(1040));
+    drop_receiver(&r);
+}
+
+/* Without a clock rate the times are those of the arrivals; static types have one. */
+static void test_rates(void) {
+    receiver r = make_receiver("application/x-rtp");
+    send_at(&r, 0, 0, MS(1000));
+    send_at(&r, 1, MS(20), MS(1035));
+    CHECK(next_pts(&r) == MS(1000));
+    CHECK(next_pts(&r) == MS(1035));
+    drop_receiver(&r);
+    r = make_receiver("application/x-rtp,payload=26");
+    for (guint16 i = 0; i < 2; i++) {
+        GstBuffer *buffer = make_packet((packet){.sequence = i, .pts = MS(20) * i, .type = 26});
+        GST_BUFFER_PTS(buffer) = MS(35) * i;
+        gst_harness_push(r.media, buffer);
+    }
+    CHECK(next_pts(&r) == 0);
+    CHECK(next_pts(&r) == MS(20));
+    drop_receiver(&r);
+}
+
+/* A packet without a time came now, by the clock. */
+static void test_untimed(void) {
+    receiver r = make_receiver(CAPS);
+    set_clock_to(&r, 700);
+    send_at(&r, 0, 0, GST_CLOCK_TIME_NONE);
+    CHECK(next_pts(&r) == MS(700));
+    drop_receiver(&r);
+}
+
+/* The latency is added to what is upstream, and a change of it is told. */
+static void test_latency(void) {
+    receiver r = make_receiver(CAPS);
+    GstBus *bus = bus_of(r.element);
+    gst_harness_set_upstream_latency(r.media, MS(30));
+    CHECK(gst_harness_query_latency(r.media) == MS(230));
+    g_object_set(r.element, "latency", 500, NULL);
+    CHECK(gst_harness_query_latency(r.media) == MS(530));
+    CHECK(posted(bus, GST_MESSAGE_LATENCY));
+    SEND(&r, .sequence = 0);
+    SEND(&r, .sequence = 2);
+    for (guint64 at = 20; at <= 200; at += 60) TICKS(&r, at);
+    TICKS(&r, 500);
+    COMES(r.media, .sequence = 0);
+    COMES(r.media, .sequence = 2);
+    drop_bus(r.element, bus);
+    drop_receiver(&r);
+}
+
+/* A latency that becomes shorter while a packet is waited for ends the wait. */
+static void test_shorter(void) {
+    receiver r = make_receiver(CAPS);
+    SEND(&r, .sequence = 0);
+    SEND(&r, .sequence = 2);
+    COMES(r.media, .sequence = 0);
+    CHECK(is_silent(r.media));
+    g_object_set(r.element, "latency", 0, NULL);
+    COMES(r.media, .sequence = 2);
+    drop_receiver(&r);
+}
+
+/* Another clock takes the place of the one before: what is waited for is due after as long as before. */
+static void test_clock(void) {
+    receiver r = make_receiver(CAPS);
+    GstClock *clock = gst_test_clock_new_with_start_time(MS(5000));
+    SEND(&r, .sequence = 0);
+    SEND(&r, .sequence = 2);
+    CHECK(gst_harness_wait_for_clock_id_waits(r.media, 1, 2));
+    gst_element_set_clock(r.element, clock);
+    GstClockID id;
+    gst_test_clock_wait_for_next_pending_id(GST_TEST_CLOCK(clock), &id);
+    CHECK(gst_clock_id_get_time(id) == MS(5020));
+    gst_clock_id_unref(id);
+    CHECK(gst_test_clock_crank(GST_TEST_CLOCK(clock)));
+    GstBuffer *nack = next_buffer(r.feedback);
+    CHECK(is_nack(nack, 1, 0));
+    gst_clear_buffer(&nack);
+    drop_receiver(&r);
+    gst_object_unref(clock);
+}
+
+void test_times(void) {
+    test_jitter();
+    test_skew();
+    test_jump();
+    test_rates();
+    test_untimed();
+    test_latency();
+    test_shorter();
+    test_clock();
+}
