@@ -165,18 +165,24 @@ static void test_refused(void) {
     drop_receiver(&r);
 }
 
-/* The round trips decide when an answer is waited for no longer: at first 60 ms, and then 8/8 + 5 + 1 more, or 2/2 .. */
+/* The round trips decide for how long an answer is waited for: the trip, four times its spread, and a millisecond. */
 static void test_retry(void) {
     receiver r = make_receiver(CAPS);
     g_object_set(r.element, "rtx-retry-timeout", -1, NULL);
     SEND(&r, .sequence = 10);
     SEND(&r, .sequence = 12);
     TICKS(&r, 20);
+    GstBuffer *nack = next_buffer(r.feedback);
+    CHECK(is_nack(nack, 11, 0));
+    gst_clear_buffer(&nack);
     set_clock_to(&r, 30); /* the answer to the ask at 20 */
     REPAIR(&r, 50, .sequence = 11);
     CHECK(count_of(r.element, "rtx-round-trip") == MS(10));
     SEND(&r, .sequence = 14);
     TICKS(&r, 50);
+    nack = next_buffer(r.feedback);
+    CHECK(is_nack(nack, 13, 0));
+    gst_clear_buffer(&nack);
     TICKS(&r, 50 + 10 + 4 * 5 + 1);
     drop_receiver(&r);
 }

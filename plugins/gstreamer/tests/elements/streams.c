@@ -3,6 +3,15 @@
 
 #define MS(n) ((n) * (GstClockTime)GST_MSECOND)
 
+/* Moves the clock on, until a packet is asked for. */
+static gboolean asks_for(receiver *r, guint16 sequence) {
+    if (!gst_harness_wait_for_clock_id_waits(r->media, 1, 2) || !gst_harness_crank_single_clock_wait(r->media)) return FALSE;
+    GstBuffer *nack = next_buffer(r->feedback);
+    gboolean asks = is_nack(nack, sequence, 0);
+    gst_clear_buffer(&nack);
+    return asks;
+}
+
 /* An event goes out behind all packets that came before it, also where one of them is missing. */
 static void test_event_order(void) {
     receiver r = make_receiver(CAPS);
@@ -13,7 +22,7 @@ static void test_event_order(void) {
     COMES(r.media, .sequence = 0);
     CHECK(is_silent(r.media));
     guint events = gst_harness_events_received(r.media);
-    TICKS(&r, 20);
+    CHECK(asks_for(&r, 1));
     REPAIR(&r, 9, .sequence = 1);
     COMES(r.media, .sequence = 1);
     COMES(r.media, .sequence = 2);
@@ -57,15 +66,6 @@ static void test_end(void) {
     gst_object_unref(src);
     drop_receiver(&r);
     g_string_free(order, TRUE);
-}
-
-/* Moves the clock on, until a packet is asked for. */
-static gboolean asks_for(receiver *r, guint16 sequence) {
-    if (!gst_harness_wait_for_clock_id_waits(r->media, 1, 2) || !gst_harness_crank_single_clock_wait(r->media)) return FALSE;
-    GstBuffer *nack = next_buffer(r->feedback);
-    gboolean asks = is_nack(nack, sequence, 0);
-    gst_clear_buffer(&nack);
-    return asks;
 }
 
 /* A flush forgets what is held, and another stream may follow; so it is after the end. */
@@ -128,13 +128,10 @@ static void test_standstill(void) {
     CHECK(overrun > 800 && overrun < 900);
     gst_pad_remove_probe(src, probe);
     for (guint16 i = 0; i < 64; i++) COMES(r.media, .sequence = i);
-    GstBuffer *last = NULL;
-    for (GstBuffer *next = next_buffer(r.media); next; next = is_silent(r.media) ? NULL : next_buffer(r.media)) {
-        gst_clear_buffer(&last);
-        last = next;
-    }
-    CHECK(is_packet(last, (packet){.sequence = 999}));
-    gst_clear_buffer(&last);
+    gboolean last = FALSE;
+    for (GstBuffer *next = NULL; !last && (next = next_buffer(r.media)); gst_buffer_unref(next))
+        last = is_packet(next, (packet){.sequence = 999});
+    CHECK(last);
     gst_object_unref(src);
     drop_receiver(&r);
 }
