@@ -7,6 +7,7 @@ enum { FRONT = 12 + 4 * GOZDRIT_MAX_SOURCES + 4 + 4 * GOZDRIT_MAX_WORDS };
 
 static void push_ready(GstGozdritRecv *self, gpointer item) {
     gst_queue_array_push_tail(self->ready, item);
+    if (GST_IS_BUFFER(item)) self->ready_packets++;
     if (self->src_waits) g_cond_signal(&self->ready_cond);
 }
 
@@ -124,7 +125,7 @@ static void make_spare(GstGozdritRecv *self) {
 void playing_all(GstGozdritRecv *self, guint64 now) {
     gozdrit_played played;
     while (self->end.held) {
-        self->stalled = gst_queue_array_get_length(self->ready) >= self->settings.window && now != G_MAXINT64;
+        self->stalled = self->ready_packets >= self->settings.window && now != G_MAXINT64;
         if (self->stalled) return;
         make_spare(self);
         gint32 number = gozdrit_play(&self->end, now, &played, self->map.data + FRONT, GOZDRIT_MAX_PAYLOAD);
@@ -157,6 +158,7 @@ void playing_clear(GstGozdritRecv *self) {
     while (!gst_queue_array_is_empty(self->ready)) gst_mini_object_unref(gst_queue_array_pop_head(self->ready));
     if (self->spare) gst_buffer_unmap(self->spare, &self->map);
     gst_clear_buffer(&self->spare);
+    self->ready_packets = 0;
     self->stalled = FALSE;
 }
 
@@ -171,7 +173,8 @@ static gpointer next_item(GstGozdritRecv *self) {
     }
     if (!self->src_active) return NULL;
     gpointer item = gst_queue_array_pop_head(self->ready);
-    if (self->stalled && gst_queue_array_get_length(self->ready) <= self->settings.window / 2) feedback_wake(self);
+    if (GST_IS_BUFFER(item)) self->ready_packets--;
+    if (self->stalled && self->ready_packets <= self->settings.window / 2) feedback_wake(self);
     return item;
 }
 

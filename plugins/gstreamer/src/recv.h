@@ -99,6 +99,7 @@ struct _GstGozdritRecv {
     gboolean discont;
 
     GstQueueArray *ready; /* buffers and events, in the order in which they go out */
+    guint ready_packets;  /* how many of them are buffers: events have no part in the window */
     GCond ready_cond;     /* for the source pad's task */
     gboolean src_waits, src_active, stalled; /* stalled: what could be played was not, since too much is ready */
     GstFlowReturn flow;   /* how the last push went */

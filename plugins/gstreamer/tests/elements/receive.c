@@ -115,20 +115,30 @@ static void test_loss_untold(void) {
     drop_receiver(&r);
 }
 
-/* What the window has no room for is told as lost too. */
+static GstPadProbeReturn hold(GstPad *pad, GstPadProbeInfo *info, gpointer data) {
+    (void)pad, (void)info, (void)data;
+    return GST_PAD_PROBE_OK;
+}
+
+/* What the window has no room for is told as lost too. The events that begin the stream, which are still to go out here,
+ * take no room of it. */
 static void test_overrun(void) {
     receiver r = make_receiver(CAPS);
+    GstPad *src = gst_element_get_static_pad(r.element, "src");
     gst_element_set_state(r.element, GST_STATE_NULL);
     g_object_set(r.element, "max-size-packets", 2, NULL);
+    gulong probe = gst_pad_add_probe(src, GST_PAD_PROBE_TYPE_BLOCK_DOWNSTREAM, hold, NULL, NULL);
     gst_element_set_state(r.element, GST_STATE_PLAYING);
     gst_harness_set_src_caps_str(r.media, CAPS);
     SEND(&r, .sequence = 10);
     SEND(&r, .sequence = 12);
     SEND(&r, .sequence = 13, .pts = MS(40));
+    gst_pad_remove_probe(src, probe);
     COMES(r.media, .sequence = 10);
     COMES(r.media, .sequence = 12);
     CHECK(is_lost(r.media, 11, 0, 0));
     CHECK(count_of(r.element, "overrun") == 1);
+    gst_object_unref(src);
     drop_receiver(&r);
 }
 
