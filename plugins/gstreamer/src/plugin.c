@@ -12,6 +12,7 @@ static gboolean plugin_init(GstPlugin *plugin) {
 }
 
 /* GST_PLUGIN_DEFINE knows the licences of GStreamer's list alone, to which Apache-2.0 was added as "Apache 2.0"; the
- * other of the two, MIT, is on it by "MIT/X11". */
+ * other of the two, MIT, is on it by "MIT/X11". The origin, which may not be left out, is the package: there is no web
+ * address of it. */
 GST_PLUGIN_DEFINE(GST_VERSION_MAJOR, GST_VERSION_MINOR, gozdrit, "RTP repaired by NACK and retransmission", plugin_init,
-                  VERSION, "MIT/X11", PACKAGE, "https://gozdrit.example/")
+                  VERSION, "MIT/X11", PACKAGE, PACKAGE)
