@@ -56,6 +56,24 @@ static void test_ssrc(void) {
     drop_receiver(&r);
 }
 
+/* What came before a flush is no part of a stream that begins behind it. */
+static void test_flushed_ssrc(void) {
+    receiver r = make_receiver(FREE_CAPS);
+    GstSegment segment;
+    gst_segment_init(&segment, GST_FORMAT_TIME);
+    SEND(&r, .sequence = 10);
+    COMES(r.media, .sequence = 10);
+    SEND(&r, .sequence = 500, .ssrc = 7);
+    gst_harness_push_event(r.media, gst_event_new_flush_start());
+    gst_harness_push_event(r.media, gst_event_new_flush_stop(TRUE));
+    gst_harness_push_event(r.media, gst_event_new_segment(&segment));
+    SEND(&r, .sequence = 501, .ssrc = 7);
+    SEND(&r, .sequence = 11);
+    COMES(r.media, .sequence = 11);
+    CHECK(count_of(r.element, "sessions") == 1);
+    drop_receiver(&r);
+}
+
 /* The caps tell the first number: what is lost before the first packet that comes is asked for. */
 static void test_first(void) {
     receiver r = make_receiver(CAPS ",seqnum-base=(uint)65535,rtx-ssrc=(uint)572662306,rtx-payload-type=97");
@@ -116,6 +134,7 @@ void test_restarts(void) {
     test_jump();
     test_event();
     test_ssrc();
+    test_flushed_ssrc();
     test_first();
     test_group();
     test_caps();

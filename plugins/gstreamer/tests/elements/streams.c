@@ -34,17 +34,18 @@ static void test_event_order(void) {
 static GstPadProbeReturn note_order(GstPad *pad, GstPadProbeInfo *info, gpointer text) {
     (void)pad;
     if (info->type & GST_PAD_PROBE_TYPE_BUFFER) g_string_append_c(text, 'b');
-    else if (GST_EVENT_TYPE(info->data) == GST_EVENT_CUSTOM_DOWNSTREAM) g_string_append_c(text, 'c');
+    else if (gst_event_has_name(info->data, "GstRTPPacketLost")) g_string_append_c(text, 'l');
+    else if (gst_event_has_name(info->data, "one")) g_string_append_c(text, 'c');
     else if (GST_EVENT_TYPE(info->data) == GST_EVENT_EOS) g_string_append_c(text, 'e');
     return GST_PAD_PROBE_OK;
 }
 
-/* The same, and the end: in the order of the pad. What is missing is waited for until its patience is over. */
+/* The same, what is lost, and the end: in the order of the pad. What is missing is waited for until its patience is over. */
 static void test_end(void) {
     receiver r = make_receiver(CAPS);
     GString *order = g_string_new(NULL);
     GstPad *src = gst_element_get_static_pad(r.element, "src");
-    g_object_set(r.element, "do-lost", FALSE, "rtx-max-retries", 1, NULL);
+    g_object_set(r.element, "rtx-max-retries", 1, NULL);
     gst_pad_add_probe(src, GST_PAD_PROBE_TYPE_BUFFER | GST_PAD_PROBE_TYPE_EVENT_DOWNSTREAM, note_order, order, NULL);
     SEND(&r, .sequence = 0);
     SEND(&r, .sequence = 2);
@@ -62,7 +63,7 @@ static void test_end(void) {
     CHECK(ended && feedback_ended);
     if (ended) gst_event_unref(ended);
     if (feedback_ended) gst_event_unref(feedback_ended);
-    CHECK(g_str_equal(order->str, "bbcbe"));
+    CHECK(g_str_equal(order->str, "blbclbe"));
     gst_object_unref(src);
     drop_receiver(&r);
     g_string_free(order, TRUE);
@@ -153,6 +154,7 @@ static void test_error(void) {
         g_usleep(1000);
     }
     CHECK(flow == GST_FLOW_NOT_NEGOTIATED && !posted(bus, GST_MESSAGE_ERROR));
+    CHECK(!gst_harness_push_event(r.media, gst_event_new_custom(GST_EVENT_CUSTOM_DOWNSTREAM, gst_structure_new_empty("one"))));
     drop_bus(r.element, bus);
     drop_receiver(&r);
     r = make_receiver(CAPS);

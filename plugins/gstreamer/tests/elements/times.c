@@ -105,6 +105,32 @@ static void test_latency(void) {
     drop_receiver(&r);
 }
 
+/* A source that is not live, and that keeps no more than 50 ms. */
+static gboolean answer_query(GstPad *pad, GstObject *parent, GstQuery *query) {
+    if (GST_QUERY_TYPE(query) != GST_QUERY_LATENCY) return gst_pad_query_default(pad, parent, query);
+    gst_query_set_latency(query, FALSE, 0, MS(50));
+    return TRUE;
+}
+
+/* Whether what is upstream of a pad tells this latency, without a longest one. */
+static gboolean is_latency(GstPad *pad, gboolean wanted_live, GstClockTime wanted) {
+    GstQuery *query = gst_query_new_latency();
+    GstClockTime least = 0, most = 0;
+    gboolean live = FALSE, answered = gst_pad_peer_query(pad, query);
+    gst_query_parse_latency(query, &live, &least, &most);
+    gst_query_unref(query);
+    return answered && live == wanted_live && least == wanted && most == GST_CLOCK_TIME_NONE;
+}
+
+/* What waits for packets is live, and keeps as much as comes, whatever is upstream; feedback waits for nothing. */
+static void test_live(void) {
+    receiver r = make_receiver(CAPS);
+    gst_pad_set_query_function(r.media->srcpad, answer_query);
+    CHECK(is_latency(r.media->sinkpad, TRUE, MS(200)));
+    CHECK(is_latency(r.feedback->sinkpad, FALSE, 0));
+    drop_receiver(&r);
+}
+
 /* A latency that becomes shorter while a packet is waited for ends the wait. */
 static void test_shorter(void) {
     receiver r = make_receiver(CAPS);
@@ -144,6 +170,7 @@ void test_times(void) {
     test_rates();
     test_untimed();
     test_latency();
+    test_live();
     test_shorter();
     test_clock();
 }
