@@ -81,6 +81,7 @@ void test_tail(void);
 void test_receive(void);
 void test_times(void);
 void test_streams(void);
+void test_flushes(void);
 void test_restarts(void);
 void test_states(void);
 

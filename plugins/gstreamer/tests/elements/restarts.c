@@ -53,24 +53,7 @@ static void test_ssrc(void) {
     COMES(r.media, .sequence = 502, .ssrc = 7, .fill = 1);
     COMES(r.media, .sequence = 503, .ssrc = 7, .fill = 2);
     CHECK(count_of(r.element, "sessions") == 2 && count_of(r.element, "gaps") == 1 && count_of(r.element, "media") == 4);
-    drop_receiver(&r);
-}
-
-/* What came before a flush is no part of a stream that begins behind it. */
-static void test_flushed_ssrc(void) {
-    receiver r = make_receiver(FREE_CAPS);
-    GstSegment segment;
-    gst_segment_init(&segment, GST_FORMAT_TIME);
-    SEND(&r, .sequence = 10);
-    COMES(r.media, .sequence = 10);
-    SEND(&r, .sequence = 500, .ssrc = 7);
-    gst_harness_push_event(r.media, gst_event_new_flush_start());
-    gst_harness_push_event(r.media, gst_event_new_flush_stop(TRUE));
-    gst_harness_push_event(r.media, gst_event_new_segment(&segment));
-    SEND(&r, .sequence = 501, .ssrc = 7);
-    SEND(&r, .sequence = 11);
-    COMES(r.media, .sequence = 11);
-    CHECK(count_of(r.element, "sessions") == 1);
+    SEND(&r, .sequence = 1, .ssrc = 9); /* the end finds it waiting for its next one */
     drop_receiver(&r);
 }
 
@@ -134,7 +117,6 @@ void test_restarts(void) {
     test_jump();
     test_event();
     test_ssrc();
-    test_flushed_ssrc();
     test_first();
     test_group();
     test_caps();
