@@ -3,8 +3,8 @@
 #include <gst/rtp/rtp.h>
 #include <stdio.h>
 
-/* How long an answer is waited for until a round trip is known, in milliseconds. */
-enum { USUAL_TRIP = 60 };
+/* How long an answer is waited for until a round trip is known, and the least of its spread, in milliseconds. */
+enum { USUAL_TRIP = 60, SPREAD = 5 };
 
 guint64 receiving_now(GstGozdritRecv *self) { return element_time_now(&self->time) / MILLISECOND; }
 
@@ -241,12 +241,16 @@ void receiving_asked(GstGozdritRecv *self, guint16 number, guint64 now) {
     }
 }
 
-/* What is waited for an answer: the property, or the round trip with its spread, and what is usual until one is known. */
+/* What is waited for an answer: the property, or the round trip with its spread, and what is usual until one is known. Where all
+ * NACKs for a packet would not fit the latency, less of the spread is waited for. */
 static guint64 retry_of(const GstGozdritRecv *self) {
+    const recv_settings *settings = &self->settings;
     const round_trip *trip = &self->trip;
-    if (self->settings.retry >= 0) return (guint64)MAX(self->settings.retry, 1);
+    if (settings->retry >= 0) return (guint64)MAX(settings->retry, 1);
     if (trip->smooth < 0) return USUAL_TRIP;
-    return (guint64)(trip->smooth / 8 + MAX(trip->apart, 5) + 1);
+    guint64 answer = (guint64)trip->smooth / 8 + 1, spread = (guint64)MAX(trip->apart, SPREAD);
+    guint64 share = (settings->latency - MIN(settings->delay, settings->latency)) / MAX(settings->nacks, 1);
+    return MAX(answer + SPREAD, MIN(answer + spread, share));
 }
 
 void receiving_set_times(GstGozdritRecv *self) {

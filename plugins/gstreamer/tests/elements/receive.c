@@ -175,10 +175,10 @@ static void test_refused(void) {
     drop_receiver(&r);
 }
 
-/* The round trips decide for how long an answer is waited for: the trip, four times its spread, and a millisecond. */
-static void test_retry(void) {
+/* The round trips decide for how long an answer is waited for. */
+static void test_retry(guint latency, guint64 wait) {
     receiver r = make_receiver(CAPS);
-    g_object_set(r.element, "rtx-retry-timeout", -1, NULL);
+    g_object_set(r.element, "rtx-retry-timeout", -1, "latency", latency, NULL);
     SEND(&r, .sequence = 10);
     SEND(&r, .sequence = 12);
     TICKS(&r, 20);
@@ -193,7 +193,7 @@ static void test_retry(void) {
     nack = next_buffer(r.feedback);
     CHECK(is_nack(nack, 13, 0));
     gst_clear_buffer(&nack);
-    TICKS(&r, 50 + 10 + 4 * 5 + 1);
+    TICKS(&r, 50 + wait);
     drop_receiver(&r);
 }
 
@@ -206,5 +206,6 @@ void test_receive(void) {
     test_overrun();
     test_others();
     test_refused();
-    test_retry();
+    test_retry(1000, 10 + 4 * 5 + 1); /* the trip, four times its spread, and a millisecond */
+    test_retry(100, (100 - 20) / 4);  /* what lets four NACKs fit */
 }
