@@ -80,13 +80,13 @@ abbrev pub Hears : SendSide → Side → (from : SocketAddr) → (octets : List 
 Hears old Near from octets now turn out new = Forwards old octets now turn.note turn.leaves out new
 Hears old Far from octets now turn out new = HearsFar old from octets turn.note turn.leaves new
 
--- the stream is silent for a tenth of a second
-abbrev pub is_silent : (last : Option ℕ) → (now : ℕ) → Bool
-is_silent None now = false
-is_silent (Some last) now = nat_le 100 (now - last)
+-- the stream, of which something came, is silent for a tenth of a second
+abbrev pub fell_silent : (last : Option ℕ) → (now : ℕ) → Bool
+fell_silent None now = false
+fell_silent (Some last) now = nat_le 100 (now - last)
 
 abbrev pub is_tail_at : SendSide → (now : ℕ) → Bool
-is_tail_at old now = old.tail && is_silent old.stream.last now
+is_tail_at old now = old.tail && fell_silent old.stream.last now
 
 -- A packet that is marked is retransmitted to the far side, as the pace lets it.
 pub record Retransmits (old : SendSide) (now place : ℕ) (d : Departure) (out : List ℕ) (new : SendSide) : Type 0 where

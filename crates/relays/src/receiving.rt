@@ -4,7 +4,7 @@ ghost use Rattle.receiver.specs.declared.answer.Played.TheVariants.{Wait};
 ghost use Rattle.rtpwire.specs.declared.limits.TheConstants.{MAX_DATAGRAM};
 ghost use Rattle.rtpwire.specs.Rtp.{RtpSpells};
 ghost use Rattle.rtpwire.specs.Content.{packet_of};
-ghost use Rattle.endpoint.specs.Receiving.{fresh};
+ghost use Rattle.endpoint.specs.Receiving.{fresh, no_run};
 ghost use Rattle.relays.specs.Passing.{IsWithin};
 ghost use Rattle.relays.specs.ReceiveRelay.{Asks, HearsFar, next_play, NothingDue, numbering_after, PlaysOut, receive_side, SpeaksAs};
 
@@ -58,6 +58,9 @@ impl<W: Window> ReceiveRelay<W> {
         requires nonzero { 0 < capacity }
         requires limit { capacity ≤ 8192 }
         ensures core { IfOk result (λ made. made.endpoint.core ≡ fresh config capacity) }
+        ensures spare { IfOk result (λ made. made.endpoint.spare ≡ fresh config capacity) }
+        ensures run { IfOk result (λ made. made.endpoint.run ≡ no_run) }
+        ensures probation { IfOk result (λ made. made.endpoint.probation ≡ record { dropout = 3000; misorder = 100; ahead = 2; behind = 256 }) }
         ensures far { IfOk result (λ made. made.far ≡ far) }
         ensures player { IfOk result (λ made. made.player ≡ player) }
         ensures numbering { IfOk result (λ made. made.numbering ≡ numbering) }
@@ -191,7 +194,7 @@ impl<W: Window> ReceiveRelay<W> {
         }
     }
 
-    /// Has the round-trip time measured by the first place of a NACK, if it was asked for once.
+    /// Has the round-trip time measured by the first place of a NACK, if that asks for it for the first time.
     fn probe(&mut self, nack: &[u8], now: u64)
         ensures rest { self.new ≡ record self.old { trip = self.new.trip } }
         ensures smoothed { self.new.trip.smoothed ≡ self.old.trip.smoothed }

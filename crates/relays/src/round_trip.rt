@@ -16,8 +16,9 @@ pub struct Smoothed {
     pub variation: u64,
 }
 
-/// How a round-trip time is measured: from an ask to the retransmission that answers it, of one place at a time, which was asked
-/// for once (Karn's rule); and smoothed as RFC 6298, section 2, has it. Times are in milliseconds.
+/// How a round-trip time is measured: from the first ask for a place to its retransmission, one place at a time; and smoothed as
+/// RFC 6298, section 2, has it. Where the place was asked for again meanwhile the time may be too long, and is never too short: so it
+/// is also found where places were asked for again too soon. Times are in milliseconds.
 #[derive(Clone, Copy, Debug, PartialEq, Eq)]
 pub struct RoundTrip {
     /// The place that is measured, and the moment at which it was asked for.

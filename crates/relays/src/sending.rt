@@ -1,6 +1,7 @@
 //! The relay before a network that loses.
-ghost use Rattle.std.specs.Prelude.{◌≡◌, ◌≤◌, ℕ, [], length, None, IfSome};
+ghost use Rattle.std.specs.Prelude.{◌≡◌, ◌≤◌, ℕ, [], length, None, IfSome, false};
 ghost use Rattle.rtpwire.specs.declared.limits.TheConstants.{MAX_DATAGRAM};
+ghost use Rattle.sender.specs.Sender.{new_sending};
 ghost use Rattle.relays.specs.Passing.{IsWithin};
 ghost use Rattle.relays.specs.SendRelay.{CarriesNothing, Forwards, HearsFar, IsCarried, is_tail_at, NothingOpen, send_side, SpeaksAs};
 
@@ -47,10 +48,11 @@ impl<H: History> SendRelay<H> {
         bounds: Bounds,
     ) -> SendRelay<H>
         requires { (H.meaning history).entries ≡ [] }
-        ensures config { result.endpoint.core.config ≡ config }
+        ensures core { result.endpoint.core ≡ new_sending config (H.meaning history) }
         ensures far { result.far ≡ far }
         ensures stream { result.stream ≡ stream }
         ensures pace { result.pace ≡ pace }
+        ensures tail { result.tail ≡ false }
     {
         SendRelay {
             endpoint: SendingEndpoint::new(config, history),
