@@ -1,6 +1,6 @@
 -- The relay behind a network that loses: what it does with what comes, and what it does of its own. Each case of what it notes has
 -- its equation, and what stands nowhere is never done.
-use Rattle.std.specs.Prelude.{◌≡◌, ℕ, Bool, true, false, List, Option, Some, None, Result, Ok}
+use Rattle.std.specs.Prelude.{◌≡◌, ℕ, ◌||◌, Bool, true, false, List, Option, Some, None, Result, Ok}
 use Rattle.std.specs.declared.net.socket_addr.SocketAddr.{SocketAddr}
 use Rattle.rtpwire.specs.Rtp.{RtpSpells}
 use Rattle.rtpwire.specs.Content.{packet_of}
@@ -18,13 +18,13 @@ use Rattle.endpoint.specs.Receiving.{ends_of, HearsDatagram}
 use Rattle.relays.specs.declared.outside.Side.{Side}
 use Rattle.relays.specs.declared.outside.Side.TheVariants.{Near, Far}
 use Rattle.relays.specs.declared.numbering.Numbering.{Numbering}
-use Rattle.relays.specs.declared.round_trip.Smoothed.{Smoothed}
+use Rattle.relays.specs.declared.round_trip.RoundTrip.{RoundTrip}
 use Rattle.relays.specs.declared.relay.Note.{Note}
 use Rattle.relays.specs.declared.relay.Note.TheVariants as note
 use Rattle.relays.specs.declared.relay.Departure.{Departure}
 use Rattle.relays.specs.declared.relay.Turn.{Turn}
 use Rattle.relays.specs.Numbering.{numbered, numbered_after, anew}
-use Rattle.relays.specs.RoundTrip.{retry_of, delay_of}
+use Rattle.relays.specs.RoundTrip.{retry_of, delay_of, measured_by, passed_at}
 use Rattle.relays.specs.Leaving.{GoesTo, octets_of}
 
 -- what a relay is between two calls
@@ -36,25 +36,25 @@ pub record ReceiveSide : Type 0 where
   pub far : SocketAddr
   pub player : SocketAddr
   pub numbering : Numbering  -- the sequence numbers that the player sees
-  pub smoothed : Option Smoothed  -- the round-trip time, once it was measured
+  pub trip : RoundTrip  -- the round-trip time, and what it is measured by
   pub is_new : Bool  -- it was measured since the times were set
 
-abbrev pub receive_side : Receiving → Receiving → Run → Probation → SocketAddr → SocketAddr → Numbering → Option Smoothed → Bool → ReceiveSide
-receive_side core spare run probation far player numbering smoothed is_new =
-    record { core = core; spare = spare; run = run; probation = probation; far = far; player = player; numbering = numbering; smoothed = smoothed; is_new = is_new }
+abbrev pub receive_side : Receiving → Receiving → Run → Probation → SocketAddr → SocketAddr → Numbering → RoundTrip → Bool → ReceiveSide
+receive_side core spare run probation far player numbering trip is_new =
+    record { core = core; spare = spare; run = run; probation = probation; far = far; player = player; numbering = numbering; trip = trip; is_new = is_new }
 
 -- where a stream restarts, the numbers of what is played go on
 abbrev pub numbering_after : Result Heard ReceiveFault → Numbering → Numbering
 numbering_after (Ok (heard.Restarted r)) n = anew n
 numbering_after answer n = n
 
--- What is done with a datagram at the far side's socket: the endpoint hears what the far side sent, and nobody else's. (What is
--- measured by it decides nothing but the times.)
+-- What is done with a datagram at the far side's socket: the endpoint hears what the far side sent, and nobody else's. A
+-- retransmission that is waited for measures the round-trip time.
 abbrev pub HearsFar : ReceiveSide → (from : SocketAddr) → (octets : List ℕ) → (now : ℕ) → Note → Option Departure → ReceiveSide → Type 0
 HearsFar old from octets now (note.Heard answer) None new =
     (from ≡ old.far)
     × HearsDatagram old.probation (ends_of old.core old.spare old.run) octets now answer (ends_of new.core new.spare new.run)
-    × (new ≡ record old { core = new.core; spare = new.spare; run = new.run; numbering = numbering_after answer old.numbering; smoothed = new.smoothed; is_new = new.is_new })
+    × (new ≡ record old { core = new.core; spare = new.spare; run = new.run; numbering = numbering_after answer old.numbering; trip = (measured_by answer old.trip now).1; is_new = old.is_new || (measured_by answer old.trip now).0 })
 HearsFar old from octets now note.Stray None new = (from ≡ old.far → ⊥) × (new ≡ old)
 HearsFar old from octets now n leaves new = ⊥
 
@@ -69,8 +69,8 @@ abbrev pub PlaysOut : Played → ReceiveSide → Note → Option Departure → (
 PlaysOut (Packet place content) old (note.Played p) (Some d) out new =
     (p ≡ place) × GoesTo d Near old.player
     × RtpSpells (packet_of content 0 (numbered old.numbering place) old.core.config.session.media_type old.core.config.session.media_ssrc) (octets_of d out)
-    × (new ≡ record old { core = receiver_passed (Packet place content) old.core; numbering = numbered_after old.numbering place })
-PlaysOut (Gap place) old (note.Gap p) None out new = (p ≡ place) × (new ≡ record old { core = receiver_passed (Gap place) old.core })
+    × (new ≡ record old { core = receiver_passed (Packet place content) old.core; numbering = numbered_after old.numbering place; trip = passed_at old.trip place })
+PlaysOut (Gap place) old (note.Gap p) None out new = (p ≡ place) × (new ≡ record old { core = receiver_passed (Gap place) old.core; trip = passed_at old.trip place })
 PlaysOut played old n leaves out new = ⊥
 
 -- what a play would give at this moment
@@ -81,7 +81,8 @@ next_play old now = play_of old.core.config.patience now old.core.span
 pub record AsksFar (old : ReceiveSide) (now : ℕ) (d : Departure) (out : List ℕ) (new : ReceiveSide) : Type 0 where
   pub asks : AsksMost old.core.config (state_of old.core) now 256 (Some (record { items = octets_of d out })) (state_of new.core)
   pub goes : GoesTo d Far old.far
-  pub rest : new ≡ record old { core = new.core }
+  pub rest : new ≡ record old { core = new.core; trip = new.trip }
+  pub smoothed : new.trip.smoothed ≡ old.trip.smoothed  -- which place is measured next is left open
 
 abbrev pub Asks : ReceiveSide → (now : ℕ) → Note → Option Departure → (out : List ℕ) → ReceiveSide → Type 0
 Asks old now note.Asked (Some d) out new = AsksFar old now d out new
@@ -96,7 +97,7 @@ TimedBy old delay retry new = new ≡ record old { is_new = false }
 -- what is done of its own: the times are set if something was measured, or else what is to be played is, or else what is due is
 -- asked for, or else nothing is to be done
 abbrev pub SpeaksAs : ReceiveSide → (now : ℕ) → Note → Option Departure → (out : List ℕ) → ReceiveSide → Type 0
-SpeaksAs old now note.Timed None out new = (old.is_new ≡ true) × TimedBy old (delay_of old.smoothed) (retry_of old.smoothed) new
+SpeaksAs old now note.Timed None out new = (old.is_new ≡ true) × TimedBy old (delay_of old.trip.smoothed) (retry_of old.trip.smoothed) new
 SpeaksAs old now (note.Played place) leaves out new = (old.is_new ≡ false) × PlaysOut (next_play old now) old (note.Played place) leaves out new
 SpeaksAs old now (note.Gap place) leaves out new = (old.is_new ≡ false) × PlaysOut (next_play old now) old (note.Gap place) leaves out new
 SpeaksAs old now note.Asked leaves out new = (old.is_new ≡ false) × (next_play old now ≡ Wait) × Asks old now note.Asked leaves out new

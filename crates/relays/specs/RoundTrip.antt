@@ -1,6 +1,9 @@
 -- A round-trip time, from an ask to the retransmission that answers it, smoothed as RFC 6298, section 2, has it. All times are in
 -- milliseconds.
-use Rattle.std.specs.Prelude.{ℕ, Bool, true, false, ◌+◌, ◌-◌, ◌*◌, ◌/◌, ◌==◌, min, Option, Some, None, if◌then◌else◌}
+use Rattle.std.specs.Prelude.{ℕ, Bool, true, false, ◌+◌, ◌-◌, ◌*◌, ◌/◌, ◌==◌, min, Option, Some, None, Result, Ok, if◌then◌else◌}
+use Rattle.receiver.specs.declared.fault.ReceiveFault.{ReceiveFault}
+use Rattle.endpoint.specs.declared.heard.Heard.{Heard}
+use Rattle.endpoint.specs.declared.heard.Heard.TheVariants as heard
 use Rattle.relays.specs.Pacing.{capped}
 use Rattle.relays.specs.declared.round_trip.RoundTrip.{RoundTrip}
 use Rattle.relays.specs.declared.round_trip.Smoothed.{Smoothed}
@@ -35,6 +38,11 @@ heard_with (Some p) t place now =
 
 abbrev pub heard_at : RoundTrip → (place now : ℕ) → Bool × RoundTrip
 heard_at t place now = heard_with t.probe t place now
+
+-- a retransmission that was taken may be a measurement, and no other answer is
+abbrev pub measured_by : Result Heard ReceiveFault → RoundTrip → (now : ℕ) → Bool × RoundTrip
+measured_by (Ok (heard.Repair taken)) t now = heard_at t taken.place now
+measured_by answer t now = (false, t)
 
 -- a place that is played or given up is measured no longer
 abbrev pub probe_without : (probe : Option (ℕ × ℕ)) → (place : ℕ) → Option (ℕ × ℕ)

@@ -6,6 +6,7 @@ ghost use Rattle.rtpwire.specs.Rtp.{RtpSpells};
 ghost use Rattle.rtpwire.specs.Content.{packet_of};
 ghost use Rattle.endpoint.specs.Receiving.{fresh, no_run};
 ghost use Rattle.relays.specs.Passing.{IsWithin};
+ghost use Rattle.relays.specs.RoundTrip.{measured_by};
 ghost use Rattle.relays.specs.ReceiveRelay.{Asks, HearsFar, next_play, NothingDue, numbering_after, PlaysOut, receive_side, SpeaksAs};
 
 use crate::bounds::Bounds;
@@ -100,8 +101,8 @@ impl<W: Window> ReceiveRelay<W> {
 
     /// Hears a datagram at the far side's socket.
     fn hear_far(&mut self, from: SocketAddr, octets: &[u8], now: u64) -> Turn
-        ensures hears { HearsFar (receive_side self.old.endpoint.core self.old.endpoint.spare self.old.endpoint.run self.old.endpoint.probation self.old.far self.old.player self.old.numbering self.old.trip.smoothed self.old.is_new) from octets.now now result.note result.leaves
-            (receive_side self.new.endpoint.core self.new.endpoint.spare self.new.endpoint.run self.new.endpoint.probation self.new.far self.new.player self.new.numbering self.new.trip.smoothed self.new.is_new) }
+        ensures hears { HearsFar (receive_side self.old.endpoint.core self.old.endpoint.spare self.old.endpoint.run self.old.endpoint.probation self.old.far self.old.player self.old.numbering self.old.trip self.old.is_new) from octets.now now result.note result.leaves
+            (receive_side self.new.endpoint.core self.new.endpoint.spare self.new.endpoint.run self.new.endpoint.probation self.new.far self.new.player self.new.numbering self.new.trip self.new.is_new) }
         ensures within { IsWithin result }
     {
         if from != self.far {
@@ -118,8 +119,8 @@ impl<W: Window> ReceiveRelay<W> {
     /// Has the times follow what was measured.
     fn set_times(&mut self) -> Turn
         requires { self.old.is_new ≡ true }
-        ensures sets { (now : ℕ) (out : List ℕ) → SpeaksAs (receive_side self.old.endpoint.core self.old.endpoint.spare self.old.endpoint.run self.old.endpoint.probation self.old.far self.old.player self.old.numbering self.old.trip.smoothed self.old.is_new) now result.note result.leaves out
-            (receive_side self.new.endpoint.core self.new.endpoint.spare self.new.endpoint.run self.new.endpoint.probation self.new.far self.new.player self.new.numbering self.new.trip.smoothed self.new.is_new) }
+        ensures sets { (now : ℕ) (out : List ℕ) → SpeaksAs (receive_side self.old.endpoint.core self.old.endpoint.spare self.old.endpoint.run self.old.endpoint.probation self.old.far self.old.player self.old.numbering self.old.trip self.old.is_new) now result.note result.leaves out
+            (receive_side self.new.endpoint.core self.new.endpoint.spare self.new.endpoint.run self.new.endpoint.probation self.new.far self.new.player self.new.numbering self.new.trip self.new.is_new) }
         ensures within { IsWithin result }
     {
         self.is_new = false;
@@ -133,10 +134,10 @@ impl<W: Window> ReceiveRelay<W> {
     /// Plays, and writes what goes to the player.
     fn play(&mut self, now: u64, out: &mut [u8]) -> Option<Turn>
         requires { length out.old ≡ MAX_DATAGRAM }
-        ensures some { IfSome result (λ turn. PlaysOut (next_play (receive_side self.old.endpoint.core self.old.endpoint.spare self.old.endpoint.run self.old.endpoint.probation self.old.far self.old.player self.old.numbering self.old.trip.smoothed self.old.is_new) now) (receive_side self.old.endpoint.core self.old.endpoint.spare self.old.endpoint.run self.old.endpoint.probation self.old.far self.old.player self.old.numbering self.old.trip.smoothed self.old.is_new) turn.note turn.leaves out.new
-            (receive_side self.new.endpoint.core self.new.endpoint.spare self.new.endpoint.run self.new.endpoint.probation self.new.far self.new.player self.new.numbering self.new.trip.smoothed self.new.is_new)) }
-        ensures none { result ≡ None → next_play (receive_side self.old.endpoint.core self.old.endpoint.spare self.old.endpoint.run self.old.endpoint.probation self.old.far self.old.player self.old.numbering self.old.trip.smoothed self.old.is_new) now ≡ Wait }
-        ensures same { result ≡ None → (receive_side self.new.endpoint.core self.new.endpoint.spare self.new.endpoint.run self.new.endpoint.probation self.new.far self.new.player self.new.numbering self.new.trip.smoothed self.new.is_new) ≡ (receive_side self.old.endpoint.core self.old.endpoint.spare self.old.endpoint.run self.old.endpoint.probation self.old.far self.old.player self.old.numbering self.old.trip.smoothed self.old.is_new) }
+        ensures some { IfSome result (λ turn. PlaysOut (next_play (receive_side self.old.endpoint.core self.old.endpoint.spare self.old.endpoint.run self.old.endpoint.probation self.old.far self.old.player self.old.numbering self.old.trip self.old.is_new) now) (receive_side self.old.endpoint.core self.old.endpoint.spare self.old.endpoint.run self.old.endpoint.probation self.old.far self.old.player self.old.numbering self.old.trip self.old.is_new) turn.note turn.leaves out.new
+            (receive_side self.new.endpoint.core self.new.endpoint.spare self.new.endpoint.run self.new.endpoint.probation self.new.far self.new.player self.new.numbering self.new.trip self.new.is_new)) }
+        ensures none { result ≡ None → next_play (receive_side self.old.endpoint.core self.old.endpoint.spare self.old.endpoint.run self.old.endpoint.probation self.old.far self.old.player self.old.numbering self.old.trip self.old.is_new) now ≡ Wait }
+        ensures same { result ≡ None → (receive_side self.new.endpoint.core self.new.endpoint.spare self.new.endpoint.run self.new.endpoint.probation self.new.far self.new.player self.new.numbering self.new.trip self.new.is_new) ≡ (receive_side self.old.endpoint.core self.old.endpoint.spare self.old.endpoint.run self.old.endpoint.probation self.old.far self.old.player self.old.numbering self.old.trip self.old.is_new) }
         ensures within { IfSome result IsWithin }
         ensures room { length out.new ≡ MAX_DATAGRAM }
     {
@@ -170,10 +171,10 @@ impl<W: Window> ReceiveRelay<W> {
     /// Asks the far side for what is due.
     fn ask(&mut self, now: u64, out: &mut [u8]) -> Option<Turn>
         requires { length out.old ≡ MAX_DATAGRAM }
-        ensures some { IfSome result (λ turn. Asks (receive_side self.old.endpoint.core self.old.endpoint.spare self.old.endpoint.run self.old.endpoint.probation self.old.far self.old.player self.old.numbering self.old.trip.smoothed self.old.is_new) now turn.note turn.leaves out.new
-            (receive_side self.new.endpoint.core self.new.endpoint.spare self.new.endpoint.run self.new.endpoint.probation self.new.far self.new.player self.new.numbering self.new.trip.smoothed self.new.is_new)) }
-        ensures none { result ≡ None → NothingDue (receive_side self.old.endpoint.core self.old.endpoint.spare self.old.endpoint.run self.old.endpoint.probation self.old.far self.old.player self.old.numbering self.old.trip.smoothed self.old.is_new) now }
-        ensures same { result ≡ None → (receive_side self.new.endpoint.core self.new.endpoint.spare self.new.endpoint.run self.new.endpoint.probation self.new.far self.new.player self.new.numbering self.new.trip.smoothed self.new.is_new) ≡ (receive_side self.old.endpoint.core self.old.endpoint.spare self.old.endpoint.run self.old.endpoint.probation self.old.far self.old.player self.old.numbering self.old.trip.smoothed self.old.is_new) }
+        ensures some { IfSome result (λ turn. Asks (receive_side self.old.endpoint.core self.old.endpoint.spare self.old.endpoint.run self.old.endpoint.probation self.old.far self.old.player self.old.numbering self.old.trip self.old.is_new) now turn.note turn.leaves out.new
+            (receive_side self.new.endpoint.core self.new.endpoint.spare self.new.endpoint.run self.new.endpoint.probation self.new.far self.new.player self.new.numbering self.new.trip self.new.is_new)) }
+        ensures none { result ≡ None → NothingDue (receive_side self.old.endpoint.core self.old.endpoint.spare self.old.endpoint.run self.old.endpoint.probation self.old.far self.old.player self.old.numbering self.old.trip self.old.is_new) now }
+        ensures same { result ≡ None → (receive_side self.new.endpoint.core self.new.endpoint.spare self.new.endpoint.run self.new.endpoint.probation self.new.far self.new.player self.new.numbering self.new.trip self.new.is_new) ≡ (receive_side self.old.endpoint.core self.old.endpoint.spare self.old.endpoint.run self.old.endpoint.probation self.old.far self.old.player self.old.numbering self.old.trip self.old.is_new) }
         ensures within { IfSome result IsWithin }
         ensures room { length out.new ≡ MAX_DATAGRAM }
     {
@@ -225,7 +226,9 @@ fn renumber(numbering: &mut Numbering, answer: &Result<Heard, ReceiveFault>)
 }
 
 /// Measures by a retransmission that was taken, and answers whether it did.
-fn measure(trip: &mut RoundTrip, answer: &Result<Heard, ReceiveFault>, now: u64) -> bool {
+fn measure(trip: &mut RoundTrip, answer: &Result<Heard, ReceiveFault>, now: u64) -> bool
+    ensures { (result, trip.new) ≡ measured_by answer.now trip.old now }
+{
     match answer {
         Ok(Heard::Repair(taken)) => trip.hear(taken.place, now),
         _ => false,
@@ -255,9 +258,9 @@ fn write(content: &Content, number: u16, session: &Session, out: &mut [u8]) -> u
 impl<W: Window> Relay for ReceiveRelay<W> {
     ghost use Rattle.relays.specs.ReceiveRelay.{Hears, Speaks, receive_side};
 
-    ghost hears = { λ old side from octets now turn out new. Hears (receive_side old.endpoint.core old.endpoint.spare old.endpoint.run old.endpoint.probation old.far old.player old.numbering old.trip.smoothed old.is_new) side from octets now turn out (receive_side new.endpoint.core new.endpoint.spare new.endpoint.run new.endpoint.probation new.far new.player new.numbering new.trip.smoothed new.is_new) };
+    ghost hears = { λ old side from octets now turn out new. Hears (receive_side old.endpoint.core old.endpoint.spare old.endpoint.run old.endpoint.probation old.far old.player old.numbering old.trip old.is_new) side from octets now turn out (receive_side new.endpoint.core new.endpoint.spare new.endpoint.run new.endpoint.probation new.far new.player new.numbering new.trip new.is_new) };
 
-    ghost speaks = { λ old now turn out new. Speaks (receive_side old.endpoint.core old.endpoint.spare old.endpoint.run old.endpoint.probation old.far old.player old.numbering old.trip.smoothed old.is_new) now turn out (receive_side new.endpoint.core new.endpoint.spare new.endpoint.run new.endpoint.probation new.far new.player new.numbering new.trip.smoothed new.is_new) };
+    ghost speaks = { λ old now turn out new. Speaks (receive_side old.endpoint.core old.endpoint.spare old.endpoint.run old.endpoint.probation old.far old.player old.numbering old.trip old.is_new) now turn out (receive_side new.endpoint.core new.endpoint.spare new.endpoint.run new.endpoint.probation new.far new.player new.numbering new.trip new.is_new) };
 
     fn hear(
         &mut self,
