@@ -6,6 +6,10 @@ enum { FRONT = 12 + 4 * GOZDRIT_MAX_SOURCES + 4 + 4 * GOZDRIT_MAX_WORDS };
 /* ---- what is ready */
 
 static void push_ready(GstGozdritRecv *self, gpointer item) {
+    if (self->flow == GST_FLOW_EOS && GST_IS_BUFFER(item)) {
+        gst_buffer_unref(item);
+        return;
+    }
     gst_queue_array_push_tail(self->ready, item);
     if (GST_IS_BUFFER(item)) self->ready_packets++;
     if (self->src_waits) g_cond_signal(&self->ready_cond);
@@ -178,13 +182,26 @@ static gpointer next_item(GstGozdritRecv *self) {
     return item;
 }
 
+/* Downstream wants no more of this stream. What is ready of it goes nowhere, but for the events: the end is still told. */
+static void drop_packets(GstGozdritRecv *self) {
+    for (guint left = gst_queue_array_get_length(self->ready); left > 0; left--) {
+        gpointer item = gst_queue_array_pop_head(self->ready);
+        if (GST_IS_BUFFER(item)) gst_buffer_unref(item);
+        else gst_queue_array_push_tail(self->ready, item);
+    }
+    self->ready_packets = 0;
+    if (self->stalled) feedback_wake(self);
+}
+
 /* An error of what is downstream reaches upstream with the next packet; where none comes any more, it is posted. */
 static void pushed(GstGozdritRecv *self, GstFlowReturn flow) {
     g_mutex_lock(&self->lock);
     self->flow = self->src_active ? flow : GST_FLOW_FLUSHING;
+    gboolean bounded = self->flow == GST_FLOW_EOS;
+    if (bounded) drop_packets(self);
     gboolean tell = self->ending && self->src_active && (flow == GST_FLOW_NOT_LINKED || flow < GST_FLOW_EOS);
     g_mutex_unlock(&self->lock);
-    gst_pad_pause_task(self->src);
+    if (!bounded) gst_pad_pause_task(self->src);
     if (tell) GST_ELEMENT_FLOW_ERROR(self, flow);
 }
 

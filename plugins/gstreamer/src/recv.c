@@ -150,11 +150,13 @@ static void flush_stop(GstGozdritRecv *self, GstEvent *event) {
     start_feedback(self);
 }
 
-/* Keeps what an event tells, and puts it behind the packets that came before it. */
+/* Keeps what an event tells, and puts it behind the packets that came before it. Where downstream wanted no more packets, it
+ * still gets the events, as that of the end, and packets again from the next segment on. */
 static gboolean take_serialized(GstGozdritRecv *self, GstEvent *event) {
     GstCaps *caps;
     g_mutex_lock(&self->lock);
-    gboolean taken = self->flow == GST_FLOW_OK;
+    if (self->flow == GST_FLOW_EOS && GST_EVENT_TYPE(event) == GST_EVENT_SEGMENT) self->flow = GST_FLOW_OK;
+    gboolean taken = self->flow == GST_FLOW_OK || self->flow == GST_FLOW_EOS;
     if (taken && GST_EVENT_TYPE(event) == GST_EVENT_CAPS) {
         gst_event_parse_caps(event, &caps);
         receiving_caps(self, caps);

@@ -174,10 +174,79 @@ static void test_error(void) {
     drop_receiver(&r);
 }
 
+static GstFlowReturn want_no_more(GstPad *pad, GstObject *parent, GstBuffer *buffer) {
+    (void)pad, (void)parent;
+    gst_buffer_unref(buffer);
+    return GST_FLOW_EOS;
+}
+
+/* Pushes packets until upstream is told that no more are wanted, and gives how many were taken; 0 where it is not told. */
+static guint16 push_until_bounded(receiver *r) {
+    GstFlowReturn flow = GST_FLOW_OK;
+    guint16 taken = 0;
+    for (; taken < 1000 && flow == GST_FLOW_OK; taken++) {
+        flow = SEND(r, .sequence = taken);
+        g_usleep(1000);
+    }
+    return flow == GST_FLOW_EOS ? (guint16)(taken - 1) : 0;
+}
+
+static gboolean ends(receiver *r) {
+    GstEvent *ended = next_event(r->media, GST_EVENT_EOS);
+    if (ended) gst_event_unref(ended);
+    return ended != NULL;
+}
+
+/* What wants no more packets, as `fakesink num-buffers`, still gets the end. */
+static void test_bounded(void) {
+    receiver r = make_receiver(CAPS);
+    gst_pad_set_chain_function(r.media->sinkpad, want_no_more);
+    CHECK(push_until_bounded(&r) > 0);
+    CHECK(gst_harness_push_event(r.media, gst_event_new_eos()));
+    CHECK(ends(&r));
+    drop_receiver(&r);
+}
+
+/* The same where the end came already, and waits for a packet that is missing. */
+static void test_bounded_late(void) {
+    receiver r = make_receiver(CAPS);
+    g_object_set(r.element, "rtx-max-retries", 1, NULL);
+    SEND(&r, .sequence = 0);
+    COMES(r.media, .sequence = 0);
+    gst_pad_set_chain_function(r.media->sinkpad, want_no_more);
+    SEND(&r, .sequence = 2);
+    SEND(&r, .sequence = 3);
+    gst_harness_push_event(r.media, gst_event_new_eos());
+    TICKS(&r, 20);
+    TICKS(&r, 200);
+    CHECK(ends(&r));
+    drop_receiver(&r);
+}
+
+/* Another segment may be wanted again. */
+static void test_wanted_again(void) {
+    receiver r = make_receiver(CAPS);
+    GstSegment segment;
+    gst_segment_init(&segment, GST_FORMAT_TIME);
+    GstPadChainFunction chain = GST_PAD_CHAINFUNC(r.media->sinkpad);
+    gst_pad_set_chain_function(r.media->sinkpad, want_no_more);
+    guint16 next = push_until_bounded(&r);
+    CHECK(next > 0);
+    gst_pad_set_chain_function(r.media->sinkpad, chain);
+    CHECK(SEND(&r, .sequence = next) == GST_FLOW_EOS);
+    CHECK(gst_harness_push_event(r.media, gst_event_new_segment(&segment)));
+    CHECK(SEND(&r, .sequence = next) == GST_FLOW_OK);
+    COMES(r.media, .sequence = next);
+    drop_receiver(&r);
+}
+
 void test_streams(void) {
     test_event_order();
     test_end();
     test_flush();
     test_standstill();
     test_error();
+    test_bounded();
+    test_bounded_late();
+    test_wanted_again();
 }
