@@ -9,11 +9,14 @@ guint32 draw_ssrc(guint32 one, guint32 other) {
 
 gint64 caps_number(const GstCaps *caps, const gchar *field, gint64 otherwise) {
     const GstStructure *structure = gst_caps_get_structure(caps, 0);
+    const gchar *text = gst_structure_get_string(structure, field);
     gint number;
     guint positive;
+    gboolean truth;
     if (gst_structure_get_int(structure, field, &number)) return number;
     if (gst_structure_get_uint(structure, field, &positive)) return positive;
-    return otherwise;
+    if (gst_structure_get_boolean(structure, field, &truth)) return truth;
+    return text && g_ascii_isdigit(*text) ? (gint64)g_ascii_strtoull(text, NULL, 10) : otherwise;
 }
 
 void element_time_begin(element_time *time, GstElement *element) {

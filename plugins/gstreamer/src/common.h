@@ -20,7 +20,7 @@ enum { RTX_TYPE = 97 };
 /* An SSRC at random that is neither of the two, and not SSRC_UNSET. */
 guint32 draw_ssrc(guint32 one, guint32 other);
 
-/* A number of caps, which have it as an int or as a uint, or `otherwise`. */
+/* A number of caps, which have it as an int, as a uint, as a text, as SDP has it, or as what is true (1); or `otherwise`. */
 gint64 caps_number(const GstCaps *caps, const gchar *field, gint64 otherwise);
 
 /* What an RTP packet shows without being read: RFC 3550, section 5.1. There are 12 octets or more. */

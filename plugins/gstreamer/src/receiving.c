@@ -6,6 +6,9 @@
 /* How long an answer is waited for until a round trip is known, and the least of its spread, in milliseconds. */
 enum { USUAL_TRIP = 60, SPREAD = 5 };
 
+/* A delay that no packet is waited for so long: nothing is asked for. */
+#define NEVER ((guint64)G_MAXUINT32 * 2)
+
 guint64 receiving_now(GstGozdritRecv *self) { return element_time_now(&self->time) / MILLISECOND; }
 
 /* ---- caps */
@@ -32,19 +35,34 @@ static gboolean is_other(const GstGozdritRecv *self, const recv_caps *read) {
             (read->ssrc >= 0 && self->settings.ssrc == SSRC_UNSET && read->ssrc != self->session.media_ssrc));
 }
 
-void receiving_caps(GstGozdritRecv *self, const GstCaps *caps) {
+/* The caps of the retransmissions (RFC 4588, section 8.6): `apt` is the type of the media. */
+static gboolean read_rtx_caps(recv_caps *known, const GstCaps *caps) {
+    const gchar *name = gst_structure_get_string(gst_caps_get_structure(caps, 0), "encoding-name");
+    if (!name || g_ascii_strcasecmp(name, "RTX") != 0) return FALSE;
+    known->rtx_type = caps_number(caps, "payload", known->rtx_type);
+    known->rtx_ssrc = caps_number(caps, "ssrc", known->rtx_ssrc);
+    if (known->type < 0) known->type = caps_number(caps, "apt", -1);
+    return TRUE;
+}
+
+gboolean receiving_caps(GstGozdritRecv *self, const GstCaps *caps) {
     recv_caps read;
+    if (read_rtx_caps(&self->caps, caps)) return FALSE;
     read.type = caps_number(caps, "payload", -1);
-    read.rtx_type = caps_number(caps, "rtx-payload-type", -1);
+    read.rtx_type = caps_number(caps, "rtx-payload-type", caps_number(caps, "rtx-payload", self->caps.rtx_type));
     read.ssrc = caps_number(caps, "ssrc", -1);
     read.rtx_ssrc = caps_number(caps, "rtx-ssrc", -1);
+    read.nack = caps_number(caps, "rtcp-fb-nack", -1);
     read.first = caps_number(caps, "seqnum-base", -1);
     read.clock_rate = caps_number(caps, "clock-rate", -1);
     read_group(&read, caps);
+    if (read.rtx_ssrc < 0) read.rtx_ssrc = self->caps.rtx_ssrc;
     if (read.clock_rate <= 0) read.clock_rate = rate_of(read.type);
     if (is_other(self, &read)) receiving_end(self);
     if (read.clock_rate != self->times.clock_rate) rtp_times_begin(&self->times, read.clock_rate);
     self->caps = read;
+    receiving_set_times(self);
+    return TRUE;
 }
 
 /* ---- the session */
@@ -254,7 +272,8 @@ static guint64 retry_of(const GstGozdritRecv *self) {
 }
 
 void receiving_set_times(GstGozdritRecv *self) {
-    if (self->end.held) gozdrit_set_times(&self->end, self->settings.latency, self->settings.delay, retry_of(self));
+    guint64 delay = self->caps.nack == 0 ? NEVER : self->settings.delay;
+    if (self->end.held) gozdrit_set_times(&self->end, self->settings.latency, delay, retry_of(self));
 }
 
 /* ---- counts */

@@ -10,9 +10,11 @@
  *
  * The times of packets are made from their RTP timestamps, so that those of a repaired packet are in line with its
  * neighbours'. The caps have to tell the clock rate, but for static payload types. What the caps don't tell of the session,
- * and no property does, is taken from the first packet: `payload` and `ssrc`. They may tell `rtx-payload-type`, `rtx-ssrc`
- * (or an attribute `a-ssrc-group`, "FID media rtx"), and `seqnum-base`: then what is lost of the first packets is asked for
- * too.
+ * and no property does, is taken from the first packet: `payload` and `ssrc`. They may tell `rtx-payload-type` or, as
+ * rtprtxsend has it, `rtx-payload`, `rtx-ssrc` (or an attribute `a-ssrc-group`, "FID media rtx"), and `seqnum-base`: then what is
+ * lost of the first packets is asked for too. Caps of the retransmissions themselves, `encoding-name=RTX` with `apt` as SDP has
+ * it, tell both types, and go no further; they count behind caps of the media and before its first packet, as a funnel before
+ * the element has them. Where the caps say `rtcp-fb-nack=false`, nothing is asked for.
  *
  * ## Example pipeline
  * |[
@@ -156,18 +158,18 @@ static gboolean take_serialized(GstGozdritRecv *self, GstEvent *event) {
     GstCaps *caps;
     g_mutex_lock(&self->lock);
     if (self->flow == GST_FLOW_EOS && GST_EVENT_TYPE(event) == GST_EVENT_SEGMENT) self->flow = GST_FLOW_OK;
-    gboolean taken = self->flow == GST_FLOW_OK || self->flow == GST_FLOW_EOS;
+    gboolean taken = self->flow == GST_FLOW_OK || self->flow == GST_FLOW_EOS, goes_on = TRUE;
     if (taken && GST_EVENT_TYPE(event) == GST_EVENT_CAPS) {
         gst_event_parse_caps(event, &caps);
-        receiving_caps(self, caps);
+        goes_on = receiving_caps(self, caps);
     } else if (taken && GST_EVENT_TYPE(event) == GST_EVENT_SEGMENT) {
         gst_event_copy_segment(event, &self->segment);
     } else if (taken && GST_EVENT_TYPE(event) == GST_EVENT_EOS) {
         self->ending = TRUE;
     }
-    if (taken) playing_event(self, event);
+    if (taken && goes_on) playing_event(self, event);
     g_mutex_unlock(&self->lock);
-    if (!taken) gst_event_unref(event);
+    if (!taken || !goes_on) gst_event_unref(event);
     return taken;
 }
 
@@ -223,7 +225,7 @@ static GstIterator *linked_inside(GstPad *pad, GstObject *parent) {
 static void begin(GstGozdritRecv *self) {
     g_mutex_lock(&self->lock);
     element_time_begin(&self->time, GST_ELEMENT(self));
-    self->caps = (recv_caps){-1, -1, -1, -1, -1, -1};
+    self->caps = (recv_caps){-1, -1, -1, -1, -1, -1, -1};
     self->past = (gozdrit_receive_counts){0};
     self->sessions = self->strays = 0;
     self->refused = GOZDRIT_OK;

@@ -31,6 +31,7 @@ typedef struct recv_settings {
 /* What the caps say of the session; -1 where they don't. */
 typedef struct recv_caps {
     gint64 type, rtx_type, ssrc, rtx_ssrc, first, clock_rate;
+    gint64 nack; /* 0: NACKs are not wanted */
 } recv_caps;
 
 /* The times with which a media packet came. A packet with another timestamp is not the one. */
@@ -116,7 +117,8 @@ struct _GstGozdritRecv {
 /* ---- receiving.c. The lock is held in all of these. */
 
 guint64 receiving_now(GstGozdritRecv *self);
-void receiving_caps(GstGozdritRecv *self, const GstCaps *caps);
+/* FALSE where the caps are those of the retransmissions, and not what goes out. */
+gboolean receiving_caps(GstGozdritRecv *self, const GstCaps *caps);
 void receiving_packet(GstGozdritRecv *self, GstBuffer *buffer, const guint8 *octets, gsize length);
 /* Gives up what is missing, plays all else, and ends the session. */
 void receiving_end(GstGozdritRecv *self);

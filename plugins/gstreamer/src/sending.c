@@ -53,7 +53,8 @@ static gboolean is_session(const GstGozdritSend *self, guint8 type, guint32 ssrc
 
 /* ---- caps */
 
-/* The number that the first packet will have is told where it is known before the packet comes. */
+/* The number that the first packet will have is told where it is known before the packet comes. The type of the
+ * retransmissions has two names: this project's, and that of rtprtxsend. */
 GstCaps *sending_caps(GstGozdritSend *self, const GstCaps *caps) {
     GstCaps *out = gst_caps_copy(caps);
     g_mutex_lock(&self->lock);
@@ -64,7 +65,8 @@ GstCaps *sending_caps(GstGozdritSend *self, const GstCaps *caps) {
     while (self->settings.rtx_ssrc == SSRC_UNSET && (gint64)self->rtx_ssrc == media)
         self->rtx_ssrc = draw_ssrc(self->rtx_ssrc, self->rtx_ssrc);
     gst_caps_set_simple(out, "rtcp-fb-nack", G_TYPE_BOOLEAN, TRUE, "rtx-payload-type", G_TYPE_INT,
-                        (gint)self->settings.rtx_type, "rtx-ssrc", G_TYPE_UINT, self->rtx_ssrc, NULL);
+                        (gint)self->settings.rtx_type, "rtx-payload", G_TYPE_INT, (gint)self->settings.rtx_type, "rtx-ssrc",
+                        G_TYPE_UINT, self->rtx_ssrc, NULL);
     if (media >= 0) gst_caps_set_simple(out, "ssrc", G_TYPE_UINT, (guint)media, NULL);
     if (first >= 0 && !self->end.held && self->next < 0)
         gst_caps_set_simple(out, "seqnum-base", G_TYPE_UINT, (guint)first, NULL);

@@ -83,6 +83,7 @@ void test_times(void);
 void test_streams(void);
 void test_flushes(void);
 void test_restarts(void);
+void test_rtx_caps(void);
 void test_states(void);
 
 #endif
