@@ -1,0 +1,188 @@
+"""What the parts share: checks that are counted, ports, and relays as programs that are started, read and ended.
+
+A part is run as `PART PROGRAM`. Its last line is `N passed, M failed`."""
+import pathlib
+import re
+import shutil
+import signal
+import subprocess
+import sys
+import tempfile
+import time
+
+LONG = 40  # seconds that anything may take: the machine may be busy with proofs
+FIRST_LINE = re.compile(r"^listening at (\S+):(\d+), sending to (\S+):(\d+) from (\S+):(\d+)$")
+COUNTS = {
+    "send": "sent unsent marked retransmitted refused stray lost".split(),
+    "receive": "taken repaired played gaps asked refused restarts stray lost rtt".split(),
+}
+
+
+class Checks:
+    """Counts checks, and names those that fail."""
+
+    def __init__(self):
+        self.passed = self.failed = 0
+
+    def count(self, good, name):
+        if good:
+            self.passed += 1
+        else:
+            self.failed += 1
+            print("FAILED:", str(name)[:600], flush=True)
+        return good
+
+    def same(self, came, wanted, name):
+        return self.count(came == wanted, f"{name}: {came!r}, where {wanted!r} is right")
+
+    def tell(self):
+        print(f"{self.passed} passed, {self.failed} failed")
+        sys.exit(1 if self.failed else 0)
+
+
+def soon(holds, seconds=LONG):
+    """Waits until something holds, and tells whether it does."""
+    until = time.monotonic() + seconds
+    while not holds():
+        if time.monotonic() > until:
+            return False
+        time.sleep(0.01)
+    return True
+
+
+def address(host, port):
+    """An address as the command line has it."""
+    return f"[{host}]:{port}" if ":" in host else f"{host}:{port}"
+
+
+def counts_of(line, side):
+    """The counts of a line, or None where it is no line of counts of this side."""
+    words = line.split(" ")
+    if words[0::2] != COUNTS[side]:
+        return None
+    if not all(re.fullmatch(r"0|[1-9][0-9]*", one) or (name == "rtt" and one == "-") for name, one in zip(words[0::2], words[1::2])):
+        return None
+    return {name: None if one == "-" else int(one) for name, one in zip(words[0::2], words[1::2])}
+
+
+class Relay:
+    """A relay that runs: where it listens, what it says, what it logs."""
+
+    def __init__(self, stage, side, *words, log=True):
+        self.side, self.began = side, time.monotonic()
+        self.base = stage.room / f"relay{len(stage.relays)}"
+        self.log = self.base.with_suffix(".log")
+        words = [stage.program, side, *map(str, words), *(["--log", self.log] if log else [])]
+        self.said, self.printed = (open(self.base.with_suffix(end), "w") for end in (".err", ".out"))
+        self.run = subprocess.Popen(words, stdin=subprocess.DEVNULL, stdout=self.printed, stderr=self.said)
+        stage.relays.append(self)
+        soon(lambda: "\n" in self.errors() or self.run.poll() is not None)
+        found = FIRST_LINE.match(self.errors().partition("\n")[0])
+        if not found:
+            raise RuntimeError(f"{side} doesn't tell where it listens: {self.errors()!r}")
+        self.at, self.to, self.source = ((found[i].strip("[]"), int(found[i + 1])) for i in (1, 3, 5))
+
+    def errors(self):
+        return self.base.with_suffix(".err").read_text()
+
+    def output(self):
+        return self.base.with_suffix(".out").read_text()
+
+    def status(self, seconds=LONG):
+        """Its status, once it ended; None where it goes on."""
+        try:
+            return self.run.wait(seconds)
+        except subprocess.TimeoutExpired:
+            return None
+
+    def stop(self, number=signal.SIGKILL):
+        self.run.send_signal(number)
+        return self.status()
+
+    def counts(self):
+        """The counts of its last line, with a zero for each where there are none."""
+        lines = self.errors().splitlines() or [""]
+        return counts_of(lines[-1], self.side) or {}
+
+    def words(self):
+        """Its log so far: the words of each whole line, without the moment."""
+        text = self.log.read_text()
+        return [line.split(" ")[1:] for line in text[:text.rfind("\n") + 1].splitlines()]
+
+    def logged(self, word):
+        """The lines of its log that begin with a word."""
+        return [one for one in self.words() if one[0] == word]
+
+    def spent(self):
+        """The seconds of processor time that it has used so far."""
+        tasks = pathlib.Path(f"/proc/{self.run.pid}/task").iterdir()
+        return sum(int((one / "schedstat").read_text().split()[0]) for one in tasks) / 1e9
+
+    def memory(self):
+        """Its resident memory in KiB."""
+        return int(re.search(r"VmRSS:\s+(\d+)", pathlib.Path(f"/proc/{self.run.pid}/status").read_text())[1])
+
+
+class Stage:
+    """A folder, and the relays that run. It ends all of them where its block ends, also by SIGTERM."""
+
+    def __init__(self, program):
+        self.program, self.relays, self.closing = str(pathlib.Path(program).resolve()), [], []
+        self.room = pathlib.Path(tempfile.mkdtemp())
+        signal.signal(signal.SIGTERM, lambda *_: sys.exit(1))
+
+    def __enter__(self):
+        return self
+
+    def __exit__(self, *error):
+        for one in self.relays:
+            if one.run.poll() is None:
+                one.stop()
+            one.said.close()
+            one.printed.close()
+        for one in self.closing:
+            one.close()
+        shutil.rmtree(self.room, ignore_errors=True)
+
+    def keep(self, one):
+        """Closes it with the stage."""
+        self.closing.append(one)
+        return one
+
+    def send(self, to, *words, listen="127.0.0.1:0", **more):
+        return Relay(self, "send", "--listen", listen, "--to", address(*to[:2]), *words, **more)
+
+    def receive(self, to, *words, listen="127.0.0.1:0", **more):
+        return Relay(self, "receive", "--listen", listen, "--to", address(*to[:2]), *words, **more)
+
+    def pair(self, player, *words, send=(), receive=()):
+        """Both relays, one behind the other, before a player."""
+        receiver = self.receive(player.at, *words, *receive)
+        return self.send(receiver.at, *words, *send), receiver
+
+
+def ends(checks, name, *relays, seconds=LONG):
+    """Each ends by itself with status 0, a last line of counts, and nothing on its output."""
+    for one in relays:
+        status = one.status(seconds)
+        checks.count(status == 0 and one.counts(), f"{name}: {one.side} ended with {status}: {one.errors()[-300:]!r}")
+        checks.same(one.output(), "", f"{name}: the output of {one.side}")
+
+
+def part(*scenes):
+    """Runs the scenes of a part, each with the checks and a stage of its own. One that breaks is a check that fails."""
+    checks = Checks()
+    for scene in scenes:
+        began = time.monotonic()
+        try:
+            with Stage(sys.argv[1]) as stage:
+                scene(checks, stage)
+        except (RuntimeError, OSError, ValueError, LookupError, TypeError, AttributeError) as error:
+            where = error.__traceback__
+            while where.tb_next:
+                where = where.tb_next
+            place = f"{pathlib.Path(where.tb_frame.f_code.co_filename).name} line {where.tb_lineno}"
+            checks.count(False, f"{scene.__name__} broke in {place}: {type(error).__name__} {error}")
+        if "-v" in sys.argv:
+            print(f"{scene.__name__}: {time.monotonic() - began:.1f} seconds", flush=True)
+    checks.tell()

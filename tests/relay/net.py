@@ -1,0 +1,133 @@
+"""Sockets of a test: an application that sends, an end that collects, and a path between the relays that loses what a rule says."""
+import heapq
+import itertools
+import pathlib
+import select
+import socket
+import threading
+import time
+
+from base import soon
+from rtp import packet, parse
+
+ROOM = 4000000  # octets that the system may keep for a socket of a test
+MUCH = 60000  # octets that wait at a socket before more is sent to it
+
+
+def udp(host="127.0.0.1", port=0):
+    """A bound socket."""
+    made = socket.socket(socket.AF_INET6 if ":" in host else socket.AF_INET, socket.SOCK_DGRAM)
+    made.setsockopt(socket.SOL_SOCKET, socket.SO_RCVBUF, ROOM)
+    made.bind((host, port))
+    return made
+
+
+def queued(ports):
+    """The most octets that wait at the sockets of these ports, and how many datagrams the system dropped there."""
+    most = dropped = 0
+    for table in ("udp", "udp6"):
+        for line in pathlib.Path("/proc/net", table).read_text().splitlines()[1:]:
+            words = line.split()
+            if int(words[1].rpartition(":")[2], 16) in ports:
+                most, dropped = max(most, int(words[4].split(":")[1], 16)), dropped + int(words[-1])
+    return most, dropped
+
+
+class App:
+    """An application that sends a stream. It waits where a socket of `heed` is full: what the system drops there would be no
+    fault of a relay."""
+
+    def __init__(self, stage, to, ssrc=0x1a2b3c4d, kind=96, number=65000, heed=()):
+        self.at = stage.keep(udp(to[0] if to[0] != "0.0.0.0" else "127.0.0.1"))
+        self.to, self.ssrc, self.kind, self.number, self.heed = to[:2], ssrc, kind, number, {to[1], *heed}
+
+    def raw(self, octets):
+        self.at.sendto(octets, self.to)
+
+    def send(self, content, padding=0):
+        self.raw(packet(self.kind, self.number, self.ssrc, content, padding))
+        self.number = self.number + 1 & 65535
+
+    def stream(self, contents, rate, padded=0):
+        """Sends contents at so many a second, at most eight of them at once; each `padded`th one has padding."""
+        due = time.monotonic()
+        for i, content in enumerate(contents):
+            due = max(due + 1 / rate, time.monotonic() - 8 / rate)
+            if i % 16 == 0:
+                soon(lambda: queued(self.heed)[0] < MUCH)
+            time.sleep(max(0, due - time.monotonic()))
+            self.send(content, i % 255 + 1 if padded and content.payload and i % padded == 0 else 0)
+
+
+class End:
+    """A socket that keeps what comes to it, with the moment and where it came from: a player, or a far side."""
+
+    def __init__(self, stage, host="127.0.0.1", port=0):
+        self.socket, self.came, self.open = udp(host, port), [], True
+        self.at = self.socket.getsockname()[:2]
+        self.thread = threading.Thread(target=self.collect, daemon=True)
+        self.thread.start()
+        stage.keep(self)
+
+    def collect(self):
+        while self.open:
+            if select.select([self.socket], [], [], 0.2)[0]:
+                octets, source = self.socket.recvfrom(65536)
+                self.came.append((time.monotonic(), source[:2], octets))
+
+    def close(self):
+        self.open = False
+        self.thread.join()
+        self.socket.close()
+
+    def send(self, octets, to):
+        self.socket.sendto(octets, to)
+
+    def octets(self):
+        return [one for _, _, one in list(self.came)]
+
+    def packets(self):
+        """What came as packets, None for each datagram that is none."""
+        return [parse(one) for one in self.octets()]
+
+    def waits_for(self, count, seconds=40):
+        """Waits until so many datagrams came, and tells whether they did."""
+        return soon(lambda: len(self.came) >= count, seconds)
+
+
+class Path:
+    """A path between the relays: what comes to `at` goes on to `to`, and what comes back goes to who sent last. The rule is asked
+    of each datagram, by its way ("forth" or "back") and its octets, and gives a delay in seconds, or None to lose it. All is kept
+    in `passed`: the way, the octets, and whether it went on."""
+
+    def __init__(self, stage, to, rule=lambda way, octets: 0):
+        self.front, self.rear, self.rule, self.to = udp(), udp(), rule, to[:2]
+        self.at, self.home, self.passed, self.open = self.front.getsockname(), None, [], True
+        self.thread = threading.Thread(target=self.carry, daemon=True)
+        self.thread.start()
+        stage.keep(self)
+
+    def carry(self):
+        under, order = [], itertools.count()
+        while self.open:
+            wait = max(0, min(0.2, under[0][0] - time.monotonic())) if under else 0.2
+            for one in select.select([self.front, self.rear], [], [], wait)[0]:
+                octets, source = one.recvfrom(65536)
+                way = "forth" if one is self.front else "back"
+                self.home = source if way == "forth" else self.home
+                delay = self.rule(way, octets)
+                self.passed.append((way, octets, delay is not None))
+                if delay is not None:
+                    heapq.heappush(under, (time.monotonic() + delay, next(order), way, octets))
+            while under and under[0][0] <= time.monotonic():
+                _, _, way, octets = heapq.heappop(under)
+                if way == "forth":
+                    self.rear.sendto(octets, self.to)
+                elif self.home:
+                    self.front.sendto(octets, self.home)
+
+    def close(self):
+        self.open = False
+        self.thread.join()
+        self.front.close()
+        self.rear.close()
