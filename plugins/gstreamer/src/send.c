@@ -11,6 +11,9 @@
  * A packet keeps its timestamp, marker, CSRC list, header extension, padding and payload. Its SSRC is
  * #GstGozdritSend:ssrc, or what it came with; its sequence numbers follow one another from the first packet's on.
  *
+ * Where no packet comes for #GstGozdritSend:silence-delay, the last one is repeated once: else the far side would not notice
+ * what it lacks of the end of a talk spurt, until the next one.
+ *
  * `feedback_sink` takes the RTCP of the far side, whatever it is: what is no NACK of this session is passed over. At the
  * end of the stream the last packet is repeated, and feedback is answered for #GstGozdritSend:eos-delay more.
  *
@@ -31,6 +34,7 @@ enum {
     PROP_HISTORY,
     PROP_REPEATS,
     PROP_EOS_DELAY,
+    PROP_SILENCE_DELAY,
     PROP_STATS
 };
 
@@ -77,6 +81,7 @@ static void set_flushing(GstGozdritSend *self, gboolean flushing) {
     g_mutex_lock(&self->lock);
     self->flushing = flushing;
     if (flushing && self->waiting) gst_clock_id_unschedule(self->waiting);
+    if (flushing) silence_end(self);
     g_mutex_unlock(&self->lock);
 }
 
@@ -138,6 +143,7 @@ static GstIterator *linked_inside(GstPad *pad, GstObject *parent) {
 
 static void begin(GstGozdritSend *self) {
     g_mutex_lock(&self->lock);
+    element_time_begin(&self->time, GST_ELEMENT(self));
     self->flushing = FALSE;
     self->next = self->caps_ssrc = self->caps_first = -1;
     self->past = (gozdrit_send_counts){0};
@@ -150,7 +156,18 @@ static void begin(GstGozdritSend *self) {
 static void end(GstGozdritSend *self) {
     g_mutex_lock(&self->lock);
     sending_end(self);
+    element_time_end(&self->time);
     g_mutex_unlock(&self->lock);
+}
+
+/* The pipeline's clock: what waits for the one before waits for this one. */
+static gboolean set_clock(GstElement *element, GstClock *clock) {
+    GstGozdritSend *self = GST_GOZDRIT_SEND(element);
+    g_mutex_lock(&self->lock);
+    element_time_switch(&self->time, clock);
+    silence_changed(self);
+    g_mutex_unlock(&self->lock);
+    return GST_ELEMENT_CLASS(gst_gozdrit_send_parent_class)->set_clock(element, clock);
 }
 
 static GstStateChangeReturn change_state(GstElement *element, GstStateChange change) {
@@ -177,8 +194,10 @@ static void set_property(GObject *object, guint id, const GValue *value, GParamS
     case PROP_HISTORY: settings->history = g_value_get_uint(value); break;
     case PROP_REPEATS: settings->repeats = g_value_get_uint(value); break;
     case PROP_EOS_DELAY: settings->eos_delay = g_value_get_uint(value); break;
+    case PROP_SILENCE_DELAY: settings->silence_delay = g_value_get_uint(value); break;
     default: G_OBJECT_WARN_INVALID_PROPERTY_ID(object, id, spec);
     }
+    if (id == PROP_SILENCE_DELAY) silence_changed(self);
     g_mutex_unlock(&self->lock);
 }
 
@@ -196,6 +215,7 @@ static void get_property(GObject *object, guint id, GValue *value, GParamSpec *s
     case PROP_HISTORY: g_value_set_uint(value, settings.history); break;
     case PROP_REPEATS: g_value_set_uint(value, settings.repeats); break;
     case PROP_EOS_DELAY: g_value_set_uint(value, settings.eos_delay); break;
+    case PROP_SILENCE_DELAY: g_value_set_uint(value, settings.silence_delay); break;
     case PROP_STATS: g_value_take_boxed(value, sending_counts(self)); break;
     default: G_OBJECT_WARN_INVALID_PROPERTY_ID(object, id, spec);
     }
@@ -204,6 +224,8 @@ static void get_property(GObject *object, guint id, GValue *value, GParamSpec *s
 static void finalize(GObject *object) {
     GstGozdritSend *self = GST_GOZDRIT_SEND(object);
     gozdrit_sender_free(&self->end);
+    element_time_end(&self->time);
+    g_cond_clear(&self->silence_cond);
     g_mutex_clear(&self->lock);
     G_OBJECT_CLASS(gst_gozdrit_send_parent_class)->finalize(object);
 }
@@ -234,6 +256,9 @@ static void install_properties(GObjectClass *class) {
                  "How often one packet is retransmitted at most", 1, 255, 8);
     install_uint(class, PROP_EOS_DELAY, "eos-delay",
                  "How long feedback is answered behind the last packet, in ms, where feedback_sink is linked", 0, 60000, 500);
+    install_uint(class, PROP_SILENCE_DELAY, "silence-delay",
+                 "How long no packet comes until the last one is repeated once, in ms, where feedback_sink is linked (0 == never)", 0,
+                 60000, 100);
     g_object_class_install_property(
         class, PROP_STATS, g_param_spec_boxed("stats", NULL, "What was counted since the element began: the library's counts",
                                               GST_TYPE_STRUCTURE, (GParamFlags)(G_PARAM_READABLE | G_PARAM_STATIC_STRINGS)));
@@ -246,6 +271,7 @@ static void gst_gozdrit_send_class_init(GstGozdritSendClass *class) {
     object->get_property = get_property;
     object->finalize = finalize;
     element->change_state = change_state;
+    element->set_clock = set_clock;
     install_properties(object);
     gst_element_class_add_static_pad_template(element, &sink_template);
     gst_element_class_add_static_pad_template(element, &feedback_template);
@@ -264,14 +290,16 @@ static GstPad *add_pad(GstGozdritSend *self, GstStaticPadTemplate *template) {
 
 static void gst_gozdrit_send_init(GstGozdritSend *self) {
     g_mutex_init(&self->lock);
+    g_cond_init(&self->silence_cond);
     self->settings = (send_settings){.ssrc = SSRC_UNSET, .rtx_ssrc = SSRC_UNSET, .receiver_ssrc = SSRC_UNSET,
-                                     .rtx_type = RTX_TYPE, .first = -1, .history = 1024, .repeats = 8, .eos_delay = 500};
+                                     .rtx_type = RTX_TYPE, .first = -1, .history = 1024, .repeats = 8, .eos_delay = 500, .silence_delay = 100};
     self->sink = add_pad(self, &sink_template);
     self->feedback = add_pad(self, &feedback_template);
     self->src = add_pad(self, &src_template);
     gst_pad_set_chain_function(self->sink, chain);
     gst_pad_set_chain_list_function(self->sink, chain_list);
     gst_pad_set_event_function(self->sink, sink_event);
+    gst_pad_set_activatemode_function(self->src, silence_activate);
     GST_PAD_SET_PROXY_CAPS(self->sink);
     GST_PAD_SET_PROXY_CAPS(self->src);
     gst_pad_set_chain_function(self->feedback, feedback_chain);

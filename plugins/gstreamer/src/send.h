@@ -1,5 +1,5 @@
 /* gozdritsend, the sending element. send.c is the element: its pads, properties and states. sending.c is what it does
- * with packets and feedback. */
+ * with packets and feedback, and silence.c what it does where no packet comes. */
 #ifndef GOZDRIT_GST_SEND_H
 #define GOZDRIT_GST_SEND_H
 
@@ -16,7 +16,8 @@ typedef struct send_settings {
     gint first; /* -1: that of the caps or of the first packet */
     guint history;
     guint repeats;
-    guint eos_delay; /* milliseconds */
+    guint eos_delay;     /* milliseconds */
+    guint silence_delay; /* the same; 0: none */
 } send_settings;
 
 struct _GstGozdritSend {
@@ -37,6 +38,13 @@ struct _GstGozdritSend {
     gint64 caps_first;
     GstClockID waiting; /* for the tail to be repaired */
     gboolean flushing;  /* nothing is waited for */
+
+    element_time time;
+    GstClockTime last; /* when the last packet came */
+    gboolean silent;   /* and was repeated, or is not to be */
+    GCond silence_cond;
+    GstClockID silence_id;
+    gboolean silence_waits, silence_active; /* waits: the task waits for a packet */
 };
 
 /* The caps of the packets that go out, from those that come in. */
@@ -48,6 +56,9 @@ GstFlowReturn sending_packet(GstGozdritSend *self, GstBuffer *buffer, GstBuffer 
 /* Sends what a datagram of feedback asks for. */
 void sending_feedback(GstGozdritSend *self, GstBuffer *buffer);
 
+/* Sends all that is to be retransmitted. */
+void sending_retransmissions(GstGozdritSend *self);
+
 /* Repeats the last packet, and answers until the time is over. */
 void sending_tail(GstGozdritSend *self);
 
@@ -56,5 +67,15 @@ GstStructure *sending_counts(GstGozdritSend *self);
 
 /* Ends the session, and keeps its counts. The lock is held. */
 void sending_end(GstGozdritSend *self);
+
+/* ---- silence.c. The lock is held, but for the pad's activation. */
+
+/* A packet was sent. */
+void silence_packet(GstGozdritSend *self);
+/* No packet is to be repeated any more, until another one was sent. */
+void silence_end(GstGozdritSend *self);
+/* The delay or the clock is another. */
+void silence_changed(GstGozdritSend *self);
+gboolean silence_activate(GstPad *pad, GstObject *parent, GstPadMode mode, gboolean active);
 
 #endif

@@ -127,6 +127,7 @@ static gint32 write_packet(GstGozdritSend *self, const gozdrit_header *header, G
     gst_buffer_unmap(made, &map);
     if (number == GOZDRIT_OK) {
         self->next = (gint64)((sent.sequence + 1) & 0xffff);
+        silence_packet(self);
         *out = made;
     } else {
         gst_buffer_unref(made);
@@ -187,7 +188,7 @@ static GstBuffer *next_retransmission(GstGozdritSend *self) {
 
 /* Sends what is to be retransmitted. The network loses what can't go out, and the receiver asks again: so how it went is
  * not looked at. They have no time of their own, and a sink that waits for times sends them at once. */
-static void push_retransmissions(GstGozdritSend *self) {
+void sending_retransmissions(GstGozdritSend *self) {
     for (;;) {
         g_mutex_lock(&self->lock);
         GstBuffer *out = self->end.held ? next_retransmission(self) : NULL;
@@ -205,7 +206,7 @@ void sending_feedback(GstGozdritSend *self, GstBuffer *buffer) {
     if (self->end.held) gozdrit_feedback(&self->end, map.data, map.size, &told);
     g_mutex_unlock(&self->lock);
     gst_buffer_unmap(buffer, &map);
-    if (told.marked > 0) push_retransmissions(self);
+    if (told.marked > 0) sending_retransmissions(self);
 }
 
 /* ---- the tail */
@@ -233,12 +234,15 @@ void sending_tail(GstGozdritSend *self) {
     GstClock *clock = gst_element_get_clock(GST_ELEMENT(self));
     if (!clock) clock = gst_system_clock_obtain();
     GstClockTime until = gst_clock_get_time(clock);
+    g_mutex_lock(&self->lock);
+    silence_end(self);
+    g_mutex_unlock(&self->lock);
     for (guint i = 0; i < self->settings.repeats + 1; i++) {
         guint32 marked = 0;
         g_mutex_lock(&self->lock);
         if (i < self->settings.repeats && self->end.held) gozdrit_mark_last(&self->end, &marked);
         g_mutex_unlock(&self->lock);
-        push_retransmissions(self);
+        sending_retransmissions(self);
         until += step;
         if (!wait_for(self, clock, until)) break;
     }

@@ -167,13 +167,50 @@ gboolean ticks(receiver *r, guint64 at) {
 
 void set_clock_to(receiver *r, guint64 at) { gst_harness_set_time(r->media, at * GST_MSECOND); }
 
+/* ---- a sender */
+
+sender make_sender(void) {
+    sender s;
+    s.element = gst_element_factory_make("gozdritsend", NULL);
+    g_object_set(s.element, "rtx-ssrc", RTX, "silence-delay", 0, NULL);
+    s.media = gst_harness_new_with_element(s.element, "sink", "src");
+    s.feedback = gst_harness_new_with_element(s.element, "feedback_sink", NULL);
+    gst_harness_set_src_caps_str(s.media, CAPS);
+    gst_harness_set_src_caps_str(s.feedback, "application/x-rtcp");
+    return s;
+}
+
+void drop_sender(sender *s) {
+    gst_harness_teardown(s->feedback);
+    gst_harness_teardown(s->media);
+    gst_object_unref(s->element);
+}
+
+void send_five(sender *s) {
+    for (guint16 i = 0; i < 5; i++) gst_harness_push(s->media, make_packet((packet){.sequence = i, .fill = (guint8)i}));
+    for (guint16 i = 0; i < 5; i++) COMES(s->media, .sequence = i, .fill = (guint8)i);
+}
+
+gboolean repair_comes(sender *s, packet of) {
+    GstBuffer *buffer = next_buffer(s->media);
+    if (!buffer) return FALSE;
+    guint8 octets[4];
+    gst_buffer_extract(buffer, 0, octets, sizeof octets);
+    GstBuffer *repair = make_repair(of, GST_READ_UINT16_BE(octets + 2));
+    gboolean is = same_octets(buffer, repair) && !GST_BUFFER_PTS_IS_VALID(buffer) &&
+                  GST_BUFFER_FLAG_IS_SET(buffer, GST_RTP_BUFFER_FLAG_RETRANSMISSION);
+    gst_buffer_unref(repair);
+    gst_buffer_unref(buffer);
+    return is;
+}
+
 /* ---- all tests, or those that are named */
 
 int main(int count, char **words) {
     static const struct { const gchar *name; void (*test)(void); } tests[] = {
         {"send", test_send},       {"feedback", test_feedback}, {"tail", test_tail},         {"receive", test_receive},
         {"times", test_times},     {"streams", test_streams},   {"restarts", test_restarts}, {"states", test_states},
-        {"flushes", test_flushes}, {"caps", test_rtx_caps},
+        {"flushes", test_flushes}, {"caps", test_rtx_caps},      {"silence", test_silence},
     };
     gst_init(NULL, NULL);
     for (guint i = 0; i < G_N_ELEMENTS(tests); i++) {

@@ -74,10 +74,23 @@ void drop_receiver(receiver *r);
 gboolean ticks(receiver *r, guint64 at);
 void set_clock_to(receiver *r, guint64 at);
 
+/* A sender with a harness of its feedback, whose clock is the test's. It does nothing in a silence. */
+typedef struct sender {
+    GstHarness *media, *feedback;
+    GstElement *element;
+} sender;
+sender make_sender(void);
+void drop_sender(sender *s);
+/* Sends the packets 0 to 4, and takes them. */
+void send_five(sender *s);
+/* A repair of that packet comes, without a time. Repairs have numbers of their own. */
+gboolean repair_comes(sender *s, packet of);
+
 /* Each is a file. */
 void test_send(void);
 void test_feedback(void);
 void test_tail(void);
+void test_silence(void);
 void test_receive(void);
 void test_times(void);
 void test_streams(void);

@@ -1,48 +1,6 @@
 /* What a sender makes of feedback, and of the end of its stream. */
 #include "checks.h"
 
-typedef struct sender {
-    GstHarness *media, *feedback;
-    GstElement *element;
-} sender;
-
-static sender make_sender(void) {
-    sender s;
-    s.element = gst_element_factory_make("gozdritsend", NULL);
-    g_object_set(s.element, "rtx-ssrc", RTX, NULL);
-    s.media = gst_harness_new_with_element(s.element, "sink", "src");
-    s.feedback = gst_harness_new_with_element(s.element, "feedback_sink", NULL);
-    gst_harness_set_src_caps_str(s.media, CAPS);
-    gst_harness_set_src_caps_str(s.feedback, "application/x-rtcp");
-    return s;
-}
-
-static void drop_sender(sender *s) {
-    gst_harness_teardown(s->feedback);
-    gst_harness_teardown(s->media);
-    gst_object_unref(s->element);
-}
-
-/* Sends the packets 0 to 4, and takes them. */
-static void send_five(sender *s) {
-    for (guint16 i = 0; i < 5; i++) gst_harness_push(s->media, make_packet((packet){.sequence = i, .fill = (guint8)i}));
-    for (guint16 i = 0; i < 5; i++) COMES(s->media, .sequence = i, .fill = (guint8)i);
-}
-
-/* A repair of that packet comes, without a time. Repairs have numbers of their own. */
-static gboolean repair_comes(sender *s, packet of) {
-    GstBuffer *buffer = next_buffer(s->media);
-    if (!buffer) return FALSE;
-    guint8 octets[4];
-    gst_buffer_extract(buffer, 0, octets, sizeof octets);
-    GstBuffer *repair = make_repair(of, GST_READ_UINT16_BE(octets + 2));
-    gboolean is = same_octets(buffer, repair) && !GST_BUFFER_PTS_IS_VALID(buffer) &&
-                  GST_BUFFER_FLAG_IS_SET(buffer, GST_RTP_BUFFER_FLAG_RETRANSMISSION);
-    gst_buffer_unref(repair);
-    gst_buffer_unref(buffer);
-    return is;
-}
-
 static void test_nacks(void) {
     sender s = make_sender();
     CHECK(gst_harness_push(s.feedback, make_nack(1, 0)) == GST_FLOW_OK); /* before anything was sent */

@@ -3,7 +3,7 @@
 
 #include <string.h>
 
-static GstHarness *make_sender(void) {
+static GstHarness *make_media(void) {
     GstHarness *h = gst_harness_new_with_padnames("gozdritsend", "sink", "src");
     gst_harness_set_src_caps_str(h, CAPS);
     return h;
@@ -11,7 +11,7 @@ static GstHarness *make_sender(void) {
 
 /* A packet that has everything that one can have goes out as it came in, and with its times. */
 static void test_whole_packet(void) {
-    GstHarness *h = make_sender();
+    GstHarness *h = make_media();
     GstRTPBuffer rtp = GST_RTP_BUFFER_INIT;
     static const guint8 word[4] = {1, 2, 3, 4};
     GstBuffer *buffer = gst_rtp_buffer_new_allocate(20, 5, 2);
@@ -51,7 +51,7 @@ static void test_whole_packet(void) {
 
 /* Numbers follow one another from the first packet's on, whatever the packets behind it have. */
 static void test_numbers(void) {
-    GstHarness *h = make_sender();
+    GstHarness *h = make_media();
     gst_harness_push(h, make_packet((packet){.sequence = 65535}));
     gst_harness_push(h, make_packet((packet){.sequence = 0, .fill = 1}));
     gst_harness_push(h, make_packet((packet){.sequence = 9, .fill = 2}));
@@ -64,7 +64,7 @@ static void test_numbers(void) {
 
 /* The payloaders give lists, which go out as lists. */
 static void test_list(void) {
-    GstHarness *h = make_sender();
+    GstHarness *h = make_media();
     GstBufferList *list = gst_buffer_list_new();
     for (guint16 i = 0; i < 5; i++) gst_buffer_list_add(list, make_packet((packet){.sequence = i, .fill = (guint8)i}));
     CHECK(gst_pad_push_list(h->srcpad, list) == GST_FLOW_OK);
@@ -113,7 +113,7 @@ static void test_own_ssrc(void) {
 
 /* A payloader that goes on with another type: so do the numbers, and the counts. */
 static void test_renegotiation(void) {
-    GstHarness *h = make_sender();
+    GstHarness *h = make_media();
     gst_harness_push(h, make_packet((packet){.sequence = 10}));
     gst_harness_set_src_caps_str(h, "application/x-rtp,media=video,clock-rate=90000,encoding-name=Y,payload=100,ssrc=(uint)286331153");
     gst_harness_push(h, make_packet((packet){.sequence = 500, .type = 100}));
@@ -125,7 +125,7 @@ static void test_renegotiation(void) {
 
 /* What can't be sent is told. */
 static void test_refused(void) {
-    GstHarness *h = make_sender();
+    GstHarness *h = make_media();
     GstBus *bus = bus_of(h->element);
     CHECK(gst_harness_push(h, make_packet((packet){.length = GOZDRIT_MAX_PAYLOAD})) == GST_FLOW_OK);
     CHECK(!posted(bus, GST_MESSAGE_ERROR | GST_MESSAGE_WARNING));
