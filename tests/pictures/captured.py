@@ -204,7 +204,8 @@ def random_datagrams(seed):
             found.append(struct.pack(">BBHII", 0x81, 205, 2 + len(pairs), draw.randrange(2**32), draw.randrange(2**32))
                          + b"".join(struct.pack(">I", pair) for pair in pairs))
         else:
-            head = struct.pack(">BBHII", 0x80, draw.choice((96, 224)), draw.randrange(65536), draw.randrange(2**32), draw.randrange(2**32))
+            kind, number = draw.choice((96, 224)), draw.randrange(65536)
+            head = struct.pack(">BBHII", 0x80, kind, number, draw.randrange(2**32), draw.randrange(2**32))
             found.append(head + bytes(draw.randrange(256) for _ in range(draw.randrange(1, 60))))
     return found
 

@@ -143,7 +143,8 @@ def relay_rows():
     """Lines of relays that sim has not."""
     nack = "81cd00033333333311111111"
     log = f"5 session 11111111 96 - 97 9\n10 taken 65547 0\n11 ask 0 {nack}00090001\n11 lost 0\n20 taken 65545 0\n25 rtt 9\n" \
-          "26 play 65545 0 0 - - -\n27 gap 65546\n28 held\n29 held\n30 restarted 70000\n31 play 70000 0 0 - - -\n32 stray\n33 refused 1\n34 ta"
+          "26 play 65545 0 0 - - -\n27 gap 65546\n28 held\n29 held\n30 restarted 70000\n31 play 70000 0 0 - - -\n" \
+          "32 stray\n33 refused 1\n34 ta"
     run = relay.read(log.encode())
     checks.same("a signalled first number", run.held[0], (10, 3, 2))
     checks.same("asked places", run.marks["asked"], [(11, 65545), (11, 65546)])
@@ -163,7 +164,8 @@ def relay_rows():
 def random_script(seed):
     """Events in no order that a network would have."""
     draw = random.Random(seed)
-    lines = [f"config {draw.choice((0, 1, 65530, 65535))} 5 {draw.choice((1, 4, 64))} {draw.choice((2, 8, 64))} 40 {draw.choice((1, 20))} 3 2"]
+    first, history, window, retry = [draw.choice(some) for some in ((0, 1, 65530, 65535), (1, 4, 64), (2, 8, 64), (1, 20))]
+    lines = [f"config {first} 5 {history} {window} 40 {retry} 3 2"]
     wire, now = 0, 0
     for _ in range(draw.randrange(400)):
         now += draw.randrange(4)
