@@ -10,10 +10,20 @@ void feedback_wake(GstGozdritRecv *self) {
     g_cond_signal(&self->timer_cond);
 }
 
-void feedback_schedule(GstGozdritRecv *self) {
+/* The session's next moment. While downstream stands still, that is always the moment to play the next packet: then asks go on by
+ * steps of the times between them, as long as something is missing. */
+static gozdrit_moment next_moment(GstGozdritRecv *self, guint64 now) {
     gozdrit_moment next = {0};
-    if (!self->end.held || self->stalled) return;
-    gozdrit_next_moment(&self->end, &next);
+    gsize missing = 0;
+    if (!self->end.held) return next;
+    if (!self->stalled) gozdrit_next_moment(&self->end, &next);
+    else gozdrit_missing(&self->end, &missing);
+    if (missing > 0) next = (gozdrit_moment){now + receiving_step(self), 1};
+    return next;
+}
+
+void feedback_schedule(GstGozdritRecv *self) {
+    gozdrit_moment next = next_moment(self, receiving_now(self));
     if (next.known && next.moment < self->timer_moment) feedback_wake(self);
 }
 
@@ -49,8 +59,7 @@ static GstBuffer *next_nack(GstGozdritRecv *self, guint64 now) {
 
 /* Waits for the session's next moment, for a call, or, where there is none, for the latter alone. The lock is held. */
 static void wait_for_moment(GstGozdritRecv *self, guint64 now) {
-    gozdrit_moment next = {0};
-    if (self->end.held && !self->stalled) gozdrit_next_moment(&self->end, &next);
+    gozdrit_moment next = next_moment(self, now);
     if (next.known && next.moment <= now) return;
     self->timer_moment = next.known ? next.moment : G_MAXUINT64;
     if (!next.known) {

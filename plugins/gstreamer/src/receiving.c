@@ -271,6 +271,10 @@ static guint64 retry_of(const GstGozdritRecv *self) {
     return MAX(answer + SPREAD, MIN(answer + spread, share));
 }
 
+guint64 receiving_step(const GstGozdritRecv *self) {
+    return MAX(MIN(self->settings.delay, retry_of(self)), 1);
+}
+
 void receiving_set_times(GstGozdritRecv *self) {
     guint64 delay = self->caps.nack == 0 ? NEVER : self->settings.delay;
     if (self->end.held) gozdrit_set_times(&self->end, self->settings.latency, delay, retry_of(self));

@@ -125,6 +125,8 @@ void receiving_end(GstGozdritRecv *self);
 /* Forgets what is held, and where the packets' times lie. */
 void receiving_flush(GstGozdritRecv *self);
 void receiving_set_times(GstGozdritRecv *self);
+/* The least time between two asks, in milliseconds. */
+guint64 receiving_step(const GstGozdritRecv *self);
 void receiving_asked(GstGozdritRecv *self, guint16 number, guint64 now);
 GstStructure *receiving_counts(GstGozdritRecv *self);
 

@@ -257,8 +257,8 @@ static void install_properties(GObjectClass *class) {
     install_uint(class, PROP_EOS_DELAY, "eos-delay",
                  "How long feedback is answered behind the last packet, in ms, where feedback_sink is linked", 0, 60000, 500);
     install_uint(class, PROP_SILENCE_DELAY, "silence-delay",
-                 "How long no packet comes until the last one is repeated once, in ms, where feedback_sink is linked (0 == never)", 0,
-                 60000, 100);
+                 "How long no packet comes until the last one is repeated once, in ms, where feedback_sink is linked "
+                 "(0 == never)", 0, 60000, 100);
     g_object_class_install_property(
         class, PROP_STATS, g_param_spec_boxed("stats", NULL, "What was counted since the element began: the library's counts",
                                               GST_TYPE_STRUCTURE, (GParamFlags)(G_PARAM_READABLE | G_PARAM_STATIC_STRINGS)));

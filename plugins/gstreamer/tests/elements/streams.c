@@ -137,6 +137,33 @@ static void test_standstill(void) {
     drop_receiver(&r);
 }
 
+/* The same where all that downstream may have is ready for it, and what is missing came behind it. */
+static void test_full(void) {
+    receiver r = make_receiver(CAPS);
+    GstPad *src = gst_element_get_static_pad(r.element, "src");
+    gst_element_set_state(r.element, GST_STATE_NULL);
+    g_object_set(r.element, "max-size-packets", 8, NULL);
+    gst_element_set_state(r.element, GST_STATE_PLAYING);
+    gst_harness_set_src_caps_str(r.media, CAPS);
+    gulong probe = gst_pad_add_probe(src, GST_PAD_PROBE_TYPE_BLOCK | GST_PAD_PROBE_TYPE_BUFFER, block, NULL, NULL);
+    for (guint16 i = 0; i < 12; i++) SEND(&r, .sequence = i);
+    CHECK(is_silent(r.feedback) && !gst_harness_wait_for_clock_id_waits(r.media, 1, 0));
+    SEND(&r, .sequence = 13);
+    TICKS(&r, 20);
+    GstBuffer *nack = next_buffer(r.feedback);
+    CHECK(is_nack(nack, 12, 0));
+    gst_clear_buffer(&nack);
+    for (guint64 at = 40; at <= 80; at += 20) TICKS(&r, at);
+    nack = next_buffer(r.feedback);
+    CHECK(is_nack(nack, 12, 0));
+    gst_clear_buffer(&nack);
+    REPAIR(&r, 1, .sequence = 12);
+    gst_pad_remove_probe(src, probe);
+    for (guint16 i = 0; i < 14; i++) COMES(r.media, .sequence = i);
+    gst_object_unref(src);
+    drop_receiver(&r);
+}
+
 static GstFlowReturn refuse(GstPad *pad, GstObject *parent, GstBuffer *buffer) {
     (void)pad, (void)parent;
     gst_buffer_unref(buffer);
@@ -245,6 +272,7 @@ void test_streams(void) {
     test_end();
     test_flush();
     test_standstill();
+    test_full();
     test_error();
     test_bounded();
     test_bounded_late();
