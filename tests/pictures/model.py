@@ -153,6 +153,8 @@ def relay_rows():
     checks.same("a round-trip time", run.trips, [(25, 9)])
     checks.same("a restart", run.held[-2:], [(30, 1, 0), (31, 0, 0)])
     checks.same("the rest", run.counts, {"held": 2, "restarted": 1, "stray": 1, "refused": 1})
+    log = f"1 taken 65536 0\n2 taken 105536 0\n3 ask 0 {nack}00010000\n"
+    checks.same("an ask far below the highest place", relay.read(log.encode()).marks["asked"], [(3, 65537)])
     log = "1 sent 65537 0 00\n2 marked 3\n3 repair 65537 1 00\n3 lost 1\n4 tail 0\n5 tail 1\n6 unsent\n7 marked 2\n"
     run = relay.read(log.encode())
     checks.same("a sender's marks", (run.marks["lost"], run.repairs), ([(3, 65537)], [(3, 2)]))

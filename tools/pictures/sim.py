@@ -69,7 +69,7 @@ def read(log, script_data):
         where, moment = f"line {at}", event[-1]
         if letter == "D":
             delivered.add(event[0])
-        tell(run, where, moment, word, line, letter == "D" and run.on_wire.get(event[0], ("",))[0] == "retransmitted")
+        tell(run, where, moment, word, line, run.on_wire.get(event[0], ("",))[0] == "retransmitted")
     for index in sorted(set(run.on_wire) - delivered):
         run.lost(f"line {len(lines)}", index)
     run.patience = config[4]
