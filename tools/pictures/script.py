@@ -16,7 +16,7 @@ EVENTS = {
 
 
 def read(data):
-    """The configuration's numbers, and the events as pairs of a letter and its values with the moment behind them.
+    """The events as pairs of a letter and its values with the moment behind them.
 
     A send and a retransmission have no moment in a script: theirs is that of the last event above that has one, or, where
     none is above, of the first one below."""
@@ -25,7 +25,7 @@ def read(data):
         raise Refused("line 1", "a script begins with its config line")
     if lines[0][9:] == ["learn"]:
         lines[0].pop()
-    config = values("line 1", lines[0], {"config": CONFIG})
+    values("line 1", lines[0], {"config": CONFIG})
     events = [(words[0], values(f"line {at}", words, EVENTS)) for at, words in enumerate(lines[1:], 2)]
     if cut:
         raise Refused(f"line {len(lines) + 1}", "the last line lacks its line feed")
@@ -35,4 +35,4 @@ def read(data):
         if letter in "SR":
             found.append(now)
         now = found[-1]
-    return config, events
+    return events

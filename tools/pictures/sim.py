@@ -59,7 +59,7 @@ def find_shift(events, lines):
 def read(log, script_data):
     """The run that a log and its script tell."""
     try:
-        config, events = script.read(script_data)
+        events = script.read(script_data)
     except Refused as refused:
         raise Refused("the script", refused) from None
     lines = answers(log, events)
@@ -72,7 +72,6 @@ def read(log, script_data):
         tell(run, where, moment, word, line, run.on_wire.get(event[0], ("",))[0] == "retransmitted")
     for index in sorted(set(run.on_wire) - delivered):
         run.lost(f"line {len(lines)}", index)
-    run.patience = config[4]
     return run
 
 
