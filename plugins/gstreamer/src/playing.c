@@ -126,6 +126,20 @@ static void make_spare(GstGozdritRecv *self) {
     gst_buffer_map(self->spare, &self->map, GST_MAP_WRITE);
 }
 
+/* Sends the events on that wait for packets below this one. What the window dropped of these is told before the event that came
+ * behind them. */
+static void release_below(GstGozdritRecv *self, guint64 sequence) {
+    const held_event *first;
+    while ((first = g_queue_peek_head(&self->held)) && first->behind < sequence) {
+        guint64 behind = first->behind;
+        if (behind >= self->expected) {
+            count_lost(self, self->expected, (guint)MIN(behind + 1 - self->expected, G_MAXUINT16));
+            self->expected = behind + 1;
+        }
+        release(self, behind);
+    }
+}
+
 void playing_all(GstGozdritRecv *self, guint64 now) {
     gozdrit_played played;
     while (self->end.held) {
@@ -134,7 +148,7 @@ void playing_all(GstGozdritRecv *self, guint64 now) {
         make_spare(self);
         gint32 number = gozdrit_play(&self->end, now, &played, self->map.data + FRONT, GOZDRIT_MAX_PAYLOAD);
         if (number != GOZDRIT_OK || played.kind == GOZDRIT_WAIT) return;
-        if (played.sequence > 0) release(self, played.sequence - 1);
+        release_below(self, played.sequence);
         if (played.kind == GOZDRIT_GAP) count_lost(self, played.sequence, 1);
         else play_packet(self, &played);
         self->expected = played.sequence + 1;

@@ -292,7 +292,8 @@ static void gst_gozdrit_send_init(GstGozdritSend *self) {
     g_mutex_init(&self->lock);
     g_cond_init(&self->silence_cond);
     self->settings = (send_settings){.ssrc = SSRC_UNSET, .rtx_ssrc = SSRC_UNSET, .receiver_ssrc = SSRC_UNSET,
-                                     .rtx_type = RTX_TYPE, .first = -1, .history = 1024, .repeats = 8, .eos_delay = 500, .silence_delay = 100};
+                                     .rtx_type = RTX_TYPE, .first = -1, .history = 1024, .repeats = 8, .eos_delay = 500,
+                                     .silence_delay = 100};
     self->sink = add_pad(self, &sink_template);
     self->feedback = add_pad(self, &feedback_template);
     self->src = add_pad(self, &src_template);

@@ -69,6 +69,31 @@ static void test_end(void) {
     g_string_free(order, TRUE);
 }
 
+/* What the window drops is told before the event that came behind it, and what is dropped later, behind it. */
+static void test_dropped_order(void) {
+    receiver r = make_receiver(CAPS);
+    GString *order = g_string_new(NULL);
+    GstPad *src = gst_element_get_static_pad(r.element, "src");
+    gst_element_set_state(r.element, GST_STATE_NULL);
+    g_object_set(r.element, "max-size-packets", 4, NULL);
+    gst_element_set_state(r.element, GST_STATE_PLAYING);
+    gst_harness_set_src_caps_str(r.media, CAPS);
+    gst_pad_add_probe(src, GST_PAD_PROBE_TYPE_BUFFER | GST_PAD_PROBE_TYPE_EVENT_DOWNSTREAM, note_order, order, NULL);
+    SEND(&r, .sequence = 0);
+    COMES(r.media, .sequence = 0);
+    SEND(&r, .sequence = 3);
+    gst_harness_push_event(r.media, gst_event_new_custom(GST_EVENT_CUSTOM_DOWNSTREAM, gst_structure_new_empty("one")));
+    SEND(&r, .sequence = 8);
+    SEND(&r, .sequence = 7);
+    SEND(&r, .sequence = 6);
+    SEND(&r, .sequence = 5);
+    for (guint16 i = 5; i < 9; i++) COMES(r.media, .sequence = i);
+    CHECK(g_str_equal(order->str, "blllclbbbb"));
+    gst_object_unref(src);
+    drop_receiver(&r);
+    g_string_free(order, TRUE);
+}
+
 /* A flush forgets what is held, and another stream may follow; so it is after the end. */
 static void test_flush(void) {
     receiver r = make_receiver(CAPS);
@@ -270,6 +295,7 @@ static void test_wanted_again(void) {
 void test_streams(void) {
     test_event_order();
     test_end();
+    test_dropped_order();
     test_flush();
     test_standstill();
     test_full();
