@@ -32,9 +32,9 @@ def write(name, octets):
         os.umask(mask)
         os.chmod(part, 0o666 & ~mask)
         os.replace(part, name)
-    except OSError:
+    except OSError as fault:
         os.unlink(part)
-        raise
+        raise OSError(fault.errno, fault.strerror, name) from None
 
 
 def run(main):

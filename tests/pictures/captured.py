@@ -1,6 +1,8 @@
 #!/usr/bin/python3
 """Captures: each link and file format to a trace and back, cut and strange ones, and what tshark reads beside `rtxtool show`."""
+import os
 import random
+import resource
 import shutil
 import struct
 import subprocess
@@ -194,6 +196,18 @@ def refusals():
     checks.same("no folder", checks.tool("trace2pcap", checks.put("in", whole), checks.path("gone/none"))[0], 3)
 
 
+def full():
+    """A device that takes nothing more: what stands at the output stays, and no part of a file is left beside it."""
+    def limit():
+        resource.setrlimit(resource.RLIMIT_FSIZE, (10, 10))
+
+    os.mkdir(checks.path("full"))
+    out = checks.put("full/out", b"old")
+    came = checks.tool("trace2pcap", checks.put("in", trace(MEDIA)), out, preexec_fn=limit)
+    checks.same("a full device", (came, checks.get(out)), ((3, "", out + ": File too large\n"), b"old"))
+    checks.same("no part is left", os.listdir(checks.path("full")), ["out"])
+
+
 def random_datagrams(seed):
     """RTP packets and NACKs with drawn fields."""
     draw = random.Random(seed)
@@ -287,6 +301,7 @@ links()
 formats()
 strange()
 refusals()
+full()
 round_trips()
 if shutil.which("tshark") and checks.has_program():
     beside_tshark()
