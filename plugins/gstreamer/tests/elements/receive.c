@@ -35,7 +35,8 @@ static void test_order(void) {
     for (guint i = 0; i < G_N_ELEMENTS(sent); i++) SEND(&r, .sequence = sent[i], .fill = (guint8)sent[i]);
     for (guint16 i = 65534; i != 4; i++) COMES(r.media, .sequence = i, .fill = (guint8)i);
     CHECK(is_silent(r.media) && is_silent(r.feedback));
-    TICKS(&r, 20); /* when it would have asked for what was passed over; then nothing is missing, and no moment is waited for */
+    /* It may wait for the moment when it would have asked for what was passed over; then nothing is missing, and for none. */
+    if (gst_harness_wait_for_clock_id_waits(r.media, 1, 0)) TICKS(&r, 20);
     CHECK(is_silent(r.feedback) && !gst_harness_wait_for_clock_id_waits(r.media, 1, 0));
     CHECK(count_of(r.element, "duplicate") + count_of(r.element, "late") == 2 && count_of(r.element, "nacks") == 0);
     drop_receiver(&r);
