@@ -1,6 +1,7 @@
 """What the parts share: checks that are counted, ports, and relays as programs that are started, read and ended.
 
 A part is run as `PART PROGRAM`. Its last line is `N passed, M failed`."""
+import concurrent.futures
 import pathlib
 import re
 import shutil
@@ -69,7 +70,7 @@ class Relay:
     """A relay that runs: where it listens, what it says, what it logs."""
 
     def __init__(self, stage, side, *words, log=True):
-        self.side, self.began = side, time.monotonic()
+        self.side, self.began, self.lasted = side, time.monotonic(), None
         self.base = stage.room / f"relay{len(stage.relays)}"
         self.log = self.base.with_suffix(".log")
         words = [stage.program, side, *map(str, words), *(["--log", self.log] if log else [])]
@@ -91,9 +92,11 @@ class Relay:
     def status(self, seconds=LONG):
         """Its status, once it ended; None where it goes on."""
         try:
-            return self.run.wait(seconds)
+            status = self.run.wait(seconds)
         except subprocess.TimeoutExpired:
             return None
+        self.lasted = self.lasted or time.monotonic() - self.began
+        return status
 
     def stop(self, number=signal.SIGKILL):
         self.run.send_signal(number)
@@ -124,12 +127,11 @@ class Relay:
 
 
 class Stage:
-    """A folder, and the relays that run. It ends all of them where its block ends, also by SIGTERM."""
+    """A folder, and the relays that run. It ends all of them where its block ends."""
 
     def __init__(self, program):
         self.program, self.relays, self.closing = str(pathlib.Path(program).resolve()), [], []
         self.room = pathlib.Path(tempfile.mkdtemp())
-        signal.signal(signal.SIGTERM, lambda *_: sys.exit(1))
 
     def __enter__(self):
         return self
@@ -169,20 +171,28 @@ def ends(checks, name, *relays, seconds=LONG):
         checks.same(one.output(), "", f"{name}: the output of {one.side}")
 
 
-def part(*scenes):
-    """Runs the scenes of a part, each with the checks and a stage of its own. One that breaks is a check that fails."""
-    checks = Checks()
-    for scene in scenes:
-        began = time.monotonic()
-        try:
-            with Stage(sys.argv[1]) as stage:
-                scene(checks, stage)
-        except (RuntimeError, OSError, ValueError, LookupError, TypeError, AttributeError) as error:
-            where = error.__traceback__
-            while where.tb_next:
-                where = where.tb_next
-            place = f"{pathlib.Path(where.tb_frame.f_code.co_filename).name} line {where.tb_lineno}"
-            checks.count(False, f"{scene.__name__} broke in {place}: {type(error).__name__} {error}")
-        if "-v" in sys.argv:
-            print(f"{scene.__name__}: {time.monotonic() - began:.1f} seconds", flush=True)
+def scene(checks, play):
+    """Runs a scene of a part with a stage of its own. One that breaks is a check that fails."""
+    began = time.monotonic()
+    try:
+        with Stage(sys.argv[1]) as stage:
+            play(checks, stage)
+    except (RuntimeError, OSError, ValueError, LookupError, TypeError, AttributeError) as error:
+        where = error.__traceback__
+        while where.tb_next:
+            where = where.tb_next
+        place = f"{pathlib.Path(where.tb_frame.f_code.co_filename).name} line {where.tb_lineno}"
+        checks.count(False, f"{play.__name__} broke in {place}: {type(error).__name__} {error}")
+    if "-v" in sys.argv:
+        print(f"{play.__name__}: {time.monotonic() - began:.1f} seconds", flush=True)
+
+
+def part(*plays, beside=True):
+    """Runs the scenes of a part beside each other, since most of their time is waiting, or one after the other."""
+    signal.signal(signal.SIGTERM, lambda *_: sys.exit(1))
+    checks, began = Checks(), time.monotonic()
+    with concurrent.futures.ThreadPoolExecutor(len(plays) if beside else 1) as pool:
+        for one in [pool.submit(scene, checks, play) for play in plays]:
+            one.result()
+    print(f"{pathlib.Path(sys.argv[0]).stem}: {time.monotonic() - began:.0f} seconds")
     checks.tell()

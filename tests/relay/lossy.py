@@ -104,14 +104,17 @@ def seeds(checks, stage):
     for _, sender in runs:
         sender.status()
     first, again, other, everything, nothing = ([int(one[1]) for one in sender.logged("lost")] for _, sender in runs)
+    first, again, other = ([one for one in some if one < 400] for some in (first, again, other))
     checks.count(60 < len(first) < 180 and first == again, f"seed 7 loses {first[:9]}.. and {again[:9]}..")
     checks.count(first != other, f"seed 8 loses {other[:9]}..")
     came = [len(far.came) for far, _ in runs]
-    checks.same((came[3], everything, runs[3][1].counts().get("lost")), (0, list(range(401)), 401), "1000 of 1000 are lost")
-    checks.same((came[4], nothing, runs[4][1].counts().get("lost")), (401, [], 0), "0 of 1000 are lost")
-    checks.same(came[0], 401 - len(first), "what came where 300 of 1000 are lost")
-    checks.same([index(one) for one in runs[4][0].packets()[:400]], list(range(400)), "what came without a loss")
+    left = [400 + len(sender.logged("tail")) for _, sender in runs]
+    checks.same((came[3], everything, runs[3][1].counts().get("lost")), (0, list(range(left[3])), left[3]), "1000 of 1000 are lost")
+    checks.same((came[4], nothing, runs[4][1].counts().get("lost")), (left[4], [], 0), "0 of 1000 are lost")
+    checks.same(came[0], left[0] - len(runs[0][1].logged("lost")), "what came where 300 of 1000 are lost")
+    media = [index(one) for one in runs[4][0].packets() if one.ssrc == 0x1a2b3c4d]
+    checks.same(media, list(range(400)), "what came without a loss")
 
 
 if __name__ == "__main__":
-    part(long_run, version6, seeds)
+    part(long_run, version6, seeds, beside=False)

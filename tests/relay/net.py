@@ -8,7 +8,7 @@ import threading
 import time
 
 from base import soon
-from rtp import packet, parse
+from rtp import original, packet, parse
 
 ROOM = 4000000  # octets that the system may keep for a socket of a test
 MUCH = 60000  # octets that wait at a socket before more is sent to it
@@ -93,6 +93,16 @@ class End:
     def waits_for(self, count, seconds=40):
         """Waits until so many datagrams came, and tells whether they did."""
         return soon(lambda: len(self.came) >= count, seconds)
+
+
+def settled(far, number):
+    """Waits until the far side has the retransmission of the last packet, which a silent end makes, and gives how much came. Where
+    the machine halts an application, its stream was silent before, and an earlier packet was retransmitted too."""
+    def has_last():
+        last = far.packets()[-1] if far.came else None
+        return last and len(last.content.payload) >= 2 and last.ssrc != far.packets()[0].ssrc and original(last)[0] == number & 65535
+    soon(has_last)
+    return len(far.came)
 
 
 class Path:

@@ -39,7 +39,7 @@ def application(checks, stage):
 def foreign(checks, stage):
     """Packets of another SSRC are not sent until the stream was silent for a second; then they are."""
     name, far = "another SSRC", End(stage)
-    sender = stage.send(far.at, "--seconds", 5)
+    sender = stage.send(far.at, "--packets", 150)
     one, other = App(stage, sender.at, ssrc=1), App(stage, sender.at, ssrc=2)
     other_sent = []
     for i in range(340):

@@ -1,0 +1,82 @@
+#!/usr/bin/env python3
+"""How fast retransmissions leave, and that media does not wait for them.
+
+    rate.py PROGRAM"""
+import time
+
+from base import ends, part, soon
+from net import App, End, settled
+from rtp import index, nack, original, plain
+
+MEDIA, KIND = 0x1a2b3c4d, 97
+
+
+def burst(stage, many, length, *words):
+    """A sending relay that has sent so many packets, and its silent end's retransmission."""
+    far = End(stage)
+    sender = stage.send(far.at, "--packets", many, *words)
+    App(stage, sender.at, ssrc=MEDIA, number=0).stream(plain(many, length), 2000)
+    settled(far, many - 1)
+    return far, sender
+
+
+def asks(far, sender, many):
+    """Asks for all of them, and gives the seconds that their retransmissions took and the octets but for the first one's."""
+    before, began = len(far.came), time.monotonic()
+    far.send(nack(MEDIA, range(many)), ("127.0.0.1", sender.source[1]))
+    far.waits_for(before + many)
+    came = far.came[before:]
+    return (came[-1][0] if came else 0) - began, sum(len(one[2]) for one in came[1:])
+
+
+def paced(checks, stage):
+    """At 400 kilobits a second, fifty retransmissions of a thousand octets take a second: none leaves early, all leave in order."""
+    name = "400 kilobits"
+    far, sender = burst(stage, 50, 1000, "--rate", 400)
+    seconds, octets = asks(far, sender, 50)
+    checks.count(octets >= 49000, f"{name}: {octets} octets came")
+    checks.count(octets * 8 <= 400000 * seconds + 8 * 1100, f"{name}: {octets} octets in {seconds} seconds")
+    checks.count(seconds < 10, f"{name}: {octets} octets took {seconds} seconds")
+    checks.same([original(one)[0] for one in far.packets()[-50:]], list(range(50)), f"{name}: the order")
+    ends(checks, name, sender)
+    times = [(int(one.split()[0]), int(one.split()[3]), len(one.split()[4]) // 2) for one in sender.log.read_text().splitlines()
+             if one.split()[1] == "repair"][-50:]
+    early = [one for one in times if one[0] < times[0][0] + (one[1] - times[0][1]) * 1014 * 8 / 400 - 2]
+    checks.same((len(times), early[:2]), (50, []), f"{name}: retransmissions in the log, and those that left too early")
+
+
+def at_once(checks, stage):
+    """Without a rate they leave as fast as they are asked for."""
+    name, best = "no rate", 99
+    far, sender = burst(stage, 50, 1000)
+    for _ in range(5):
+        seconds, octets = asks(far, sender, 50)
+        checks.count(octets >= 49000, f"{name}: {octets} octets came")
+        best = min(best, seconds)
+    checks.count(best < 0.5, f"{name}: the best of five took {best} seconds")
+    ends(checks, name, sender)
+
+
+def media_first(checks, stage):
+    """At 8 kilobits a second a retransmission takes a second. Media that comes meanwhile leaves at once."""
+    name = "8 kilobits"
+    far, sender = burst(stage, 20, 1000, "--rate", 8)
+    app, first = App(stage, sender.at, ssrc=MEDIA, number=20), len(far.came)
+    far.send(nack(MEDIA, range(20)), ("127.0.0.1", sender.source[1]))
+    soon(lambda: sender.logged("marked"))
+    took = []
+    for one in plain(40, first=20):
+        before, began = len(far.came), time.monotonic()
+        app.send(one)
+        soon(lambda: any(other.ssrc == MEDIA for other in far.packets()[before:]), 5)
+        took.append(time.monotonic() - began)
+    checks.count(sorted(took)[20] < 0.1, f"{name}: a packet took {sorted(took)[20]} seconds in the mean, {max(took)} at most")
+    media = [index(one) for one in far.packets() if one.ssrc == MEDIA]
+    checks.same(media, list(range(60)), f"{name}: the media that left")
+    repaired = [one for one in far.packets()[first:] if one.ssrc != MEDIA]
+    checks.count(len(repaired) <= 2 + sum(took), f"{name}: {len(repaired)} retransmissions left in {sum(took)} seconds")
+    sender.stop()
+
+
+if __name__ == "__main__":
+    part(paced, at_once, media_first)
