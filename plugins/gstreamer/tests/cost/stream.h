@@ -1,5 +1,5 @@
-/* A stream of packets that is pushed through elements as a network would bring it: ten packets each millisecond, of which some
- * are lost and asked for. stream.c pushes it, and between.c makes what stands between its pads. */
+/* A stream of packets that is pushed through elements: to receivers as a network would bring it, ten packets each millisecond.
+ * Some are lost and asked for. stream.c pushes it, and between.c makes what stands between its pads. */
 #ifndef STREAM_H
 #define STREAM_H
 

@@ -21,7 +21,7 @@ static void test_whole_packet(void) {
     if (CHECK(out != NULL)) {
         CHECK(same_octets(out, buffer));
         CHECK(GST_BUFFER_PTS(out) == 5 * GST_SECOND && GST_BUFFER_DTS(out) == 4 * GST_SECOND);
-        CHECK(GST_BUFFER_FLAG_IS_SET(out, GST_BUFFER_FLAG_MARKER | GST_BUFFER_FLAG_DISCONT));
+        CHECK(GST_BUFFER_FLAG_IS_SET(out, GST_BUFFER_FLAG_MARKER) && GST_BUFFER_FLAG_IS_SET(out, GST_BUFFER_FLAG_DISCONT));
         gst_buffer_unref(out);
     }
     gst_buffer_unref(buffer);
