@@ -120,6 +120,8 @@ def formats():
     taken("a simple packet", section() + interface(101) + simple, [MEDIA], {"taken": 1})
     part = block(3, struct.pack("<I", len(packet)) + packet[:40])
     taken("a simple packet cut", section() + interface(101, most=40) + part, [], {"cut": 1})
+    for was, why in ((99, "cut"), (10, "no UDP")):
+        taken(f"ten octets of {was}", section() + interface(101) + enhanced(packet[:10], was=was), [], {why: 1})
     both = section() + interface(101) + enhanced(packet) + section(">") + interface(1, ">") + enhanced(ethernet(packet), 0, ">")
     taken("two sections", both, [MEDIA] * 2, {"taken": 2})
     taken("no packet", pcap(1, []), [], {"taken": 0})
@@ -140,6 +142,9 @@ def strange():
         ("a cut packet", (good[:-3], len(good)), [], "cut"),
         ("a cut packet of IPv6", (ip6(media)[:-3], 99), [], "cut"),
         ("a cut header", (good[:24], len(good)), [], "cut"),
+        ("a cut IP header", (good[:10], len(good)), [], "cut"),
+        ("ten octets that are whole", good[:10], [], "no UDP"),
+        ("all of it cut off", (b"", len(good)), [], "cut"),
         ("a UDP length too long", ip4(udp(MEDIA, length=99)), [], "cut"),
         ("a UDP length too short", ip4(udp(MEDIA, length=7)), [], "cut"),
         ("a UDP length within its packet", ip4(udp(MEDIA + b"x", length=8 + len(MEDIA))), [MEDIA], "taken"),
