@@ -32,7 +32,7 @@ fn relay(alloc: Global, packets: u64) -> Result<ReceiveRelay<RingWindow>, Fail> 
         64,
         local(FAR),
         local(PLAYER),
-        Numbering::new(),
+        Numbering::new(0x11111111),
         bounds,
     );
     made.map_err(|_| Fail::from("memory is ample"))

@@ -1,4 +1,5 @@
--- Which sequence numbers a player sees: the places' own, shifted so that they go on where a stream restarts.
+-- Which SSRC and which sequence numbers a player sees: one SSRC, and the places' own numbers, shifted so that they go on where a
+-- stream restarts.
 use Rattle.std.specs.Prelude.{ℕ, Bool, true, false, ◌+◌, ◌-◌, ◌%◌, Option, Some, None}
 use Rattle.places.specs.Place.{number}
 use Rattle.relays.specs.declared.numbering.Numbering.{Numbering}
@@ -16,6 +17,7 @@ numbered n place = numbered_by n.is_anew n.next ((number place + n.shift) % 6553
 abbrev pub numbered_after : Numbering → (place : ℕ) → Numbering
 numbered_after n place =
     record {
+      ssrc = n.ssrc;
       shift = (numbered n place + 65536 - number place) % 65536;
       next = Some ((numbered n place + 1) % 65536);
       is_anew = false;

@@ -24,7 +24,7 @@ use Rattle.relays.specs.declared.relay.Note.TheVariants as note
 use Rattle.relays.specs.declared.relay.Departure.{Departure}
 use Rattle.relays.specs.declared.relay.Turn.{Turn}
 use Rattle.relays.specs.Numbering.{numbered, numbered_after, anew}
-use Rattle.relays.specs.RoundTrip.{retry_of, delay_of, measured_by, passed_at}
+use Rattle.relays.specs.RoundTrip.{time_of, retry_of, delay_of, measured_by, passed_at}
 use Rattle.relays.specs.Leaving.{GoesTo, octets_of}
 
 -- what a relay is between two calls
@@ -35,7 +35,7 @@ pub record ReceiveSide : Type 0 where
   pub probation : Probation
   pub far : SocketAddr
   pub player : SocketAddr
-  pub numbering : Numbering  -- the sequence numbers that the player sees
+  pub numbering : Numbering  -- the SSRC and the sequence numbers that the player sees
   pub trip : RoundTrip  -- the round-trip time, and what it is measured by
   pub is_new : Bool  -- it was measured since the times were set
 
@@ -63,12 +63,12 @@ abbrev pub Hears : ReceiveSide → Side → (from : SocketAddr) → (octets : Li
 Hears old Far from octets now turn out new = HearsFar old from octets now turn.note turn.leaves new
 Hears old Near from octets now turn out new = (turn ≡ record { note = note.Stray; leaves = None }) × (new ≡ old)
 
--- What is played goes to the player: a packet with what it carried, under the media's SSRC and type and the next number; and nothing
--- where a place is given up.
+-- What is played goes to the player: a packet with what it carried, under the media's type, the player's SSRC and the next number;
+-- and nothing where a place is given up.
 abbrev pub PlaysOut : Played → ReceiveSide → Note → Option Departure → (out : List ℕ) → ReceiveSide → Type 0
 PlaysOut (Packet place content) old (note.Played p) (Some d) out new =
     (p ≡ place) × GoesTo d Near old.player
-    × RtpSpells (packet_of content 0 (numbered old.numbering place) old.core.config.session.media_type old.core.config.session.media_ssrc) (octets_of d out)
+    × RtpSpells (packet_of content 0 (numbered old.numbering place) old.core.config.session.media_type old.numbering.ssrc) (octets_of d out)
     × (new ≡ record old { core = receiver_passed (Packet place content) old.core; numbering = numbered_after old.numbering place; trip = passed_at old.trip place })
 PlaysOut (Gap place) old (note.Gap p) None out new = (p ≡ place) × (new ≡ record old { core = receiver_passed (Gap place) old.core; trip = passed_at old.trip place })
 PlaysOut played old n leaves out new = ⊥
@@ -82,7 +82,8 @@ pub record AsksFar (old : ReceiveSide) (now : ℕ) (d : Departure) (out : List �
   pub asks : AsksMost old.core.config (state_of old.core) now 256 (Some (record { items = octets_of d out })) (state_of new.core)
   pub goes : GoesTo d Far old.far
   pub rest : new ≡ record old { core = new.core; trip = new.trip }
-  pub smoothed : new.trip.smoothed ≡ old.trip.smoothed  -- which place is measured next is left open
+  pub smoothed : new.trip.smoothed ≡ old.trip.smoothed  -- which place is measured next, and in doubt or not, is left open
+  pub doubts : new.trip.doubts ≡ old.trip.doubts
 
 abbrev pub Asks : ReceiveSide → (now : ℕ) → Note → Option Departure → (out : List ℕ) → ReceiveSide → Type 0
 Asks old now note.Asked (Some d) out new = AsksFar old now d out new
@@ -97,7 +98,8 @@ TimedBy old delay retry new = new ≡ record old { is_new = false }
 -- what is done of its own: the times are set if something was measured, or else what is to be played is, or else what is due is
 -- asked for, or else nothing is to be done
 abbrev pub SpeaksAs : ReceiveSide → (now : ℕ) → Note → Option Departure → (out : List ℕ) → ReceiveSide → Type 0
-SpeaksAs old now note.Timed None out new = (old.is_new ≡ true) × TimedBy old (delay_of old.trip.smoothed) (retry_of old.trip.smoothed) new
+SpeaksAs old now (note.Timed time) None out new =
+    (old.is_new ≡ true) × (time ≡ time_of old.trip.smoothed) × TimedBy old (delay_of old.trip.smoothed) (retry_of old.trip.smoothed) new
 SpeaksAs old now (note.Played place) leaves out new = (old.is_new ≡ false) × PlaysOut (next_play old now) old (note.Played place) leaves out new
 SpeaksAs old now (note.Gap place) leaves out new = (old.is_new ≡ false) × PlaysOut (next_play old now) old (note.Gap place) leaves out new
 SpeaksAs old now note.Asked leaves out new = (old.is_new ≡ false) × (next_play old now ≡ Wait) × Asks old now note.Asked leaves out new

@@ -19,6 +19,6 @@ pub use outside::{Meeting, Octets, Outside, OutsideFault, Passage, Side};
 pub use pace::Pace;
 pub use receiving::ReceiveRelay;
 pub use relay::{Departure, Note, Relay, Turn};
-pub use round_trip::{RoundTrip, Smoothed};
+pub use round_trip::{Probe, RoundTrip, Smoothed};
 pub use sending::SendRelay;
 pub use stream::Stream;

@@ -4,10 +4,11 @@ ghost use Rattle.relays.specs.Numbering.{numbered, numbered_after, anew};
 
 use places::Place;
 
-/// The sequence numbers of what is played: a place's own, shifted so that they go on where a stream restarts. So what a player
-/// sees has holes where places were given up or overrun, and nowhere else.
+/// The SSRC and the sequence numbers of what is played. The numbers are the places' own, shifted so that they go on where a stream
+/// restarts. So what a player sees has one SSRC, and holes where places were given up or overrun, and nowhere else.
 #[derive(Clone, Copy, Debug, PartialEq, Eq)]
 pub struct Numbering {
+    ssrc: u32,
     /// How far a number lies above the place's own, modulo 65536.
     shift: u16,
     /// The number after that of the last packet, once there was one.
@@ -17,11 +18,12 @@ pub struct Numbering {
 }
 
 impl Numbering {
-    /// Numbers as the places have them.
-    pub fn new() -> Numbering
-        ensures { result ≡ record { shift = 0; next = None; is_anew = false } }
+    /// This SSRC, and numbers as the places have them.
+    pub fn new(ssrc: u32) -> Numbering
+        ensures { result ≡ record { ssrc = ssrc; shift = 0; next = None; is_anew = false } }
     {
         Numbering {
+            ssrc,
             shift: 0,
             next: None,
             is_anew: false,
@@ -33,6 +35,13 @@ impl Numbering {
         ensures { self.new ≡ anew self.old }
     {
         self.is_anew = true;
+    }
+
+    /// The SSRC that the player sees.
+    pub fn ssrc(&self) -> u32
+        ensures { result ≡ self.now.ssrc }
+    {
+        self.ssrc
     }
 
     /// The number of the next packet, which has this place.

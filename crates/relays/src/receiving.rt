@@ -1,9 +1,10 @@
 //! The relay behind a network that loses.
-ghost use Rattle.std.specs.Prelude.{◌≡◌, ◌≤◌, ◌<◌, ℕ, List, length, None, IfSome, IfOk, take, true};
+ghost use Rattle.std.specs.Prelude.{◌≡◌, ◌↔◌, ◌+◌, ◌≤◌, ◌<◌, ℕ, List, length, None, IfSome, IfOk, IsOk, OnErr, OnOk, take, true};
 ghost use Rattle.receiver.specs.declared.answer.Played.TheVariants.{Wait};
 ghost use Rattle.rtpwire.specs.declared.limits.TheConstants.{MAX_DATAGRAM};
 ghost use Rattle.rtpwire.specs.Rtp.{RtpSpells};
 ghost use Rattle.rtpwire.specs.Content.{packet_of};
+ghost use Rattle.receiver.specs.Receiver.{begun, state_of};
 ghost use Rattle.endpoint.specs.Receiving.{fresh, no_run};
 ghost use Rattle.relays.specs.Passing.{IsWithin};
 ghost use Rattle.relays.specs.RoundTrip.{measured_by};
@@ -16,7 +17,7 @@ use crate::relay::{Departure, Note, Relay, Turn, silent};
 use crate::round_trip::RoundTrip;
 use endpoint::{Heard, Probation, ReceiveCounts, ReceivingEndpoint};
 use places::near;
-use receiver::{Peeked, ReceiveFault, ReceiverConfig};
+use receiver::{HasStarted, Peeked, ReceiveFault, ReceiverConfig};
 use rtpwire::{Carried, Content, MAX_DATAGRAM, Session, media_len, u16_at, write_media_into};
 use std::alloc::Global;
 use std::net::SocketAddr;
@@ -99,6 +100,32 @@ impl<W: Window> ReceiveRelay<W> {
             .end(counts.played.saturating_add(counts.gaps), self.last)
     }
 
+    /// Has the stream begin with this sequence number: so what is lost before the first packet that comes is asked for too.
+    ///
+    /// `HasStarted` (40): a packet was taken already, or it began before. The relay is then as it was.
+    pub fn begin(&mut self, first: u16) -> Result<(), HasStarted>
+        ensures ok { OnOk result (self.new.endpoint.core ≡ begun self.old.endpoint.core (65536 + first)) }
+        ensures unstarted { IsOk result ↔ (state_of self.old.endpoint.core ≡ None) }
+        ensures err { OnErr result (self.new ≡ self.old) }
+        ensures rest { self.new ≡ record self.old { endpoint = self.new.endpoint } }
+    {
+        self.endpoint.begin(first)
+    }
+
+    /// The address of the far side.
+    pub fn far(&self) -> SocketAddr
+        ensures { result ≡ self.now.far }
+    {
+        self.far
+    }
+
+    /// The session that it takes.
+    pub fn session(&self) -> Session
+        ensures { result ≡ self.now.endpoint.core.config.session }
+    {
+        self.endpoint.core().config().session()
+    }
+
     /// Hears a datagram at the far side's socket.
     fn hear_far(&mut self, from: SocketAddr, octets: &[u8], now: u64) -> Turn
         ensures hears { HearsFar (receive_side self.old.endpoint.core self.old.endpoint.spare self.old.endpoint.run self.old.endpoint.probation self.old.far self.old.player self.old.numbering self.old.trip self.old.is_new) from octets.now now result.note result.leaves
@@ -128,7 +155,7 @@ impl<W: Window> ReceiveRelay<W> {
             let patience = self.endpoint.core().config().patience();
             let _ = self.endpoint.set_times(patience, delay, retry);
         }
-        silent(Note::Timed)
+        silent(Note::Timed(self.trip.time()))
     }
 
     /// Plays, and writes what goes to the player.
@@ -151,7 +178,13 @@ impl<W: Window> ReceiveRelay<W> {
             }
             Peeked::Packet(place, content) => {
                 let session = self.endpoint.core().config().session();
-                let len = write(content, self.numbering.number(place), &session, out);
+                let len = write(
+                    content,
+                    self.numbering.number(place),
+                    &session,
+                    self.numbering.ssrc(),
+                    out,
+                );
                 self.endpoint.pass(now);
                 self.numbering.play(place);
                 self.trip.pass(place);
@@ -195,15 +228,27 @@ impl<W: Window> ReceiveRelay<W> {
         }
     }
 
-    /// Has the round-trip time measured by the first place of a NACK, if that asks for it for the first time.
+    /// Has the round-trip time measured by the first place of a NACK, if that asks for it for the first time and no other one is
+    /// measured. One that was asked for again is in doubt.
     fn probe(&mut self, nack: &[u8], now: u64)
         ensures rest { self.new ≡ record self.old { trip = self.new.trip } }
         ensures smoothed { self.new.trip.smoothed ≡ self.old.trip.smoothed }
+        ensures doubts { self.new.trip.doubts ≡ self.old.trip.doubts }
     {
         let window = self.endpoint.core().window();
         let Some(highest) = window.highest() else {
             return;
         };
+        if let Some(place) = self.trip.place() {
+            if let Some(SlotRef::Missing { asks, .. }) = window.slot(place) {
+                if asks > 1 {
+                    self.trip.doubt();
+                }
+                return;
+            }
+            // It has left the window, and no retransmission of it is taken any more.
+            self.trip.pass(place);
+        }
         if nack.len() < 14 {
             return;
         }
@@ -236,23 +281,16 @@ fn measure(trip: &mut RoundTrip, answer: &Result<Heard, ReceiveFault>, now: u64)
 }
 
 /// Writes a packet for the player, and answers how many octets it has.
-fn write(content: &Content, number: u16, session: &Session, out: &mut [u8]) -> usize
+fn write(content: &Content, number: u16, session: &Session, ssrc: u32, out: &mut [u8]) -> usize
     requires { length out.old ≡ MAX_DATAGRAM }
-    ensures spells { RtpSpells (packet_of content.now 0 number session.now.media_type session.now.media_ssrc) (take result out.new) }
+    ensures spells { RtpSpells (packet_of content.now 0 number session.now.media_type ssrc) (take result out.new) }
     ensures within { result ≤ MAX_DATAGRAM }
     ensures room { length out.new ≡ MAX_DATAGRAM }
 {
     let carried = Carried::of_content(content);
     let len = media_len(&carried, 0);
     prove!(len <= out.len());
-    write_media_into(
-        out,
-        &carried,
-        0,
-        number,
-        session.media_type(),
-        session.media_ssrc(),
-    )
+    write_media_into(out, &carried, 0, number, session.media_type(), ssrc)
 }
 
 impl<W: Window> Relay for ReceiveRelay<W> {

@@ -11,7 +11,7 @@ use endpoint::{Heard, Told};
 use fbwire::FeedbackFault;
 use places::Place;
 use receiver::ReceiveFault;
-use rtpwire::MAX_DATAGRAM;
+use rtpwire::{MAX_DATAGRAM, Session};
 use sender::Marked;
 use std::net::SocketAddr;
 
@@ -32,8 +32,10 @@ pub enum Note {
     Marked(Marked),
     /// The receiving endpoint heard a datagram of the far side.
     Heard(Result<Heard, ReceiveFault>),
-    /// The receiving endpoint has other times.
-    Timed,
+    /// The receiving endpoint has other times. They follow this round-trip time, in milliseconds.
+    Timed(Option<u64>),
+    /// A session was learnt: its streams, the first sequence number of its media, and its far side.
+    Began(Session, u16, SocketAddr),
     /// The packet of this place was played.
     Played(Place),
     /// This place was given up.

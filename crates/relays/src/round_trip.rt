@@ -1,11 +1,15 @@
 //! How long a retransmission takes, and what follows from it.
 ghost use Rattle.std.specs.Prelude.{◌≡◌, ◌<◌, IfSome};
-ghost use Rattle.relays.specs.RoundTrip.{smoothed_with, probed, heard_at, passed_at, measured_none, retry_of, delay_of};
+ghost use Rattle.std.specs.Option.{option_map};
+ghost use Rattle.relays.specs.RoundTrip.{smoothed_with, probed, doubted, heard_at, passed_at, measured_none, time_of, retry_of, delay_of};
 
 use places::Place;
 
 /// The longest time that is measured, in milliseconds: a minute.
 const LONGEST: u64 = 60000;
+
+/// So many measurements in doubt are passed over in a row. The next one counts.
+const DOUBTS: u64 = 3;
 
 /// A time and its variation, as they are smoothed.
 #[derive(Clone, Copy, Debug, PartialEq, Eq)]
@@ -16,15 +20,27 @@ pub struct Smoothed {
     pub variation: u64,
 }
 
+/// A place whose retransmission is waited for.
+#[derive(Clone, Copy, Debug, PartialEq, Eq)]
+pub struct Probe {
+    pub place: Place,
+    /// The moment at which it was asked for, for the first time.
+    pub asked: u64,
+    /// Whether it was asked for again: which ask a retransmission answers is not known then.
+    pub in_doubt: bool,
+}
+
 /// How a round-trip time is measured: from the first ask for a place to its retransmission, one place at a time; and smoothed as
-/// RFC 6298, section 2, has it. Where the place was asked for again meanwhile the time may be too long, and is never too short: so it
-/// is also found where places were asked for again too soon. Times are in milliseconds.
+/// RFC 6298, section 2, has it. Where the place was asked for again the time is in doubt, and is passed over (section 3, Karn's
+/// algorithm). But it is never too short: so each fourth one in a row counts, since else a time that is longer than what is waited
+/// for was never found. Times are in milliseconds.
 #[derive(Clone, Copy, Debug, PartialEq, Eq)]
 pub struct RoundTrip {
-    /// The place that is measured, and the moment at which it was asked for.
-    probe: Option<(Place, u64)>,
+    probe: Option<Probe>,
     /// None before the first measurement.
     smoothed: Option<Smoothed>,
+    /// How many measurements in doubt were passed over since one counted.
+    doubts: u64,
 }
 
 impl RoundTrip {
@@ -35,6 +51,17 @@ impl RoundTrip {
         RoundTrip {
             probe: None,
             smoothed: None,
+            doubts: 0,
+        }
+    }
+
+    /// The place that is measured.
+    pub fn place(&self) -> Option<Place>
+        ensures { result ≡ option_map (λ p. p.place) self.now.probe }
+    {
+        match self.probe {
+            Some(probe) => Some(probe.place),
+            None => None,
         }
     }
 
@@ -43,7 +70,23 @@ impl RoundTrip {
         ensures { self.new ≡ probed self.old place now }
     {
         if self.probe.is_none() {
-            self.probe = Some((place, now));
+            self.probe = Some(Probe {
+                place,
+                asked: now,
+                in_doubt: false,
+            });
+        }
+    }
+
+    /// The place that is measured was asked for again.
+    pub fn doubt(&mut self)
+        ensures { self.new ≡ doubted self.old }
+    {
+        if let Some(probe) = self.probe {
+            self.probe = Some(Probe {
+                in_doubt: true,
+                ..probe
+            });
         }
     }
 
@@ -51,15 +94,20 @@ impl RoundTrip {
     pub fn hear(&mut self, place: Place, now: u64) -> bool
         ensures { (result, self.new) ≡ heard_at self.old place now }
     {
-        let Some((probe, asked)) = self.probe else {
+        let Some(probe) = self.probe else {
             return false;
         };
-        if probe != place {
+        if probe.place != place {
             return false;
         }
-        let time = now.saturating_sub(asked).min(LONGEST);
-        self.smoothed = Some(smoothed_with(self.smoothed, time));
         self.probe = None;
+        if probe.in_doubt && self.doubts < DOUBTS {
+            self.doubts += 1;
+            return false;
+        }
+        let time = now.saturating_sub(probe.asked).min(LONGEST);
+        self.smoothed = Some(smoothed_with(self.smoothed, time));
+        self.doubts = 0;
         true
     }
 
@@ -67,11 +115,19 @@ impl RoundTrip {
     pub fn pass(&mut self, place: Place)
         ensures { self.new ≡ passed_at self.old place }
     {
-        if let Some((probe, _)) = self.probe {
-            if probe == place {
+        if let Some(probe) = self.probe {
+            if probe.place == place {
                 self.probe = None;
             }
         }
+    }
+
+    /// The smoothed time, in milliseconds, where it was measured.
+    pub fn time(&self) -> Option<u64>
+        ensures { result ≡ time_of self.now.smoothed }
+    {
+        let smoothed = self.smoothed?;
+        Some(smoothed.time / 8)
     }
 
     /// How long to wait for a retransmission before it is asked for again, in milliseconds, where that was measured: the
