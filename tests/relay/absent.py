@@ -58,7 +58,7 @@ def leaves(checks, stage):
     """The far side leaves where packets are missing. What is missing is given up after the patience, and the bound is met."""
     name, player = "a far side that leaves", End(stage)
     receiver = stage.receive(player.at, "--packets", 100, "--latency", 500)
-    path = Path(stage, receiver.at, lambda way, octets: None if way == "back" or parse(octets).number % 10 == 5 else 0)
+    path = Path(stage, receiver.at, lambda way, octets: () if way == "back" or parse(octets).number % 10 == 5 else (0,))
     sender = stage.send(path.at)
     App(stage, sender.at, number=0).stream(plain(100), 1000)
     soon(lambda: len(sender.logged("sent")) == 100)

@@ -125,7 +125,8 @@ def statistics(checks, stage):
     for relay, word in ((sender, "sent"), (receiver, "played")):
         found = relay.errors().splitlines()[1:]
         counts = [counts_of(one, relay.side) for one in found if not one.startswith("session 1a2b3c4d ")]
-        checks.count(len(counts) == len(found) - 1 and 4 <= len(counts) <= relay.lasted + 2 and all(counts), f"lines of {relay.side}: {found}")
+        good = len(counts) == len(found) - 1 and 4 <= len(counts) <= relay.lasted + 2 and all(counts)
+        checks.count(good, f"lines of {relay.side}: {found}")
         numbers = [one[word] for one in counts if one]
         rises = numbers == sorted(numbers) and numbers[0] < numbers[-1] == 150
         checks.count(rises, f"the counts of {relay.side} rise: {numbers}")

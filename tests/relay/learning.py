@@ -108,6 +108,18 @@ def first(checks, stage):
     checks.same(receiver.logged("session"), [["session", "1a2b3c4d", "96", "-", "97", "65535"]], "a first number: the log")
 
 
+def burst(checks, stage):
+    """Of 299 missing places the first 256 are asked for in one datagram, and the others in the next one."""
+    player = End(stage)
+    far, receiver = plays(stage, player, [(96, 65400, SSRC), (96, 65400 + 300 & 65535, SSRC)], "--latency", 20000)
+    checks.count(far.waits_for(2), f"a burst: {len(far.came)} NACKs came")
+    missing = [65400 + i & 65535 for i in range(1, 300)]
+    asked = [nacked(one) for one in far.octets()[:2]]
+    checks.same([one and one[2] for one in asked], [missing[:256], missing[256:]], "a burst: what is asked for")
+    checks.same({one and one[1] for one in asked}, {SSRC}, "a burst: the media")
+    receiver.stop()
+
+
 def retransmissions(checks, stage):
     """Which retransmissions are taken, by their SSRC and type."""
     runs = []
@@ -155,14 +167,14 @@ def round_trip(checks, stage):
     """A round-trip time is measured where there is one."""
     player = End(stage)
     receiver = stage.receive(player.at, "--packets", 300, "--latency", 3000)
-    path = Path(stage, receiver.at, lambda way, octets: None if way == "forth" and lost(octets) else 0.06)
+    path = Path(stage, receiver.at, lambda way, octets: () if way == "forth" and lost(octets) else (0.06,))
     sender = stage.send(path.at, "--packets", 300)
     App(stage, sender.at, number=0).stream(plain(300), 300)
     ends(checks, "a round trip", sender, receiver)
     counts = receiver.counts()
     checks.count(counts.get("rtt") is not None and 118 <= counts["rtt"] < 1000, f"a round trip of 120 milliseconds: {counts}")
     checks.same([index(one) for one in player.packets()], list(range(300)), "a round trip: what is played")
-    asks = [nacked(octets)[2] for way, octets, _ in path.passed if way == "back"]
+    asks = [nacked(octets)[2] for way, octets in path.passed if way == "back"]
     checks.count(len(asks) == counts.get("asked") and len(set(sum(asks, []))) == 30, f"a round trip: {len(asks)} asks: {counts}")
     checks.count(receiver.logged("rtt") and all(int(one[1]) >= 118 for one in receiver.logged("rtt")), f"{receiver.logged('rtt')[:3]}")
 
@@ -174,4 +186,4 @@ def lost(octets):
 
 
 if __name__ == "__main__":
-    part(types, sending, one_type, choosing, first, retransmissions, patience, window, round_trip)
+    part(types, sending, one_type, choosing, first, burst, retransmissions, patience, window, round_trip)

@@ -107,10 +107,10 @@ def settled(far, number):
 
 class Path:
     """A path between the relays: what comes to `at` goes on to `to`, and what comes back goes to who sent last. The rule is asked
-    of each datagram, by its way ("forth" or "back") and its octets, and gives a delay in seconds, or None to lose it. All is kept
-    in `passed`: the way, the octets, and whether it went on."""
+    of each datagram, by its way ("forth" or "back") and its octets, and gives the delays of its copies in seconds, none to lose it.
+    All is kept in `passed`: the way and the octets."""
 
-    def __init__(self, stage, to, rule=lambda way, octets: 0):
+    def __init__(self, stage, to, rule=lambda way, octets: (0,)):
         self.front, self.rear, self.rule, self.to = udp(), udp(), rule, to[:2]
         self.at, self.home, self.passed, self.open = self.front.getsockname(), None, [], True
         self.thread = threading.Thread(target=self.carry, daemon=True)
@@ -125,9 +125,8 @@ class Path:
                 octets, source = one.recvfrom(65536)
                 way = "forth" if one is self.front else "back"
                 self.home = source if way == "forth" else self.home
-                delay = self.rule(way, octets)
-                self.passed.append((way, octets, delay is not None))
-                if delay is not None:
+                self.passed.append((way, octets))
+                for delay in self.rule(way, octets):
                     heapq.heappush(under, (time.monotonic() + delay, next(order), way, octets))
             while under and under[0][0] <= time.monotonic():
                 _, _, way, octets = heapq.heappop(under)
