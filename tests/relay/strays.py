@@ -25,7 +25,9 @@ def no_packets(seed):
     made += [bytes([0xa0]) + HEAD[1:] + b"four" + bytes([count]) for count in (0, 7, 255)]
     made += [packet(97, 9, MEDIA, Content(5, 0, b"of another type")), packet(96, 9, OTHER, Content(5, 0, b"of another source"))]
     made += [packet(97, 9, MEDIA + 1, Content(5, 0, b"")), packet(97, 9, MEDIA + 1, Content(5, 0, b"\0"))]
-    made += [bytes([draw.choice((0x00, 0x40, 0xc0)) | draw.getrandbits(6)]) + draw.randbytes(draw.randrange(1500)) for _ in range(200)]
+    for _ in range(200):  # of another version, and no RTCP
+        front = draw.choice((0x00, 0x40, 0xc0)) | draw.getrandbits(6), draw.getrandbits(7)
+        made.append(bytes(front) + draw.randbytes(draw.randrange(1500)))
     draw.shuffle(made)
     return made
 

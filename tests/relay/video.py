@@ -9,13 +9,14 @@ import signal
 import subprocess
 
 from base import ends, part, soon
-from net import Path, queued, udp
+from net import ROOM, Path, queued, udp
 
 FRAMES, RATE = 150, 15
 TAIL = 15  # frames behind those that are compared: a decoder keeps the last ones back until more comes
 PATIENCE = ("--latency", 3000)  # on a busy machine too every packet is there in time
 # Noise, so that each frame takes packets.
 CLIP = f"testsrc2=size=320x240:rate={RATE}:duration={(FRAMES + TAIL) // RATE},noise=alls=30:allf=t"
+SLOW = "-b:v", "1000k", "-maxrate", "1000k", "-bufsize", "200k"  # a frame has few enough packets for the relay's socket
 
 
 def lossy(seed):
@@ -90,14 +91,16 @@ def clip(stage, name, *codec):
     return path, frames_of(out)
 
 
-def compare(checks, name, relay, rule, wanted, came):
+def compare(checks, name, relays, wanted, came):
     """Each frame, and that something was lost and repaired at all."""
+    (sender, relay, rule), dropped = relays, queued({relays[0].at[1]})[1]
     counts = relay.logged("play"), relay.logged("gap"), {one[1] for one in relay.logged("taken")}
     wanted, came = wanted[:FRAMES], came[:FRAMES]
     same = sum(one == other for one, other in zip(wanted, came))
     checks.count(len(set(wanted)) == FRAMES, f"{name}: the clip has {len(set(wanted))} frames that differ")
     print(f"{name}: {same} of {len(wanted)} frames are bit-exact; {len(counts[0])} packets, {rule.lost} datagrams lost", flush=True)
     checks.count(came == wanted, f"{name}: {same} of {len(wanted)} frames are bit-exact")
+    checks.count(dropped == 0 and sender.run.poll() is None, f"{name}: the system dropped {dropped} packets before the relay")
     checks.count(rule.lost * 20 > len(counts[0]) > FRAMES and not counts[1], f"{name}: {rule.lost} lost, gaps {counts[1][:3]}")
 
 
@@ -111,18 +114,19 @@ def gstreamer(checks, stage):
     launch = "gst-launch-1.0", "-q", "-e"
     run(stage, *launch, *f"filesrc location={path} ! matroskademux ! {decode}{raw}0".split()).wait(120)
     player = port_pair()
-    sender, receiver, rule = relays(stage, player)
+    both = relays(stage, player)
+    listen = f"udpsrc address=127.0.0.1 port={player} buffer-size={ROOM}"
     caps = "application/x-rtp,media=video,clock-rate=90000,payload=96,encoding-name=VP8"
-    decoder = run(stage, *launch, *f"udpsrc address=127.0.0.1 port={player} caps={caps} ! rtpvp8depay ! {decode}{raw}1".split())
+    decoder = run(stage, *launch, *f"{listen} caps={caps} ! rtpvp8depay ! {decode}{raw}1".split())
     soon(lambda: bound(player))
     source = f"filesrc location={path} ! matroskademux ! clocksync ! rtpvp8pay pt=96 mtu=1200 ! udpsink host=127.0.0.1"
-    run(stage, *launch, *f"{source} port={sender.at[1]} sync=false async=false".split()).wait(120)
+    run(stage, *launch, *f"{source} port={both[0].at[1]} sync=false async=false".split()).wait(120)
     soon(lambda: pathlib.Path(f"{raw}1").stat().st_size >= FRAMES * size)
     decoder.send_signal(signal.SIGINT)
     decoder.wait(30)
     frames = [[octets[at:at + size] for at in range(0, len(octets), size)]
               for octets in (pathlib.Path(f"{raw}{i}").read_bytes() for i in (0, 1))]
-    compare(checks, name, receiver, rule, *frames)
+    compare(checks, name, both, *frames)
 
 
 def bound(port):
@@ -135,21 +139,22 @@ def ffmpeg(checks, stage):
     if lacks("ffmpeg"):
         return
     name, sdp = "FFmpeg's H.264", stage.room / "stream.sdp"
-    path, wanted = clip(stage, "h264.mkv", "-c:v", "libx264", "-tune", "zerolatency", "-g", "30", "-b:v", "1500k")
+    path, wanted = clip(stage, "h264.mkv", "-c:v", "libx264", "-tune", "zerolatency", "-g", "30", *SLOW)
     player = port_pair()
-    sender, receiver, rule = relays(stage, player)
+    both = relays(stage, player)
     words = ("-c", "copy", "-sdp_file", sdp, "-f", "rtp")
-    to = f"rtp://127.0.0.1:{sender.at[1]}?pkt_size=1200"
+    to = f"rtp://127.0.0.1:{both[0].at[1]}?pkt_size=1200"
     run(stage, "ffmpeg", "-nostdin", "-y", "-i", path, "-t", "0.1", *words, f"rtp://127.0.0.1:{port_pair()}").wait(60)
     text = sdp.read_text()
     sdp.write_text("".join(f"m=video {player} RTP/AVP 96\n" if one.startswith("m=video") else one + "\n" for one in text.splitlines()))
-    out, decoder = hashes(stage, sdp, "came.md5", "-protocol_whitelist", "file,udp,rtp", "-reorder_queue_size", "0")
+    out, decoder = hashes(stage, sdp, "came.md5", "-protocol_whitelist", "file,udp,rtp", "-reorder_queue_size", "0",
+                          "-buffer_size", ROOM)
     soon(lambda: bound(player))
     run(stage, "ffmpeg", "-nostdin", "-y", "-re", "-i", path, *words, to).wait(120)
     soon(lambda: len(frames_of(out)) >= FRAMES)
     decoder.send_signal(signal.SIGINT)
     decoder.wait(30)
-    compare(checks, name, receiver, rule, wanted, frames_of(out))
+    compare(checks, name, both, wanted, frames_of(out))
 
 
 def guarded(play):
