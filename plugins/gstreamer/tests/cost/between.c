@@ -92,7 +92,7 @@ typedef struct middle {
 } middle;
 
 static const middle OURS[] = {
-    {"gozdritrecv name=last rtx-ssrc=572662306 max-size-packets=2048 latency=1000", "src", "feedback_src"},
+    {"gozdritrecv name=last rtx-ssrc=572662306 max-size-packets=8192 latency=1000", "src", "feedback_src"},
     {"gozdritsend name=last rtx-ssrc=572662306 max-size-packets=1024", "src", "feedback_sink"},
 };
 static const middle THEIRS[] = {

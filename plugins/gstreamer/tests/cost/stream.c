@@ -6,6 +6,9 @@
 
 /* ---- times */
 
+/* What is later than that is not made up for. */
+#define LATE (5 * (guint64)GST_MSECOND)
+
 static guint64 nanoseconds_of(clockid_t clock) {
     struct timespec now;
     clock_gettime(clock, &now);
@@ -14,9 +17,12 @@ static guint64 nanoseconds_of(clockid_t clock) {
 
 guint64 milliseconds(void) { return nanoseconds_of(CLOCK_MONOTONIC) / GST_MSECOND; }
 
-static void sleep_until(guint64 moment) {
+/* Sleeps until a moment, and gives how late it was then: where others held the process up, the stream goes on from there. */
+static guint64 sleep_until(guint64 moment) {
     struct timespec until = {(time_t)(moment / GST_SECOND), (long)(moment % GST_SECOND)};
     while (clock_nanosleep(CLOCK_MONOTONIC, TIMER_ABSTIME, &until, NULL) != 0) {}
+    guint64 late = nanoseconds_of(CLOCK_MONOTONIC) - moment;
+    return late > LATE ? late : 0;
 }
 
 /* ---- packets */
@@ -115,7 +121,7 @@ gdouble push_stream(stream *s) {
     guint end = s->packets + 20 * TRIP * BURST;
     for (guint first = 0; first < end; first += BURST) {
         if (first == WARM) spent = nanoseconds_of(CLOCK_PROCESS_CPUTIME_ID);
-        if (!s->sends) sleep_until(began + first / BURST * GST_MSECOND);
+        if (!s->sends) began += sleep_until(began + first / BURST * GST_MSECOND);
         push_burst(s, first, first >= s->packets);
     }
     if (s->sends) g_usleep(20 * TRIP * 1000);
