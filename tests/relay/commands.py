@@ -2,6 +2,8 @@
 """The command line, faults with their words and statuses, help, lines of counts, and the log of a relay that is killed.
 
     commands.py PROGRAM"""
+import contextlib
+import os
 import pathlib
 import re
 import signal
@@ -135,6 +137,21 @@ def statistics(checks, stage):
     checks.same(len(quiet.errors().splitlines()), 2, "lines without --stats")
 
 
+def terminal(checks, stage):
+    """Where the error output is a terminal there is a line of counts each second."""
+    for side in SIDES:
+        ours, theirs = os.openpty()
+        one = subprocess.Popen([stage.program, side, *PLACES, "--seconds", "3"], stdin=theirs, stdout=theirs, stderr=theirs)
+        os.close(theirs)
+        said = b""
+        with contextlib.suppress(OSError):  # which is how a terminal ends
+            while piece := os.read(ours, 4096):
+                said += piece
+        os.close(ours)
+        found = [counts_of(line.strip(), side) for line in said.decode().splitlines()[1:]]
+        checks.count(one.wait(60) == 0 and 3 <= len(found) <= 5 and all(found), f"{side} at a terminal says {said}")
+
+
 def killed(checks, stage):
     """The log of a relay that is killed has whole lines, and all of what was done before. A signal ends it as the system does."""
     for number in (signal.SIGKILL, signal.SIGKILL, signal.SIGTERM, signal.SIGINT):
@@ -172,4 +189,4 @@ def limits(checks, stage):
 
 
 if __name__ == "__main__":
-    part(helps, lines, values, bounds, places, full, statistics, killed, limits)
+    part(helps, lines, values, bounds, places, full, statistics, terminal, killed, limits)

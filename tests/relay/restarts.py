@@ -162,7 +162,8 @@ def silence(checks, stage):
 
     def rule(way, octets):
         one = parse(octets)
-        if way == "forth" and one and (one.number == 99 and one.ssrc == 7 or one.ssrc == 8) and len(lost) < 2:
+        wanted = (one.ssrc, one.number) == (7, 99) if not lost else one.ssrc == 8 and len(lost) == 1
+        if way == "forth" and wanted:
             lost.append(one)
             return ()
         return (0,)
@@ -173,7 +174,7 @@ def silence(checks, stage):
     app = App(stage, sender.at, ssrc=7, number=0)
     app.stream(plain(100), 1000)
     time.sleep(2)
-    checks.same([(one.ssrc, one.number) for one in lost], [(7, 99), (8, 0)], f"{name}: what was lost")
+    checks.same([one.ssrc for one in lost], [7, 8], f"{name}: what was lost")
     app.stream(plain(100, first=100), 1000)
     checks.count(player.waits_for(200), f"{name}: {len(player.came)} packets came")
     ends(checks, name, sender, receiver)
