@@ -29,3 +29,27 @@ fn a_round_trip_time(_rt: HostRuntime) -> Result<(), Fail> {
         Err(Fail::from("the times"))
     }
 }
+
+#[test]
+fn times_in_doubt_are_passed_over_but_each_fourth(_rt: HostRuntime) -> Result<(), Fail> {
+    let mut trip = RoundTrip::new();
+    let place = Place::first(7);
+    let mut doubtful = [true; 4];
+    for answer in &mut doubtful {
+        trip.ask(place, 0);
+        trip.doubt();
+        *answer = trip.hear(place, 300);
+    }
+    let late = trip.time() == Some(300);
+    // The count begins anew: the next one in doubt is passed over again, and one without doubt counts.
+    trip.ask(place, 0);
+    trip.doubt();
+    let fifth = trip.hear(place, 900);
+    trip.ask(place, 0);
+    let sure = trip.hear(place, 60) && trip.time() == Some(270);
+    if doubtful == [false, false, false, true] && late && !fifth && sure {
+        Ok(())
+    } else {
+        Err(Fail::from("the times in doubt"))
+    }
+}

@@ -1,0 +1,170 @@
+//! What a command line asks for.
+ghost use Rattle.std.specs.Prelude.{◌≤◌, ◌<◌, IfOk, IfSome};
+
+use crate::fault::Fault;
+use crate::options::command;
+use clap::ArgMatches;
+use clap::error::ErrorKind;
+use lines::parse_between;
+use std::alloc::Global;
+use std::convert::AsStr;
+
+/// What both relays are told.
+#[derive(Clone, Copy)]
+pub struct Options<'a> {
+    pub listen: &'a str,
+    pub to: &'a str,
+    pub from: Option<&'a str>,
+    pub ssrc: Option<u32>,
+    pub rtx_ssrc: Option<u32>,
+    pub media_type: Option<u8>,
+    pub rtx_type: Option<u8>,
+    pub first: Option<u16>,
+    pub packets: Option<u64>,
+    pub seconds: Option<u64>,
+    pub stats: Option<u64>,
+    pub log: Option<&'a str>,
+    /// So many of 1000 datagrams are dropped.
+    pub loss: u32,
+    pub seed: u64,
+}
+
+/// What a command line asks for.
+#[derive(Clone, Copy)]
+pub enum Choice<'a> {
+    /// A relay before a network.
+    Send {
+        options: Options<'a>,
+        rate: u64,
+        history: usize,
+        rtx_first: u16,
+    },
+    /// A relay behind a network.
+    Receive {
+        options: Options<'a>,
+        latency: u64,
+        window: usize,
+    },
+}
+
+/// The greatest number of seconds, about thirty years.
+const LONGEST: u64 = 1_000_000_000;
+
+/// Reads the words of a command line, of which the first is the program's name.
+pub fn choose<'a, S: AsStr>(alloc: Global, words: &'a [S]) -> Result<Choice<'a>, Fault<'a>> {
+    let Ok(command) = command(alloc) else {
+        return Err(Fault::Memory);
+    };
+    match command.try_get_matches_from(words) {
+        Ok(matches) => chosen(&matches),
+        Err(error) => {
+            if error.kind() == ErrorKind::OutOfMemory {
+                Err(Fault::Memory)
+            } else {
+                Err(Fault::Line(error))
+            }
+        }
+    }
+}
+
+/// The choice of a line that `clap` took.
+fn chosen<'a>(matches: &ArgMatches<'a>) -> Result<Choice<'a>, Fault<'a>> {
+    match matches.subcommand() {
+        Some((name, inner)) => {
+            if name == "send" {
+                send(inner)
+            } else {
+                receive(inner)
+            }
+        }
+        None => Err(Fault::Value("help")),
+    }
+}
+
+fn send<'a>(matches: &ArgMatches<'a>) -> Result<Choice<'a>, Fault<'a>> {
+    let options = common(matches)?;
+    Ok(Choice::Send {
+        options,
+        rate: number(matches, "rate", 1, u64::MAX)?.unwrap_or(0),
+        history: number(matches, "history", 1, 8192)?.unwrap_or(2048) as usize,
+        rtx_first: sixteen(matches, "rtx-first")?.unwrap_or(0),
+    })
+}
+
+fn receive<'a>(matches: &ArgMatches<'a>) -> Result<Choice<'a>, Fault<'a>> {
+    let options = common(matches)?;
+    Ok(Choice::Receive {
+        options,
+        latency: number(matches, "latency", 0, u64::MAX)?.unwrap_or(200),
+        window: number(matches, "window", 1, 8192)?.unwrap_or(2048) as usize,
+    })
+}
+
+/// The options of both.
+fn common<'a>(matches: &ArgMatches<'a>) -> Result<Options<'a>, Fault<'a>> {
+    Ok(Options {
+        listen: matches.get_str("listen").ok_or(Fault::Value("listen"))?,
+        to: matches.get_str("to").ok_or(Fault::Value("to"))?,
+        from: matches.get_str("from"),
+        ssrc: ssrc(matches, "ssrc")?,
+        rtx_ssrc: ssrc(matches, "rtx-ssrc")?,
+        media_type: eight(matches, "type", 0)?,
+        rtx_type: eight(matches, "rtx-type", 96)?,
+        first: sixteen(matches, "first")?,
+        packets: number(matches, "packets", 1, u64::MAX)?,
+        seconds: number(matches, "seconds", 1, LONGEST)?,
+        stats: number(matches, "stats", 1, LONGEST)?,
+        log: matches.get_str("log"),
+        loss: number(matches, "loss", 0, 1000)?.unwrap_or(0) as u32,
+        seed: number(matches, "seed", 0, u64::MAX)?.unwrap_or(0),
+    })
+}
+
+/// The value of an option, as a number between these bounds, where it is given.
+fn number<'a>(
+    matches: &ArgMatches<'a>,
+    id: &'a str,
+    least: u64,
+    most: u64,
+) -> Result<Option<u64>, Fault<'a>>
+    ensures within { IfOk result (λ value. IfSome value (λ number. number ≤ most)) }
+{
+    let Some(text) = matches.get_str(id) else {
+        return Ok(None);
+    };
+    match parse_between(text.as_bytes(), least, most) {
+        Some(number) => Ok(Some(number)),
+        None => Err(Fault::Value(id)),
+    }
+}
+
+/// A payload type from `least` on.
+fn eight<'a>(matches: &ArgMatches<'a>, id: &'a str, least: u64) -> Result<Option<u8>, Fault<'a>> {
+    match number(matches, id, least, 127)? {
+        Some(number) => Ok(Some(number as u8)),
+        None => Ok(None),
+    }
+}
+
+/// A sequence number.
+fn sixteen<'a>(matches: &ArgMatches<'a>, id: &'a str) -> Result<Option<u16>, Fault<'a>> {
+    match number(matches, id, 0, 65535)? {
+        Some(number) => Ok(Some(number as u16)),
+        None => Ok(None),
+    }
+}
+
+/// An SSRC, by one to eight hexadecimal digits.
+fn ssrc<'a>(matches: &ArgMatches<'a>, id: &'a str) -> Result<Option<u32>, Fault<'a>> {
+    let Some(text) = matches.get_str(id) else {
+        return Ok(None);
+    };
+    // A sign is none of the digits.
+    if text.as_bytes().first() == Some(&b'+') {
+        return Err(Fault::Value(id));
+    }
+    match u32::from_str_radix(text, 16) {
+        Ok(ssrc) => Ok(Some(ssrc)),
+        Err(_) => Err(Fault::Value(id)),
+    }
+}

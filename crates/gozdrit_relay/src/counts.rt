@@ -1,0 +1,172 @@
+//! What a run came to, in counts.
+use endpoint::{Heard, Told};
+use lines::{Word, push_line};
+use relays::Note;
+use stores::OutOfMemory;
+
+/// What a relay did so far, by its notes.
+#[derive(Clone, Copy, Debug, PartialEq, Eq)]
+pub struct Counts {
+    pub sent: u64,
+    /// Datagrams of the application that are no packet of the stream, or that can't be sent.
+    pub unsent: u64,
+    /// Packets that feedback asked for, each as often as it was to be retransmitted.
+    pub marked: u64,
+    pub retransmitted: u64,
+    /// Media packets and retransmissions that were taken.
+    pub taken: u64,
+    /// Retransmissions among them.
+    pub repaired: u64,
+    pub played: u64,
+    pub gaps: u64,
+    /// NACKs.
+    pub asked: u64,
+    /// Datagrams of the far side that were refused.
+    pub refused: u64,
+    /// Restarts of the stream within a session.
+    pub restarts: u64,
+    /// Sessions that were learnt.
+    pub sessions: u64,
+    /// Datagrams from an address that is not the far side's.
+    pub stray: u64,
+    /// Datagrams that were dropped for a trial.
+    pub lost: u64,
+    /// The smoothed round-trip time, in milliseconds, where it was measured.
+    pub time: Option<u64>,
+}
+
+impl Counts {
+    /// Nothing was done so far.
+    pub const NONE: Counts = Counts {
+        sent: 0,
+        unsent: 0,
+        marked: 0,
+        retransmitted: 0,
+        taken: 0,
+        repaired: 0,
+        played: 0,
+        gaps: 0,
+        asked: 0,
+        refused: 0,
+        restarts: 0,
+        sessions: 0,
+        stray: 0,
+        lost: 0,
+        time: None,
+    };
+
+    /// Counts what a relay did.
+    pub fn count(&mut self, note: &Note) {
+        match note {
+            Note::Sent(_) => add(&mut self.sent, 1),
+            Note::Unsent => add(&mut self.unsent, 1),
+            Note::Told(Ok(Told::Feedback(shared))) => add(
+                &mut self.marked,
+                u64::from(shared.places),
+            ),
+            Note::Told(Ok(_)) => {}
+            Note::Told(Err(_)) => add(&mut self.refused, 1),
+            Note::Stray => add(&mut self.stray, 1),
+            Note::Retransmitted(_) => add(&mut self.retransmitted, 1),
+            Note::Marked(_) => {}
+            Note::Heard(Ok(heard)) => self.hear(*heard),
+            Note::Heard(Err(_)) => add(&mut self.refused, 1),
+            Note::Timed(time) => self.time = *time,
+            Note::Began(..) => add(&mut self.sessions, 1),
+            Note::Played(_) => add(&mut self.played, 1),
+            Note::Gap(_) => add(&mut self.gaps, 1),
+            Note::Asked => add(&mut self.asked, 1),
+        }
+    }
+
+    fn hear(&mut self, heard: Heard) {
+        match heard {
+            Heard::Media(_) => add(&mut self.taken, 1),
+            Heard::Repair(_) => {
+                add(&mut self.taken, 1);
+                add(&mut self.repaired, 1);
+            }
+            Heard::Restarted(restart) => {
+                add(&mut self.taken, u64::from(restart.held));
+                add(&mut self.restarts, 1);
+            }
+            Heard::Control | Heard::HeldBack(_) => {}
+        }
+    }
+
+    /// A datagram was dropped for a trial.
+    pub fn lose(&mut self) {
+        add(&mut self.lost, 1);
+    }
+
+    /// The line of a relay before the network, or of one behind it.
+    pub fn push(&self, line: &mut Vec<u8>, is_sender: bool) -> Result<(), OutOfMemory> {
+        if is_sender {
+            self.push_sender(line)
+        } else {
+            self.push_receiver(line)
+        }
+    }
+
+    fn push_sender(&self, line: &mut Vec<u8>) -> Result<(), OutOfMemory> {
+        push_line(
+            line,
+            &[
+                Word::Text(b"sent"),
+                Word::Decimal(self.sent),
+                Word::Text(b"unsent"),
+                Word::Decimal(self.unsent),
+                Word::Text(b"marked"),
+                Word::Decimal(self.marked),
+                Word::Text(b"retransmitted"),
+                Word::Decimal(self.retransmitted),
+                Word::Text(b"refused"),
+                Word::Decimal(self.refused),
+                Word::Text(b"stray"),
+                Word::Decimal(self.stray),
+                Word::Text(b"lost"),
+                Word::Decimal(self.lost),
+            ],
+        )
+    }
+
+    fn push_receiver(&self, line: &mut Vec<u8>) -> Result<(), OutOfMemory> {
+        let time = match self.time {
+            Some(time) => Word::Decimal(time),
+            None => Word::Text(b"-"),
+        };
+        let restarts = self
+            .restarts
+            .saturating_add(self.sessions.saturating_sub(1));
+        push_line(
+            line,
+            &[
+                Word::Text(b"taken"),
+                Word::Decimal(self.taken),
+                Word::Text(b"repaired"),
+                Word::Decimal(self.repaired),
+                Word::Text(b"played"),
+                Word::Decimal(self.played),
+                Word::Text(b"gaps"),
+                Word::Decimal(self.gaps),
+                Word::Text(b"asked"),
+                Word::Decimal(self.asked),
+                Word::Text(b"refused"),
+                Word::Decimal(self.refused),
+                Word::Text(b"restarts"),
+                Word::Decimal(restarts),
+                Word::Text(b"stray"),
+                Word::Decimal(self.stray),
+                Word::Text(b"lost"),
+                Word::Decimal(self.lost),
+                Word::Text(b"rtt"),
+                time,
+            ],
+        )
+    }
+}
+
+/// Adds to a count, which stays at the greatest number.
+fn add(count: &mut u64, more: u64) {
+    *count = count.saturating_add(more);
+}

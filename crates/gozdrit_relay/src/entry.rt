@@ -1,0 +1,192 @@
+//! A relay is made as the command line asks for, and runs.
+use crate::command_line::{Choice, Options};
+use crate::draws::Draws;
+use crate::fault::Fault;
+use crate::greeting::push_sockets;
+use crate::host::Host;
+use crate::journal::Journal;
+use crate::learning::{Known, ReceiveLearner, SendLearner};
+use crate::machine::{HasFar, Learner, Machine};
+use mio::net::UdpSocket;
+use relays::{Bounds, ReceiveRelay, Relay, SendRelay, run};
+use std::fs;
+use std::io::{IsTerminal, Write};
+use std::net::{IpAddr, Ipv4Addr, Ipv6Addr, SocketAddr, ToSocketAddrs};
+use stores::{RingHistory, RingWindow};
+
+/// Runs the relay that was chosen, until one of its bounds.
+pub fn relay<'a>(rt: &HostRuntime, choice: &Choice<'a>) -> Result<(), Fault<'a>> {
+    match choice {
+        Choice::Send {
+            options,
+            rate,
+            history,
+            rtx_first,
+        } => {
+            let to = prepared(rt, options)?;
+            let listening = bind(rt, find(rt, options.listen)?)?;
+            let leaving = bind(rt, source(rt, options, to)?)?;
+            greet(rt, &listening, to, &leaving);
+            let learner = SendLearner {
+                alloc: rt.alloc(),
+                known: Known::of(options),
+                first: options.first,
+                rtx_first: *rtx_first,
+                rate: *rate,
+                history: *history,
+                far: to,
+                bounds: bounds(options),
+            };
+            go::<SendRelay<RingHistory>, SendLearner>(
+                rt, options, learner, listening, leaving, true,
+            )
+        }
+        Choice::Receive {
+            options,
+            latency,
+            window,
+        } => {
+            let to = prepared(rt, options)?;
+            let listening = bind(rt, find(rt, options.listen)?)?;
+            let leaving = bind(rt, source(rt, options, to)?)?;
+            greet(rt, &listening, to, &leaving);
+            let learner = ReceiveLearner {
+                alloc: rt.alloc(),
+                known: Known::of(options),
+                first: options.first,
+                latency: *latency,
+                window: *window,
+                player: to,
+                bounds: bounds(options),
+                passed: 0,
+            };
+            go::<ReceiveRelay<RingWindow>, ReceiveLearner>(
+                rt, options, learner, leaving, listening, false,
+            )
+        }
+    }
+}
+
+/// The address that a relay sends to, if its options are those of a session.
+fn prepared<'a>(rt: &HostRuntime, options: &Options<'a>) -> Result<SocketAddr, Fault<'a>> {
+    let are_ssrcs_equal = options.ssrc.is_some() && options.ssrc == options.rtx_ssrc;
+    let are_types_equal = options.media_type.is_some() && options.media_type == options.rtx_type;
+    let is_control = matches!(options.media_type, Some(64..=95));
+    if are_ssrcs_equal || are_types_equal || is_control {
+        return Err(Fault::Session);
+    }
+    find(rt, options.to)
+}
+
+/// Runs a relay over its sockets, and writes the last line of counts.
+fn go<'a, R: Relay + HasFar + Drop, L: Learner<R> + Drop>(
+    rt: &HostRuntime,
+    options: &Options<'a>,
+    learner: L,
+    near: UdpSocket,
+    far: UdpSocket,
+    is_sender: bool,
+) -> Result<(), Fault<'a>> {
+    let shows_repair = is_sender || options.rtx_ssrc.is_some();
+    let journal = journal(rt, options, shows_repair)?;
+    let stats = match options.stats {
+        None if rt.stderr().is_terminal() => Some(1),
+        stats => stats,
+    };
+    let draws = Draws::new(options.seed, options.loss);
+    let Ok(mut host) = Host::new(
+        rt,
+        near,
+        far,
+        draws,
+        journal,
+        stats,
+        is_sender,
+        shows_repair,
+    ) else {
+        return Err(Fault::Outside);
+    };
+    let mut machine = Machine::<L, R>::new(learner, bounds(options).until);
+    let outcome = run(&mut host, &mut machine);
+    host.write_counts();
+    if let (Some(journal), Some(file)) = (&host.journal, options.log) {
+        if journal.has_failed() {
+            return Err(Fault::Write(file));
+        }
+    }
+    if machine.is_out_of_memory() {
+        return Err(Fault::Memory);
+    }
+    match outcome {
+        Ok(()) => Ok(()),
+        Err(_) => Err(Fault::Outside),
+    }
+}
+
+/// The bounds of a run that begins now.
+fn bounds(options: &Options<'_>) -> Bounds {
+    Bounds {
+        packets: options.packets,
+        until: match options.seconds {
+            Some(seconds) => Some(seconds.saturating_mul(1000)),
+            None => None,
+        },
+    }
+}
+
+/// The log, where there is to be one.
+fn journal<'a>(
+    rt: &HostRuntime,
+    options: &Options<'a>,
+    shows_repair: bool,
+) -> Result<Option<Journal>, Fault<'a>> {
+    let Some(path) = options.log else {
+        return Ok(None);
+    };
+    match fs::create(rt, path) {
+        Ok(file) => Ok(Some(Journal::new(file, Vec::new(rt.alloc()), shows_repair))),
+        Err(_) => Err(Fault::Open(path)),
+    }
+}
+
+/// The first address of a host and a port.
+fn find<'a>(rt: &HostRuntime, name: &'a str) -> Result<SocketAddr, Fault<'a>> {
+    let Ok(mut found) = name.to_socket_addrs(rt) else {
+        return Err(Fault::Find(name));
+    };
+    match found.next() {
+        Some(address) => Ok(address),
+        None => Err(Fault::Find(name)),
+    }
+}
+
+/// Where datagrams leave for an address.
+fn source<'a>(
+    rt: &HostRuntime,
+    options: &Options<'a>,
+    to: SocketAddr,
+) -> Result<SocketAddr, Fault<'a>> {
+    match options.from {
+        Some(name) => find(rt, name),
+        None if to.is_ipv6() => Ok(SocketAddr::new(IpAddr::V6(Ipv6Addr::UNSPECIFIED), 0)),
+        None => Ok(SocketAddr::new(IpAddr::V4(Ipv4Addr::UNSPECIFIED), 0)),
+    }
+}
+
+fn bind<'a>(rt: &HostRuntime, at: SocketAddr) -> Result<UdpSocket, Fault<'a>> {
+    match UdpSocket::bind(rt, at) {
+        Ok(socket) => Ok(socket),
+        Err(e) => Err(Fault::Bind(at, e.kind())),
+    }
+}
+
+/// Tells the sockets on standard error.
+fn greet(rt: &HostRuntime, listening: &UdpSocket, to: SocketAddr, leaving: &UdpSocket) {
+    let (Ok(listening), Ok(leaving)) = (listening.local_addr(), leaving.local_addr()) else {
+        return;
+    };
+    let mut line = Vec::new(rt.alloc());
+    if push_sockets(rt, &mut line, listening, to, leaving).is_ok() {
+        let _ = rt.stderr().write_all(&line);
+    }
+}

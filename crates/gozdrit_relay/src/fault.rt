@@ -1,0 +1,61 @@
+//! What the program says where it could not do its work, and its exit status.
+use std::io::{ErrorKind, Write};
+use std::net::SocketAddr;
+
+/// Why the program did not do its work.
+#[derive(Debug, Drop)]
+pub enum Fault<'a> {
+    /// `clap` refuses the line, or has the help or the version that it asks for: its text is for the user.
+    Line(clap::Error),
+    /// The value of this option is no number between its bounds, or no SSRC.
+    Value(&'a str),
+    /// The types and SSRCs of the options are none of a session.
+    Session,
+    /// This address can't be found.
+    Find(&'a str),
+    /// A socket can't be had at this address.
+    Bind(SocketAddr, ErrorKind),
+    /// This file can't be opened.
+    Open(&'a str),
+    /// This file takes nothing more.
+    Write(&'a str),
+    /// The clock or a socket answers errors.
+    Outside,
+    /// The allocator refused a growth.
+    Memory,
+}
+
+/// Writes what there is to say of a fault, and answers the exit status, whatever the writer does: 2 for a command line, 3 for an
+/// address, a file or a socket, 4 for memory.
+pub fn tell<W: Write>(fault: &Fault<'_>, error: &mut W) -> u8 {
+    let _ = match fault {
+        // It ends in a line feed of its own.
+        Fault::Line(text) => write!(error, "{text}"),
+        Fault::Value(option) => writeln!(error, "fault value: --{option}"),
+        Fault::Session => writeln!(
+            error,
+            "fault value: the types, or the SSRCs, are those of no session"
+        ),
+        Fault::Find(name) => writeln!(error, "can't find {name}"),
+        Fault::Bind(at, kind) => writeln!(error, "can't bind {at}: {}", reason(*kind)),
+        Fault::Open(file) => writeln!(error, "can't open {file}"),
+        Fault::Write(file) => writeln!(error, "can't write {file}"),
+        Fault::Outside => writeln!(error, "the clock or a socket failed"),
+        Fault::Memory => writeln!(error, "out of memory"),
+    };
+    match fault {
+        Fault::Line(_) | Fault::Value(_) | Fault::Session => 2,
+        Fault::Memory => 4,
+        _ => 3,
+    }
+}
+
+/// Why a socket can't be had.
+fn reason(kind: ErrorKind) -> &'static str {
+    match kind {
+        ErrorKind::AddrInUse => "in use",
+        ErrorKind::AddrNotAvailable => "no address of this machine",
+        ErrorKind::PermissionDenied => "not permitted",
+        _ => "refused",
+    }
+}

@@ -1,0 +1,64 @@
+//! What a relay tells at the start, and where it learnt a session.
+use crate::journal::shown;
+use lines::{Word, push_line};
+use rtpwire::Session;
+use std::net::SocketAddr;
+use stores::OutOfMemory;
+
+/// The line of the sockets: where datagrams are waited for, and from where and to where they leave.
+pub fn push_sockets(
+    rt: &HostRuntime,
+    line: &mut Vec<u8>,
+    listening: SocketAddr,
+    to: SocketAddr,
+    from: SocketAddr,
+) -> Result<(), OutOfMemory> {
+    let listening = format!(in rt.alloc(); "{listening}")?;
+    let to = format!(in rt.alloc(); "{to}")?;
+    let from = format!(in rt.alloc(); "{from}")?;
+    push_line(
+        line,
+        &[
+            Word::Text(b"listening"),
+            Word::Text(b"at"),
+            Word::Text(listening.as_bytes()),
+            Word::Text(b"sending"),
+            Word::Text(b"to"),
+            Word::Text(to.as_bytes()),
+            Word::Text(b"from"),
+            Word::Text(from.as_bytes()),
+        ],
+    )
+}
+
+/// The line of a session that was learnt, with its far side.
+pub fn push_session(
+    rt: &HostRuntime,
+    line: &mut Vec<u8>,
+    session: &Session,
+    first: u16,
+    far: SocketAddr,
+    shows_repair: bool,
+) -> Result<(), OutOfMemory> {
+    let far = format!(in rt.alloc(); "{far}")?;
+    let media = session.media_ssrc().to_be_bytes();
+    let repair = session.repair_ssrc().to_be_bytes();
+    let shown = shown(shows_repair);
+    push_line(
+        line,
+        &[
+            Word::Text(b"session"),
+            Word::Octets(&media),
+            Word::Text(b"type"),
+            Word::Decimal(u64::from(session.media_type())),
+            Word::Text(b"rtx-ssrc"),
+            Word::Octets(&repair[..shown]),
+            Word::Text(b"rtx-type"),
+            Word::Decimal(u64::from(session.repair_type())),
+            Word::Text(b"first"),
+            Word::Decimal(u64::from(first)),
+            Word::Text(b"with"),
+            Word::Text(far.as_bytes()),
+        ],
+    )
+}

@@ -1,0 +1,24 @@
+//! What the program's help says beside the options.
+
+/// What the program is.
+pub const ABOUT: &str = "\
+Protects an RTP stream by retransmission (RFC 4588) with generic NACK (RFC 4585): one relay before the
+network that loses, and one behind it";
+
+/// Of the program as a whole.
+pub const PROGRAM: &str = "\
+  gozdrit-relay send    --listen 127.0.0.1:5004 --to far.example:6004
+  gozdrit-relay receive --listen 0.0.0.0:6004   --to 127.0.0.1:5006 --latency 200
+Exit status: 0 a bound was reached, 2 the command line is refused, 3 an address, a file or a socket fails,
+4 memory was refused.";
+
+/// Of `send`.
+pub const SEND: &str = "\
+The first packet of the application tells the session's payload type, SSRC and first sequence number where no
+option does. Feedback is heard from the address of --to alone. A stream that is silent for 100 ms has its last
+packet retransmitted once; one that is silent for a second may go on with another SSRC.";
+
+/// Of `receive`.
+pub const RECEIVE: &str = "\
+The first RTP packet tells the session and its far side, which alone is heard from then on; where nothing was taken
+for a second, the next packet of another SSRC or address begins a session anew, and what is played goes on.";

@@ -1,0 +1,260 @@
+//! The sockets of the machine, its clock, and what is told of a run.
+use crate::counts::Counts;
+use crate::draws::Draws;
+use crate::greeting::push_session;
+use crate::journal::Journal;
+use mio::net::UdpSocket;
+use mio::{Events, Interest, Poll, Token};
+use relays::{Meeting, Note, Octets, Outside, OutsideFault, Side, Turn};
+use rtpwire::MAX_DATAGRAM;
+use std::alloc::Global;
+use std::io;
+use std::io::{ErrorKind, Write};
+use std::net::SocketAddr;
+use std::time::{Duration, Instant};
+
+/// One octet more than a datagram has at most.
+const ROOM: usize = MAX_DATAGRAM + 1;
+
+/// So many datagrams of one socket are taken in a row before the other one is looked at first.
+const ROW: u8 = 16;
+
+/// Both sockets, the clock, and who is told.
+#[derive(Drop)]
+pub struct Host<'a> {
+    pub rt: &'a HostRuntime,
+    poll: Poll,
+    events: Events<Global>,
+    near: UdpSocket,
+    far: UdpSocket,
+    start: Instant,
+    /// How many datagrams were taken in a row from the socket that is looked at first.
+    row: u8,
+    /// Whether the near socket is looked at first.
+    is_near_first: bool,
+    draws: Draws,
+    /// How many datagrams left for the network.
+    left: u64,
+    /// Whether the last one was dropped for a trial.
+    is_lost: bool,
+    pub counts: Counts,
+    pub journal: Option<Journal>,
+    /// A line of counts each so many milliseconds, and the moment of the next one.
+    stats: Option<(u64, u64)>,
+    is_sender: bool,
+    /// Whether the SSRC of the retransmissions is known from the beginning.
+    shows_repair: bool,
+    line: Vec<u8>,
+}
+
+impl<'a> Host<'a> {
+    /// A host over two sockets.
+    pub fn new(
+        rt: &'a HostRuntime,
+        mut near: UdpSocket,
+        mut far: UdpSocket,
+        draws: Draws,
+        journal: Option<Journal>,
+        stats: Option<u64>,
+        is_sender: bool,
+        shows_repair: bool,
+    ) -> io::Result<Host<'a>> {
+        let start = Instant::now(rt)?;
+        let poll = Poll::new(rt)?;
+        poll.registry()
+            .register(&mut near, Token(0), Interest::READABLE)?;
+        poll.registry()
+            .register(&mut far, Token(1), Interest::READABLE)?;
+        Ok(Host {
+            rt,
+            poll,
+            events: Events::with_capacity(rt.alloc(), 2)?,
+            near,
+            far,
+            start,
+            row: 0,
+            is_near_first: true,
+            draws,
+            left: 0,
+            is_lost: false,
+            counts: Counts::NONE,
+            journal,
+            stats: match stats {
+                Some(seconds) => {
+                    let apart = seconds.saturating_mul(1000);
+                    Some((apart, apart))
+                }
+                None => None,
+            },
+            is_sender,
+            shows_repair,
+            line: Vec::new(rt.alloc()),
+        })
+    }
+
+    /// The moment, in milliseconds since the start.
+    fn now(&self) -> Result<u64, OutsideFault> {
+        match self.start.elapsed(self.rt) {
+            Ok(time) => Ok(
+                time.as_secs()
+                    .saturating_mul(1000)
+                    .saturating_add(u64::from(time.subsec_millis())),
+            ),
+            Err(_) => Err(OutsideFault),
+        }
+    }
+
+    /// Takes a datagram that has come, if there is one.
+    fn take(&mut self, room: &mut Octets) -> Result<Option<(Side, SocketAddr)>, OutsideFault> {
+        let (first, second) = if self.is_near_first {
+            (Side::Near, Side::Far)
+        } else {
+            (Side::Far, Side::Near)
+        };
+        if let Some(from) = self.receive(first, room)? {
+            self.row = self.row.saturating_add(1);
+            if self.row >= ROW {
+                self.row = 0;
+                self.is_near_first = !self.is_near_first;
+            }
+            return Ok(Some((first, from)));
+        }
+        self.row = 0;
+        self.is_near_first = !self.is_near_first;
+        match self.receive(second, room)? {
+            Some(from) => Ok(Some((second, from))),
+            None => Ok(None),
+        }
+    }
+
+    /// Takes a datagram that has come to a socket, if there is one.
+    fn receive(&self, side: Side, room: &mut Octets) -> Result<Option<SocketAddr>, OutsideFault> {
+        let mut octets = [0; ROOM];
+        let came = match side {
+            Side::Near => self.near.recv_from(&mut octets),
+            Side::Far => self.far.recv_from(&mut octets),
+        };
+        match came {
+            Ok((len, from)) => {
+                room.clear();
+                if room.try_extend_from_slice(&octets[..len]).is_err() {
+                    return Err(OutsideFault);
+                }
+                Ok(Some(from))
+            }
+            Err(e) => {
+                if is_passing(e.kind()) {
+                    Ok(None)
+                } else {
+                    Err(OutsideFault)
+                }
+            }
+        }
+    }
+
+    /// Writes the line of counts where its moment has come.
+    fn tell_counts(&mut self, now: u64) {
+        if let Some((apart, next)) = self.stats {
+            if now >= next {
+                self.stats = Some((apart, now.saturating_add(apart)));
+                self.write_counts();
+            }
+        }
+    }
+
+    /// Writes the line of counts.
+    pub fn write_counts(&mut self) {
+        self.line.clear();
+        if self.counts.push(&mut self.line, self.is_sender).is_ok() {
+            let _ = self.rt.stderr().write_all(&self.line);
+        }
+    }
+
+    /// How long to wait for a moment, and no longer than until the next line of counts.
+    fn timeout(&self, until: Option<u64>, now: u64) -> Option<Duration> {
+        let next = match (until, self.stats) {
+            (Some(until), Some((_, next))) => until.min(next),
+            (Some(until), None) => until,
+            (None, Some((_, next))) => next,
+            (None, None) => return None,
+        };
+        Some(Duration::from_millis(next.saturating_sub(now)))
+    }
+}
+
+/// Whether an error says that nothing has come, or that something that left could not be delivered.
+fn is_passing(kind: ErrorKind) -> bool {
+    matches!(
+        kind,
+        ErrorKind::WouldBlock
+            | ErrorKind::Interrupted
+            | ErrorKind::ConnectionRefused
+            | ErrorKind::HostUnreachable
+            | ErrorKind::NetworkUnreachable
+    )
+}
+
+impl Outside for Host<'_> {
+    ghost use Rattle.std.specs.Prelude.{None};
+
+    ghost traffic = { λ host. None };
+
+    fn wait(&mut self, until: Option<u64>, room: &mut Octets) -> Result<Meeting, OutsideFault> {
+        if let Some(journal) = &self.journal {
+            if journal.has_failed() {
+                return Err(OutsideFault);
+            }
+        }
+        let mut came = self.take(room)?;
+        let mut now = self.now()?;
+        if came.is_none() {
+            let timeout = self.timeout(until, now);
+            if let Err(e) = self.poll.poll(&mut self.events, timeout) {
+                if e.kind() != ErrorKind::Interrupted {
+                    return Err(OutsideFault);
+                }
+            }
+            came = self.take(room)?;
+            now = self.now()?;
+        }
+        self.tell_counts(now);
+        Ok(Meeting { now, came })
+    }
+
+    fn send(&mut self, side: Side, to: SocketAddr, octets: &[u8]) {
+        // What can't be sent is lost, as in a network.
+        match side {
+            Side::Near => {
+                let _ = self.near.send_to(octets, to);
+            }
+            Side::Far => {
+                self.left = self.left.saturating_add(1);
+                self.is_lost = self.draws.drops();
+                if self.is_lost {
+                    self.counts.lose();
+                } else {
+                    let _ = self.far.send_to(octets, to);
+                }
+            }
+        }
+    }
+
+    fn tell(&mut self, turn: &Turn, octets: &[u8], now: u64) {
+        self.counts.count(&turn.note);
+        let index = self.left.saturating_sub(1);
+        if let Some(journal) = &mut self.journal {
+            journal.note(now, &turn.note, octets, index);
+            if self.is_lost {
+                journal.lose(now, index);
+            }
+        }
+        self.is_lost = false;
+        if let Note::Began(session, first, far) = turn.note {
+            self.line.clear();
+            let shows_repair = self.shows_repair;
+            if push_session(self.rt, &mut self.line, &session, first, far, shows_repair).is_ok() {
+                let _ = self.rt.stderr().write_all(&self.line);
+            }
+        }
+    }
+}

@@ -1,0 +1,154 @@
+//! The command line that `clap` reads, with its help.
+use crate::help;
+use clap::{Arg, ArgAction, Command};
+use std::alloc::{AllocError, Global};
+
+const VERSION: &str = "0.1.0";
+
+/// The command line of the program.
+pub fn command<'a>(alloc: Global) -> Result<Command<'a>, AllocError> {
+    Command::new(alloc, "gozdrit-relay")
+        .about(help::ABOUT)
+        .after_help(help::PROGRAM)
+        .version(VERSION)
+        .subcommand_required(true)
+        .subcommand(send(alloc)?)?
+        .subcommand(receive(alloc)?)
+}
+
+fn send<'a>(alloc: Global) -> Result<Command<'a>, AllocError> {
+    let command = Command::new(alloc, "send")
+        .about(
+            "Before the network: sends an application's stream, and answers NACKs with retransmissions",
+        )
+        .after_help(help::SEND)
+        .arg(required(
+            alloc,
+            "listen",
+            "ADDR:PORT",
+            "Where the application's RTP comes to",
+        ))?
+        .arg(required(alloc, "to", "HOST:PORT", "The far side: the other relay"))?
+        .arg(option(
+            alloc,
+            "from",
+            "ADDR:PORT",
+            "Where the session leaves and feedback comes to; any by default",
+        ))?
+        .arg(option(
+            alloc,
+            "rate",
+            "KBIT",
+            "How fast retransmissions leave, in kilobits a second; at once by default",
+        ))?
+        .arg(option(
+            alloc,
+            "history",
+            "N",
+            "How many packets are kept to be retransmitted, 1 to 8192; 2048 by default",
+        ))?
+        .arg(option(
+            alloc,
+            "rtx-first",
+            "N",
+            "The first sequence number of the retransmissions; 0 by default",
+        ))?;
+    common(alloc, command)
+}
+
+fn receive<'a>(alloc: Global) -> Result<Command<'a>, AllocError> {
+    let command = Command::new(alloc, "receive")
+        .about("Behind the network: asks for what is lost, and plays the stream in its order")
+        .after_help(help::RECEIVE)
+        .arg(required(alloc, "listen", "ADDR:PORT", "Where the session comes to"))?
+        .arg(required(alloc, "to", "HOST:PORT", "The player"))?
+        .arg(option(
+            alloc,
+            "from",
+            "ADDR:PORT",
+            "Where what is played leaves; any by default",
+        ))?
+        .arg(option(
+            alloc,
+            "latency",
+            "MS",
+            "How long a missing packet is waited for, in milliseconds; 200 by default",
+        ))?
+        .arg(option(
+            alloc,
+            "window",
+            "N",
+            "How many packets are held, 1 to 8192; 2048 by default",
+        ))?;
+    common(alloc, command)
+}
+
+/// The options of both.
+fn common<'a>(alloc: Global, command: Command<'a>) -> Result<Command<'a>, AllocError> {
+    command
+        .arg(option(
+            alloc,
+            "ssrc",
+            "HEX",
+            "The SSRC of the media; learnt by default",
+        ))?
+        .arg(option(
+            alloc,
+            "rtx-ssrc",
+            "HEX",
+            "The SSRC of the retransmissions; the media's and one, or learnt",
+        ))?
+        .arg(option(
+            alloc,
+            "type",
+            "N",
+            "The payload type of the media, 0 to 127; learnt by default",
+        ))?
+        .arg(option(
+            alloc,
+            "rtx-type",
+            "N",
+            "The payload type of the retransmissions, 96 to 127; the next one by default",
+        ))?
+        .arg(option(
+            alloc,
+            "first",
+            "N",
+            "The first sequence number of the media; learnt by default",
+        ))?
+        .arg(option(
+            alloc,
+            "packets",
+            "N",
+            "Ends two seconds after so many packets",
+        ))?
+        .arg(option(alloc, "seconds", "N", "Ends after so many seconds"))?
+        .arg(option(
+            alloc,
+            "stats",
+            "SECONDS",
+            "A line of counts each so many seconds; 1 where standard error is a terminal",
+        ))?
+        .arg(option(alloc, "log", "FILE", "A line for each event"))?
+        .arg(option(
+            alloc,
+            "loss",
+            "PERMILLE",
+            "For trials: drops so many of 1000 datagrams that leave for the network",
+        ))?
+        .arg(option(alloc, "seed", "N", "The seed of these draws; 0 by default"))
+}
+
+/// An option with a value, which has to be there.
+fn required<'a>(alloc: Global, name: &'a str, value: &'a str, help: &'a str) -> Arg<'a> {
+    option(alloc, name, value, help).required(true)
+}
+
+/// An option with a value.
+fn option<'a>(alloc: Global, name: &'a str, value: &'a str, help: &'a str) -> Arg<'a> {
+    Arg::new(alloc, name)
+        .long(name)
+        .value_name(value)
+        .help(help)
+        .action(ArgAction::Set)
+}
