@@ -1,6 +1,7 @@
-# Builds and installs the library for C, with the program rtxtool where that was built.
+# Builds and installs the library for C, and the programs gozdrit-relay and rtxtool where they were built.
 #
 #   make lib [PAYLOAD=1460]                      proves the library with payloads of so many octets, and builds it
+#   make relay [PAYLOAD=1460]                    proves the program gozdrit-relay for such payloads, and builds it
 #   make install [PREFIX=FOLDER] [DESTDIR=ROOT]  installs it; the packager's ROOT stands before every path
 #   make uninstall [PREFIX=FOLDER] [DESTDIR=ROOT]
 #
@@ -24,13 +25,20 @@ HEADERS = $(PREFIX)/include
 PKGCONFIG = $(LIBDIR)/pkgconfig
 MAN = $(PREFIX)/share/man
 DOC = $(PREFIX)/share/doc/gozdrit
-PAGES = LIBRARY GSTREAMER RELAY PROTOCOL MODEL CLAIMS DECISIONS COSTS SCRIPT
+PAGES = LIBRARY GSTREAMER RELAY PICTURES PROTOCOL MODEL CLAIMS DECISIONS COSTS SCRIPT
 
 lib: $(BUILD)/libgozdrit.a $(BUILD)/$(SHARED)
 
 $(TREE)/crates/gozdrit/out/libgozdrit.a:
 	rm -rf $(TREE)
 	tools/limits $(PAYLOAD) $(TREE)
+
+relay: $(BUILD)/gozdrit-relay
+
+# In the tree of the library, whose crates are proved for such payloads already.
+$(BUILD)/gozdrit-relay: $(TREE)/crates/gozdrit/out/libgozdrit.a
+	cd $(TREE)/crates/gozdrit_relay && rt run -- --version
+	cp $(TREE)/crates/gozdrit_relay/out/gozdrit_relay $@
 
 # What the header declares, a name a line.
 $(BUILD)/exports: $(ARCHIVE)
@@ -61,11 +69,13 @@ install: lib
 	install -m 644 docs/rtxtool.1 $(DESTDIR)$(MAN)/man1
 	install -m 644 README.md LICENSE LICENSE-APACHE LICENSE-MIT $(PAGES:%=docs/%.md) $(DESTDIR)$(DOC)
 	[ ! -x $(PROGRAM) ] || install -D -m 755 $(PROGRAM) $(DESTDIR)$(BINDIR)/rtxtool
+	[ ! -x $(BUILD)/gozdrit-relay ] || install -D -m 755 $(BUILD)/gozdrit-relay $(DESTDIR)$(BINDIR)/gozdrit-relay
 
 uninstall:
 	rm -f $(DESTDIR)$(HEADERS)/gozdrit.h $(DESTDIR)$(HEADERS)/gozdrit_limits.h $(DESTDIR)$(PKGCONFIG)/gozdrit.pc
 	rm -f $(addprefix $(DESTDIR)$(LIBDIR)/,libgozdrit.a libgozdrit.so $(SONAME) $(SHARED))
-	rm -f $(DESTDIR)$(MAN)/man3/gozdrit.3 $(DESTDIR)$(MAN)/man1/rtxtool.1 $(DESTDIR)$(BINDIR)/rtxtool
+	rm -f $(DESTDIR)$(MAN)/man3/gozdrit.3 $(DESTDIR)$(MAN)/man1/rtxtool.1
+	rm -f $(addprefix $(DESTDIR)$(BINDIR)/,rtxtool gozdrit-relay)
 	rm -rf $(DESTDIR)$(DOC)
 
-.PHONY: lib install uninstall
+.PHONY: lib relay install uninstall

@@ -1,4 +1,6 @@
 //! A relay is made as the command line asks for, and runs.
+ghost use Rattle.std.specs.Prelude.{◌≤◌, ◌<◌};
+
 use crate::command_line::{Choice, Options};
 use crate::draws::Draws;
 use crate::fault::Fault;
@@ -33,7 +35,7 @@ pub fn relay<'a>(rt: &HostRuntime, choice: &Choice<'a>) -> Result<(), Fault<'a>>
                 first: options.first,
                 rtx_first: *rtx_first,
                 rate: *rate,
-                history: *history,
+                history: within(*history),
                 far: to,
                 bounds: bounds(options),
             };
@@ -55,7 +57,7 @@ pub fn relay<'a>(rt: &HostRuntime, choice: &Choice<'a>) -> Result<(), Fault<'a>>
                 known: Known::of(options),
                 first: options.first,
                 latency: *latency,
-                window: *window,
+                window: within(*window),
                 player: to,
                 bounds: bounds(options),
                 passed: 0,
@@ -65,6 +67,14 @@ pub fn relay<'a>(rt: &HostRuntime, choice: &Choice<'a>) -> Result<(), Fault<'a>>
             )
         }
     }
+}
+
+/// A capacity of a store. The command line has no other ones.
+fn within(capacity: usize) -> usize
+    ensures some { 0 < result }
+    ensures limit { result ≤ 8192 }
+{
+    capacity.max(1).min(8192)
 }
 
 /// The address that a relay sends to, if its options are those of a session.
