@@ -20,10 +20,10 @@ PLACES = ("--listen", "127.0.0.1:0", "--to", "127.0.0.1:9")
 SIDES = "send", "receive"
 NUMBERS = {  # what each option takes at its bounds, and what it refuses
     "loss": ("0 1000", "1001 -1 x 01"), "seed": ("0 18446744073709551615", "18446744073709551616 x"),
-    "type": ("0 63 96 127", "64 95 128 x"), "rtx-type": ("98 127", "95 128 x"), "first": ("0 65535", "65536 x"),
+    "type": ("0 63 96 127", "128 x -1"), "rtx-type": ("98 127", "95 128 x"), "first": ("0 65535", "65536 x"),
     "ssrc": ("0 ffffffff 1A2b3C4d", "123456789 xyz 0x1"), "rtx-ssrc": ("0 ffffffff", "123456789 xyz"),
     "packets": ("1", "x -1"), "seconds": ("1", "x -1 1.5"), "stats": ("1", "x")}
-OF_SIDE = {"send": {"rate": ("0 1", "x -1"), "history": ("1 8192", "0 8193 x"), "rtx-first": ("0 65535", "65536 x")},
+OF_SIDE = {"send": {"rate": ("1 8", "0 x -1"), "history": ("1 8192", "0 8193 x"), "rtx-first": ("0 65535", "65536 x")},
            "receive": {"latency": ("0 1", "x -1"), "window": ("1 8192", "0 8193 x")}}
 
 
@@ -73,9 +73,22 @@ def values(checks, stage):
         for option, (_, bad) in {**NUMBERS, **OF_SIDE[side]}.items():
             for value in bad.split():
                 refused(checks, stage, side, option, value)
+    for words in (["--type", "64"], ["--type", "95"], ["--ssrc", "5", "--rtx-ssrc", "00000005"], ["--type", "97", "--rtx-type", "97"]):
+        for side in SIDES:
+            status, out, err = runs(stage, side, *PLACES, "--seconds", 1, *words)
+            good = status == 2 and not out and re.fullmatch(r"fault value: [^\n]+\n", err)
+            checks.count(good, f"{side} {words}: {status} {out[:50]!r} {err[:80]!r}")
+
+
+def nowhere(checks, stage):
+    """What is no address can't be found."""
+    for side in SIDES:
         for option in ("listen", "to", "from"):
-            for value in ("nowhere", "127.0.0.1", "127.0.0.1:", "127.0.0.1:65536", ":5004", "127.0.0.1:x"):
-                refused(checks, stage, side, option, value)
+            for value in ("nowhere", "127.0.0.1", "127.0.0.1:", "127.0.0.1:65536", "127.0.0.1:x", "nobody.invalid:5004"):
+                given = {"--listen": PLACES[1], "--to": PLACES[3], "--seconds": "1", f"--{option}": value}
+                status, out, err = runs(stage, side, *(f"{one}={given[one]}" for one in given))
+                told = status, out, err
+                checks.same(told, (3, "", f"can't find {value}\n"), f"{side} --{option}={value}")
 
 
 def bounds(checks, stage):
@@ -91,18 +104,18 @@ def bounds(checks, stage):
 
 
 def places(checks, stage):
-    """A port that is taken, a name that nobody has, files that can't be opened or written."""
+    """A port that is taken, and files that can't be opened."""
     taken = stage.keep(udp())
-    port, host = taken.getsockname()[1], "nobody.invalid:5004"
+    port = taken.getsockname()[1]
     for side in SIDES:
         wrong = {
             f"can't bind 127.0.0.1:{port}: in use\n": ("--listen", f"127.0.0.1:{port}", *PLACES[2:]),
-            f"can't find {host}\n": (*PLACES[:2], "--to", host),
             f"can't open {stage.room}/none/log\n": (*PLACES, "--log", f"{stage.room}/none/log"),
             f"can't open {stage.room}\n": (*PLACES, "--log", stage.room)}
         for text, words in wrong.items():
             status, out, err = runs(stage, side, *words, "--seconds", 1)
-            checks.count((status, out, err) == (3, "", text), f"{side} {words}: {status} {out!r} {err!r}, where {text!r} is right")
+            err = err.splitlines(True)[-1:]  # behind the line that tells the sockets, where these were had
+            checks.same((status, out, err), (3, "", [text]), f"{side} {words}")
         status, out, err = runs(stage, side, *PLACES, "--from", f"127.0.0.1:{port}", "--seconds", 1)
         checks.same((status, out, err), (3, "", f"can't bind 127.0.0.1:{port}: in use\n"), f"{side} --from a port in use")
 
@@ -189,4 +202,4 @@ def limits(checks, stage):
 
 
 if __name__ == "__main__":
-    part(helps, lines, values, bounds, places, full, statistics, terminal, killed, limits)
+    part(helps, lines, values, nowhere, bounds, places, full, statistics, terminal, killed, limits)

@@ -48,10 +48,11 @@ def sums(checks, name, relay):
     if relay.side == "send":
         told = {"sent": many["sent"], "unsent": many["unsent"], "retransmitted": many["repair"], "refused": many["refused"],
                 "stray": many["stray"], "lost": many["lost"],
-                "marked": sum(int(one[1]) for one in lines if one[0] in ("marked", "tail"))}
+                "marked": sum(int(one[1]) for one in lines if one[0] == "marked")}
     else:
         told = {"played": many["play"], "gaps": many["gap"], "asked": many["ask"], "refused": many["refused"],
-                "stray": many["stray"], "lost": many["lost"], "taken": many["taken"]}
+                "stray": many["stray"], "lost": many["lost"], "taken": many["taken"],
+                "restarts": many["restarted"] + max(0, many["session"] - 1)}
     for word, number in told.items():
         checks.same(counts.get(word), number, f"{name}: the count {word} of {relay.side}, beside its log")
     checks.count(set(counts) == set(COUNTS[relay.side]), f"{name}: the counts of {relay.side}: {counts}")

@@ -93,7 +93,7 @@ def before(checks, stage):
     ends(checks, name, sender)
     counts = sender.counts()
     tails = len(sender.logged("tail"))
-    wanted = {"sent": 100, "marked": 2 + tails, "retransmitted": 2 + tails, "stray": 20, "unsent": 0}
+    wanted = {"sent": 100, "marked": 2, "retransmitted": 2 + tails, "stray": 20, "unsent": 0}
     checks.same({one: counts.get(one) for one in wanted}, wanted, f"{name}: counts")
     checks.count(counts.get("refused", 0) >= len(wrong), f"{name}: {counts.get('refused')} refused of {len(wrong)}")
     ledger.whole(checks, name, sender)
