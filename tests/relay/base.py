@@ -12,7 +12,7 @@ import tempfile
 import time
 
 LONG = 40  # seconds that anything may take: the machine may be busy with proofs
-FIRST_LINE = re.compile(r"^listening at (\S+):(\d+), sending to (\S+):(\d+) from (\S+):(\d+)$")
+FIRST_LINE = re.compile(r"^listening at (\S+):(\d+),? sending to (\S+):(\d+) from (\S+):(\d+)$")
 COUNTS = {
     "send": "sent unsent marked retransmitted refused stray lost".split(),
     "receive": "taken repaired played gaps asked refused restarts stray lost rtt".split(),
