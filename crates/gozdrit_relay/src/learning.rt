@@ -16,10 +16,10 @@ use stores::{History, OutOfMemory, Window};
 const MOST: u8 = 32;
 
 /// How long a retransmission is waited for until the round-trip time is known, in milliseconds.
-const RETRY: u64 = 50;
+const RETRY: u64 = 100;
 
 /// How late a packet may be before it is asked for, until then, in milliseconds.
-const LATE: u64 = 10;
+const LATE: u64 = 20;
 
 /// What the options say of a session, and what is learnt where they say nothing.
 #[derive(Clone, Copy)]
