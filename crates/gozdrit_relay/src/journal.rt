@@ -20,6 +20,7 @@ pub struct Journal {
 }
 
 impl Journal {
+    /// A log without lines, with room for the one that is written. `shows_repair` is whether a session's retransmissions are told by SSRC.
     pub fn new(file: File, line: Vec<u8>, shows_repair: bool) -> Journal {
         Journal {
             file,

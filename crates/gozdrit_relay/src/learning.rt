@@ -31,6 +31,7 @@ pub struct Known {
 }
 
 impl Known {
+    /// What the options say.
     pub fn of(options: &Options<'_>) -> Known {
         Known {
             ssrc: options.ssrc,
