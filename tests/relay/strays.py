@@ -63,7 +63,8 @@ def behind(checks, stage):
     checks.same({one and (one.ssrc, one.kind) for one in came}, {(MEDIA, 96)}, f"{name}: SSRCs and types at the player")
     checks.count([one and one.number for one in came] == [65500 + i & 65535 for i in range(len(came))], f"{name}: the numbers")
     counts = receiver.counts()
-    wanted = {"taken": 200, "repaired": 0, "played": 200, "gaps": 0, "asked": 0, "restarts": 0, "stray": 80 + len(rtcp)}  # and what began no session
+    strays = 80 + len(rtcp)  # and what began no session
+    wanted = {"taken": 200, "repaired": 0, "played": 200, "gaps": 0, "asked": 0, "restarts": 0, "stray": strays}
     checks.same({one: counts.get(one) for one in wanted}, wanted, f"{name}: counts")
     checks.count(counts.get("refused", 0) >= len(bad), f"{name}: {counts.get('refused')} refused of {len(bad)}")
     checks.same(len(receiver.logged("session")), 1, f"{name}: sessions")
