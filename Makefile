@@ -66,7 +66,7 @@ install: lib
 	ln -sf $(SONAME) $(DESTDIR)$(LIBDIR)/libgozdrit.so
 	sed 's|@PREFIX@|$(PREFIX)|; s|@VERSION@|$(VERSION)|' include/gozdrit.pc.in >$(DESTDIR)$(PKGCONFIG)/gozdrit.pc
 	install -m 644 docs/gozdrit.3 $(DESTDIR)$(MAN)/man3
-	install -m 644 docs/rtxtool.1 $(DESTDIR)$(MAN)/man1
+	install -m 644 docs/rtxtool.1 docs/gozdrit-relay.1 $(DESTDIR)$(MAN)/man1
 	install -m 644 README.md LICENSE LICENSE-APACHE LICENSE-MIT $(PAGES:%=docs/%.md) $(DESTDIR)$(DOC)
 	[ ! -x $(PROGRAM) ] || install -D -m 755 $(PROGRAM) $(DESTDIR)$(BINDIR)/rtxtool
 	[ ! -x $(BUILD)/gozdrit-relay ] || install -D -m 755 $(BUILD)/gozdrit-relay $(DESTDIR)$(BINDIR)/gozdrit-relay
@@ -74,7 +74,7 @@ install: lib
 uninstall:
 	rm -f $(DESTDIR)$(HEADERS)/gozdrit.h $(DESTDIR)$(HEADERS)/gozdrit_limits.h $(DESTDIR)$(PKGCONFIG)/gozdrit.pc
 	rm -f $(addprefix $(DESTDIR)$(LIBDIR)/,libgozdrit.a libgozdrit.so $(SONAME) $(SHARED))
-	rm -f $(DESTDIR)$(MAN)/man3/gozdrit.3 $(DESTDIR)$(MAN)/man1/rtxtool.1
+	rm -f $(DESTDIR)$(MAN)/man3/gozdrit.3 $(addprefix $(DESTDIR)$(MAN)/man1/,rtxtool.1 gozdrit-relay.1)
 	rm -f $(addprefix $(DESTDIR)$(BINDIR)/,rtxtool gozdrit-relay)
 	rm -rf $(DESTDIR)$(DOC)
 
