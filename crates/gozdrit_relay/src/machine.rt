@@ -2,7 +2,8 @@
 ghost use Rattle.std.specs.Prelude.{◌≡◌, None, IfSome, IfOk};
 ghost use Rattle.rtpwire.specs.declared.limits.TheConstants.{MAX_DATAGRAM};
 ghost use Rattle.relays.specs.Passing.{IsWithin};
-ghost use Rattle.gozdrit_relay.specs.Machine.{Stands};
+ghost use Rattle.relays.specs.Running.{RestsUntil};
+ghost use Rattle.gozdrit_relay.specs.Machine.{Stands, TellsOf};
 
 use relays::{Note, Relay, Side, Turn};
 use rtpwire::MAX_DATAGRAM;
@@ -43,7 +44,8 @@ pub trait Learner<R: Relay + HasFar + Drop> {
         before: &Option<R>,
         was_quiet: bool,
     ) -> Result<Option<Learnt<R>>, OutOfMemory>
-        ensures { IfOk result (λ learnt. IfSome learnt (λ l. begins self.old from (R.HasFar.far l.relay))) };
+        ensures begins { IfOk result (λ learnt. IfSome learnt (λ l. begins self.old from (R.HasFar.far l.relay))) }
+        ensures tells { IfOk result (λ learnt. IfSome learnt (λ l. TellsOf l.note (R.HasFar.far l.relay))) };
 
     /// What there is to note of octets that came to a side before a session was learnt.
     fn unlearnt(&self, side: Side) -> Note;
@@ -69,7 +71,8 @@ pub struct Machine<L, R> {
 impl<R: Relay + HasFar + Drop, L: Learner<R>> Machine<L, R> {
     /// It learnt nothing so far.
     pub fn new(learner: L, until: Option<u64>) -> Machine<L, R>
-        ensures { result.relay ≡ None }
+        ensures relay { result.relay ≡ None }
+        ensures note { result.note ≡ None }
     {
         Machine {
             learner,
@@ -83,8 +86,7 @@ impl<R: Relay + HasFar + Drop, L: Learner<R>> Machine<L, R> {
 
     /// Has another relay take the place of the one before, where a datagram begins a session.
     fn begin(&mut self, side: Side, from: SocketAddr, octets: &[u8], now: u64)
-        ensures stands { IfSome self.new.relay (Stands (λ made. L.begins self.old.learner from (R.HasFar.far made)) self.old.relay) }
-        ensures none { self.new.relay ≡ None → self.old.relay ≡ None }
+        ensures { Stands (λ made note. L.begins self.old.learner from (R.HasFar.far made) × TellsOf note (R.HasFar.far made)) self.old.relay self.old.note self.new.relay self.new.note }
     {
         let was_quiet = now.saturating_sub(self.last) >= QUIET;
         match self
@@ -108,11 +110,13 @@ impl<R: Relay + HasFar + Drop, L: Learner<R>> Machine<L, R> {
 }
 
 impl<R: Relay + HasFar + Drop, L: Learner<R>> Relay for Machine<L, R> {
-    ghost use Rattle.gozdrit_relay.specs.Machine.{Hears, Speaks};
+    ghost use Rattle.gozdrit_relay.specs.Machine.{Hears, Speaks, TellsOf, is_done};
 
-    ghost hears = { λ old side from octets now turn out new. Hears R.Relay.hears (λ made. L.begins old.learner from (R.HasFar.far made)) old.relay side from octets now turn out new.relay };
+    ghost hears = { λ old side from octets now turn out new. Hears R.Relay.hears (λ made note. L.begins old.learner from (R.HasFar.far made) × TellsOf note (R.HasFar.far made)) old.relay old.note side from octets now turn out new.relay new.note };
 
-    ghost speaks = { λ old now turn out new. Speaks R.Relay.speaks old.relay now turn out new.relay };
+    ghost speaks = { λ old now turn out new. Speaks R.Relay.speaks old.relay old.note now turn out new.relay new.note };
+
+    ghost done = { λ machine now. is_done R.Relay.done machine.until machine.is_out_of_memory machine.relay now };
 
     fn hear(
         &mut self,
@@ -146,6 +150,12 @@ impl<R: Relay + HasFar + Drop, L: Learner<R>> Relay for Machine<L, R> {
     }
 
     fn next_moment(&self) -> Option<u64> {
+        if self.is_out_of_memory {
+            return Some(0);
+        }
+        if let Some(_) = &self.note {
+            return Some(0);
+        }
         match &self.relay {
             Some(relay) => relay.next_moment(),
             None => self.until,

@@ -1,6 +1,7 @@
 pub mod Passing
 pub mod Running
 pub mod Pacing
+pub mod Ending
 pub mod Following
 pub mod Numbering
 pub mod RoundTrip

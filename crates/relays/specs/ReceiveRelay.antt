@@ -10,11 +10,16 @@ use Rattle.receiver.specs.declared.fault.ReceiveFault.{ReceiveFault}
 use Rattle.receiver.specs.Receiver.{Receiving, state_of, with_times}
 use Rattle.receiver.specs.Peeking.{play_of, receiver_passed}
 use Rattle.receiver.specs.Asks.{AsksMost}
+use Rattle.receiver.specs.Config.{Config}
 use Rattle.endpoint.specs.declared.holding.Run.{Run}
 use Rattle.endpoint.specs.declared.heard.Heard.{Heard}
 use Rattle.endpoint.specs.declared.heard.Heard.TheVariants as heard
 use Rattle.endpoint.specs.declared.probation.Probation.{Probation}
-use Rattle.endpoint.specs.Receiving.{ends_of, HearsDatagram}
+use Rattle.endpoint.specs.declared.receive_counts.ReceiveCounts.{ReceiveCounts}
+use Rattle.endpoint.specs.Counts.{more}
+use Rattle.endpoint.specs.ReceiveCounts.{count_heard, count_played, CountsAsk, no_counts}
+use Rattle.endpoint.specs.Receiving.{ends_of, fresh, HearsDatagram, no_run}
+use Rattle.relays.specs.declared.bounds.Bounds.{Bounds}
 use Rattle.relays.specs.declared.outside.Side.{Side}
 use Rattle.relays.specs.declared.outside.Side.TheVariants.{Near, Far}
 use Rattle.relays.specs.declared.numbering.Numbering.{Numbering}
@@ -23,25 +28,47 @@ use Rattle.relays.specs.declared.relay.Note.{Note}
 use Rattle.relays.specs.declared.relay.Note.TheVariants as note
 use Rattle.relays.specs.declared.relay.Departure.{Departure}
 use Rattle.relays.specs.declared.relay.Turn.{Turn}
+use Rattle.relays.specs.Ending.{is_over}
 use Rattle.relays.specs.Numbering.{numbered, numbered_after, anew}
-use Rattle.relays.specs.RoundTrip.{time_of, retry_of, delay_of, measured_by, passed_at}
+use Rattle.relays.specs.RoundTrip.{measured_none, time_of, retry_of, delay_of, measured_by, passed_at}
 use Rattle.relays.specs.Leaving.{GoesTo, octets_of}
 
 -- what a relay is between two calls
 pub record ReceiveSide : Type 0 where
-  pub core : Receiving  -- the receivers of its endpoint, what that holds back, and when it believes a jump
+  pub core : Receiving  -- the receivers of its endpoint, what that holds back, when it believes a jump, and what it counts
   pub spare : Receiving
   pub run : Run
   pub probation : Probation
+  pub counts : ReceiveCounts
   pub far : SocketAddr
   pub player : SocketAddr
   pub numbering : Numbering  -- the SSRC and the sequence numbers that the player sees
   pub trip : RoundTrip  -- the round-trip time, and what it is measured by
   pub is_new : Bool  -- it was measured since the times were set
+  pub last : Option ℕ  -- the moment of the last play
+  pub bounds : Bounds
 
-abbrev pub receive_side : Receiving → Receiving → Run → Probation → SocketAddr → SocketAddr → Numbering → RoundTrip → Bool → ReceiveSide
-receive_side core spare run probation far player numbering trip is_new =
-    record { core = core; spare = spare; run = run; probation = probation; far = far; player = player; numbering = numbering; trip = trip; is_new = is_new }
+-- a relay that took nothing
+abbrev pub new_receive_side : Config → (capacity : ℕ) → (far player : SocketAddr) → Numbering → Bounds → ReceiveSide
+new_receive_side config capacity far player numbering bounds =
+    record {
+      core = fresh config capacity;
+      spare = fresh config capacity;
+      run = no_run;
+      probation = record { dropout = 3000; misorder = 100; ahead = 2; behind = 256 };
+      counts = no_counts;
+      far = far;
+      player = player;
+      numbering = numbering;
+      trip = measured_none;
+      is_new = false;
+      last = None;
+      bounds = bounds;
+    }
+
+-- it ends by its bounds, of which it counts the packets that it played or gave up
+abbrev pub is_done : ReceiveSide → (now : ℕ) → Bool
+is_done s now = is_over s.bounds (more s.counts.played s.counts.gaps) s.last now
 
 -- where a stream restarts, the numbers of what is played go on
 abbrev pub numbering_after : Result Heard ReceiveFault → Numbering → Numbering
@@ -54,7 +81,7 @@ abbrev pub HearsFar : ReceiveSide → (from : SocketAddr) → (octets : List ℕ
 HearsFar old from octets now (note.Heard answer) None new =
     (from ≡ old.far)
     × HearsDatagram old.probation (ends_of old.core old.spare old.run) octets now answer (ends_of new.core new.spare new.run)
-    × (new ≡ record old { core = new.core; spare = new.spare; run = new.run; numbering = numbering_after answer old.numbering; trip = (measured_by answer old.trip now).1; is_new = old.is_new || (measured_by answer old.trip now).0 })
+    × (new ≡ record old { core = new.core; spare = new.spare; run = new.run; counts = count_heard answer old.counts; numbering = numbering_after answer old.numbering; trip = (measured_by answer old.trip now).1; is_new = old.is_new || (measured_by answer old.trip now).0 })
 HearsFar old from octets now note.Stray None new = (from ≡ old.far → ⊥) × (new ≡ old)
 HearsFar old from octets now n leaves new = ⊥
 
@@ -63,15 +90,20 @@ abbrev pub Hears : ReceiveSide → Side → (from : SocketAddr) → (octets : Li
 Hears old Far from octets now turn out new = HearsFar old from octets now turn.note turn.leaves new
 Hears old Near from octets now turn out new = (turn ≡ record { note = note.Stray; leaves = None }) × (new ≡ old)
 
+-- a play passes a place, and no retransmission of it is measured any more
+abbrev pub passes : ReceiveSide → Played → (place now : ℕ) → ReceiveSide
+passes old played place now =
+    record old { core = receiver_passed played old.core; counts = count_played played old.counts; trip = passed_at old.trip place; last = Some now }
+
 -- What is played goes to the player: a packet with what it carried, under the media's type, the player's SSRC and the next number;
 -- and nothing where a place is given up.
-abbrev pub PlaysOut : Played → ReceiveSide → Note → Option Departure → (out : List ℕ) → ReceiveSide → Type 0
-PlaysOut (Packet place content) old (note.Played p) (Some d) out new =
+abbrev pub PlaysOut : Played → ReceiveSide → (now : ℕ) → Note → Option Departure → (out : List ℕ) → ReceiveSide → Type 0
+PlaysOut (Packet place content) old now (note.Played p) (Some d) out new =
     (p ≡ place) × GoesTo d Near old.player
     × RtpSpells (packet_of content 0 (numbered old.numbering place) old.core.config.session.media_type old.numbering.ssrc) (octets_of d out)
-    × (new ≡ record old { core = receiver_passed (Packet place content) old.core; numbering = numbered_after old.numbering place; trip = passed_at old.trip place })
-PlaysOut (Gap place) old (note.Gap p) None out new = (p ≡ place) × (new ≡ record old { core = receiver_passed (Gap place) old.core; trip = passed_at old.trip place })
-PlaysOut played old n leaves out new = ⊥
+    × (new ≡ record (passes old (Packet place content) place now) { numbering = numbered_after old.numbering place })
+PlaysOut (Gap place) old now (note.Gap p) None out new = (p ≡ place) × (new ≡ passes old (Gap place) place now)
+PlaysOut played old now n leaves out new = ⊥
 
 -- what a play would give at this moment
 abbrev pub next_play : ReceiveSide → (now : ℕ) → Played
@@ -81,7 +113,8 @@ next_play old now = play_of old.core.config.patience now old.core.span
 pub record AsksFar (old : ReceiveSide) (now : ℕ) (d : Departure) (out : List ℕ) (new : ReceiveSide) : Type 0 where
   pub asks : AsksMost old.core.config (state_of old.core) now 256 (Some (record { items = octets_of d out })) (state_of new.core)
   pub goes : GoesTo d Far old.far
-  pub rest : new ≡ record old { core = new.core; trip = new.trip }
+  pub counted : CountsAsk (Some (record { items = octets_of d out })) old.counts new.counts
+  pub rest : new ≡ record old { core = new.core; counts = new.counts; trip = new.trip }
   pub smoothed : new.trip.smoothed ≡ old.trip.smoothed  -- which place is measured next, and in doubt or not, is left open
   pub doubts : new.trip.doubts ≡ old.trip.doubts
 
@@ -100,8 +133,8 @@ TimedBy old delay retry new = new ≡ record old { is_new = false }
 abbrev pub SpeaksAs : ReceiveSide → (now : ℕ) → Note → Option Departure → (out : List ℕ) → ReceiveSide → Type 0
 SpeaksAs old now (note.Timed time) None out new =
     (old.is_new ≡ true) × (time ≡ time_of old.trip.smoothed) × TimedBy old (delay_of old.trip.smoothed) (retry_of old.trip.smoothed) new
-SpeaksAs old now (note.Played place) leaves out new = (old.is_new ≡ false) × PlaysOut (next_play old now) old (note.Played place) leaves out new
-SpeaksAs old now (note.Gap place) leaves out new = (old.is_new ≡ false) × PlaysOut (next_play old now) old (note.Gap place) leaves out new
+SpeaksAs old now (note.Played place) leaves out new = (old.is_new ≡ false) × PlaysOut (next_play old now) old now (note.Played place) leaves out new
+SpeaksAs old now (note.Gap place) leaves out new = (old.is_new ≡ false) × PlaysOut (next_play old now) old now (note.Gap place) leaves out new
 SpeaksAs old now note.Asked leaves out new = (old.is_new ≡ false) × (next_play old now ≡ Wait) × Asks old now note.Asked leaves out new
 SpeaksAs old now n leaves out new = ⊥
 

@@ -1,9 +1,10 @@
 -- The relay before a network that loses: what it does with what comes, and what it does of its own. Each case of what it notes has
 -- its equation, and what stands nowhere is never done.
-use Rattle.std.specs.Prelude.{◌≡◌, ℕ, ◌^◌, ◌≤◌, ◌-◌, ◌&&◌, Bool, true, false, nat_le, List, Option, Some, None}
+use Rattle.std.specs.Prelude.{◌≡◌, ℕ, ◌^◌, ◌≤◌, ◌-◌, ◌&&◌, Bool, true, false, nat_le, List, length, Option, Some, None}
 use Rattle.std.specs.declared.net.socket_addr.SocketAddr.{SocketAddr}
 use Rattle.rtpwire.specs.declared.content.Content.{Content}
 use Rattle.rtpwire.specs.Rtp.{RtpPacket, RtpSpells}
+use Rattle.rtpwire.specs.Session.{Streams}
 use Rattle.rtpwire.specs.Content.{packet_of, IsTooLong}
 use Rattle.sender.specs.Sender.{Sending, state_of}
 use Rattle.sender.specs.History.{NoneMarked}
@@ -12,6 +13,9 @@ use Rattle.sender.specs.Repairing.{RepairsAt}
 use Rattle.sender.specs.Tail.{MarksLast}
 use Rattle.endpoint.specs.Demultiplex.{is_control}
 use Rattle.endpoint.specs.Sending.{TellsKind}
+use Rattle.endpoint.specs.declared.send_counts.SendCounts.{SendCounts}
+use Rattle.endpoint.specs.SendCounts.{count_sent, count_told, count_repaired, no_counts}
+use Rattle.relays.specs.declared.bounds.Bounds.{Bounds}
 use Rattle.relays.specs.declared.outside.Side.{Side}
 use Rattle.relays.specs.declared.outside.Side.TheVariants.{Near, Far}
 use Rattle.relays.specs.declared.pace.Pace.{Pace}
@@ -21,58 +25,67 @@ use Rattle.relays.specs.declared.relay.Note.TheVariants.{Sent, Unsent, Told, Str
 use Rattle.relays.specs.declared.relay.Departure.{Departure}
 use Rattle.relays.specs.declared.relay.Turn.{Turn}
 use Rattle.relays.specs.Following.{follows, followed_at}
+use Rattle.relays.specs.Ending.{is_over}
 use Rattle.relays.specs.Pacing.{is_open, opens_after}
 use Rattle.relays.specs.Leaving.{GoesTo, octets_of}
 
 -- what a relay is between two calls
 pub record SendSide : Type 0 where
-  pub core : Sending  -- the sender of its endpoint
+  pub core : Sending  -- the sender of its endpoint, and what that counts
+  pub counts : SendCounts
   pub far : SocketAddr
   pub stream : Stream  -- the application's
   pub pace : Pace
   pub tail : Bool  -- the last packet is still to be retransmitted once the stream falls silent
+  pub bounds : Bounds
 
-abbrev pub send_side : Sending → SocketAddr → Stream → Pace → Bool → SendSide
-send_side core far stream pace tail = record { core = core; far = far; stream = stream; pace = pace; tail = tail }
+-- a relay that sent nothing
+abbrev pub new_send_side : Sending → SocketAddr → Stream → Pace → Bounds → SendSide
+new_send_side core far stream pace bounds =
+    record { core = core; counts = no_counts; far = far; stream = stream; pace = pace; tail = false; bounds = bounds }
 
--- A datagram of the application is this packet of the stream, and carries this content.
-pub record Carries (old : SendSide) (octets : List ℕ) (now : ℕ) (packet : RtpPacket) (content : Content) : Type 0 where
+-- it ends by its bounds, of which it counts the packets that it sent
+abbrev pub is_done : SendSide → (now : ℕ) → Bool
+is_done s now = is_over s.bounds s.counts.sent s.stream.last now
+
+-- A datagram of the application is this packet of the stream, with the session's media type, and carries this content.
+pub record Carries (session : Streams) (stream : Stream) (octets : List ℕ) (now : ℕ) (packet : RtpPacket) (content : Content) : Type 0 where
   pub spelled : RtpSpells packet octets
-  pub of_type : packet.payload_type ≡ old.core.config.session.media_type
-  pub of_stream : follows old.stream packet.ssrc now ≡ true
+  pub of_type : packet.payload_type ≡ session.media_type
+  pub of_stream : follows stream packet.ssrc now ≡ true
   pub holds : IsTooLong packet → ⊥
   pub carried : packet_of content packet.padding packet.sequence packet.payload_type packet.ssrc ≡ packet
 
-abbrev pub CarriesNothing : SendSide → (octets : List ℕ) → (now : ℕ) → Type 0
-CarriesNothing old octets now = (packet : RtpPacket) (content : Content) → Carries old octets now packet content → ⊥
+abbrev pub CarriesNothing : Streams → Stream → (octets : List ℕ) → (now : ℕ) → Type 0
+CarriesNothing session stream octets now = (packet : RtpPacket) (content : Content) → Carries session stream octets now packet content → ⊥
 
 -- it carries this content under this SSRC
-pub record IsCarried (old : SendSide) (octets : List ℕ) (now ssrc : ℕ) (content : Content) : Type 0 where
+pub record IsCarried (session : Streams) (stream : Stream) (octets : List ℕ) (now ssrc : ℕ) (content : Content) : Type 0 where
   pub packet : RtpPacket
-  pub carries : Carries old octets now packet content
+  pub carries : Carries session stream octets now packet content
   pub ssrc_is : packet.ssrc ≡ ssrc
 
 -- It is sent at the next place of the session, to the far side.
 pub record Forwarded (old : SendSide) (octets : List ℕ) (now place : ℕ) (d : Departure) (out : List ℕ) (new : SendSide) : Type 0 where
   pub packet : RtpPacket
   pub content : Content
-  pub carries : Carries old octets now packet content
+  pub carries : Carries old.core.config.session old.stream octets now packet content
   pub sends : SendsAt old.core.config.session old.core.past.capacity (state_of old.core) content 0 place (octets_of d out) (state_of new.core)
   pub goes : GoesTo d Far old.far
   pub config : new.core.config ≡ old.core.config
-  pub rest : new ≡ record old { core = new.core; stream = followed_at packet.ssrc now; tail = true }
+  pub rest : new ≡ record old { core = new.core; counts = count_sent (length content.payload.items) old.counts; stream = followed_at packet.ssrc now; tail = true }
 
 -- what is done with a datagram of the application: it is sent, or it carries nothing, or there is no place left
 abbrev pub Forwards : SendSide → (octets : List ℕ) → (now : ℕ) → Note → Option Departure → (out : List ℕ) → SendSide → Type 0
 Forwards old octets now (Sent place) (Some d) out new = Forwarded old octets now place d out new
 Forwards old octets now Unsent None out new =
-    ((packet : RtpPacket) (content : Content) → Carries old octets now packet content → 2 ^ 48 ≤ old.core.next) × (new ≡ old)
+    ((packet : RtpPacket) (content : Content) → Carries old.core.config.session old.stream octets now packet content → 2 ^ 48 ≤ old.core.next) × (new ≡ old)
 Forwards old octets now note leaves out new = ⊥
 
 -- what is done with a datagram at the other socket: the endpoint hears what the far side sent, and nobody else's
 abbrev pub HearsFar : SendSide → (from : SocketAddr) → (octets : List ℕ) → Note → Option Departure → SendSide → Type 0
 HearsFar old from octets (Told answer) None new =
-    (from ≡ old.far) × TellsKind (is_control octets) old.core octets answer new.core × (new ≡ record old { core = new.core })
+    (from ≡ old.far) × TellsKind (is_control octets) old.core octets answer new.core × (new ≡ record old { core = new.core; counts = count_told answer old.counts })
 HearsFar old from octets Stray None new = (from ≡ old.far → ⊥) × (new ≡ old)
 HearsFar old from octets note leaves new = ⊥
 
@@ -94,7 +107,7 @@ pub record Retransmits (old : SendSide) (now place : ℕ) (d : Departure) (out :
   pub repairs : RepairsAt old.core.config.session (state_of old.core) place (octets_of d out) (state_of new.core)
   pub goes : GoesTo d Far old.far
   pub config : new.core.config ≡ old.core.config
-  pub rest : new ≡ record old { core = new.core; pace = opens_after old.pace d.len now }
+  pub rest : new ≡ record old { core = new.core; counts = count_repaired old.counts; pace = opens_after old.pace d.len now }
 
 -- no packet is marked that the pace would let leave
 abbrev pub NothingOpen : SendSide → (now : ℕ) → Type 0

@@ -1,28 +1,33 @@
 //! A relay runs.
-ghost use Rattle.std.specs.Prelude.{◌≡◌, ℕ, [], length, IfOk, OnErr};
+ghost use Rattle.std.specs.Prelude.{◌≡◌, ℕ, List, false, true, None, length, IfOk, OnOk, OnErr};
 ghost use Rattle.rtpwire.specs.declared.limits.TheConstants.{MAX_DATAGRAM};
 ghost use Rattle.relays.specs.Passing.{Grows, IsWithin, left_by};
-ghost use Rattle.relays.specs.Running.{GoesOn, Ran};
+ghost use Rattle.relays.specs.Running.{Fails, Met, Ran};
 
 use crate::outside::{Octets, Outside, OutsideFault};
 use crate::relay::{Relay, Turn};
 use rtpwire::MAX_DATAGRAM;
 
 /// Runs a relay until it is done: whatever comes is handed to it, once and in order, and whatever it makes leaves, once and in
-/// order.
+/// order. It waits only where there is nothing to do, and no longer than until there is.
 ///
 /// `OutsideFault`: what is outside failed. What passed until then is whole.
 pub fn run<O: Outside, R: Relay>(outside: &mut O, relay: &mut R) -> Result<(), OutsideFault>
-    ensures { Ran R.hears R.speaks relay.old (O.traffic outside.old) relay.new (O.traffic outside.new) }
+    ensures ok { OnOk result (Ran R.hears R.speaks R.done false relay.old (O.traffic outside.old) relay.new (O.traffic outside.new)) }
+    ensures err { OnErr result (Ran R.hears R.speaks R.done true relay.old (O.traffic outside.old) relay.new (O.traffic outside.new)) }
 {
     let mut room = Octets::new();
     let mut out = [0; MAX_DATAGRAM];
-    for _ in 0..u64::MAX {
-        let now = meet(outside, relay, &mut room, &mut out)?;
-        act(outside, relay, now, &mut out);
+    let mut now = 0;
+    for _count in 0..u64::MAX {
+        if let Some(turn) = relay.speak(now, &mut out) {
+            deliver(outside, &turn, &[], &out, now);
+            continue;
+        }
         if relay.is_done(now) {
             return Ok(());
         }
+        now = meet(outside, relay, &mut room, &mut out)?;
     }
     Ok(())
 }
@@ -35,9 +40,8 @@ fn meet<O: Outside, R: Relay>(
     out: &mut [u8],
 ) -> Result<u64, OutsideFault>
     requires { length out.old ≡ MAX_DATAGRAM }
-    ensures goes { IfOk result (λ now. (was : ℕ) → GoesOn R.hears R.speaks relay.old was (O.traffic outside.old) relay.new now (O.traffic outside.new)) }
-    ensures nothing { OnErr result (Grows (O.traffic outside.old) [] (O.traffic outside.new)) }
-    ensures same { OnErr result (relay.new ≡ relay.old) }
+    ensures ok { IfOk result (λ now. (old : R) (was : ℕ) (spoken : List ℕ) → R.speaks old was None spoken relay.old → R.done relay.old was ≡ false → Met R.hears R.speaks R.done old was (O.traffic outside.old) relay.new now (O.traffic outside.new)) }
+    ensures err { OnErr result ((old : R) (was : ℕ) (spoken : List ℕ) → R.speaks old was None spoken relay.old → R.done relay.old was ≡ false → Fails R.speaks R.done old was (O.traffic outside.old) relay.new (O.traffic outside.new)) }
     ensures room { length out.new ≡ MAX_DATAGRAM }
 {
     let meeting = outside.wait(relay.next_moment(), room)?;
@@ -46,20 +50,6 @@ fn meet<O: Outside, R: Relay>(
         deliver(outside, &turn, room.as_slice(), out, meeting.now);
     }
     Ok(meeting.now)
-}
-
-/// Does all that is to be done at a moment.
-fn act<O: Outside, R: Relay>(outside: &mut O, relay: &mut R, now: u64, out: &mut [u8])
-    requires { length out.old ≡ MAX_DATAGRAM }
-    ensures goes { GoesOn R.hears R.speaks relay.old now (O.traffic outside.old) relay.new now (O.traffic outside.new) }
-    ensures room { length out.new ≡ MAX_DATAGRAM }
-{
-    for _ in 0..u64::MAX {
-        let Some(turn) = relay.speak(now, out) else {
-            return;
-        };
-        deliver(outside, &turn, &[], out, now);
-    }
 }
 
 /// Sends what leaves, and tells what was done.

@@ -1,7 +1,7 @@
 //! What a relay waits at and sends to.
 ghost use Rattle.std.specs.Prelude.{◌≡◌, [], ◌∷◌, List, Option, IfOk, OnErr};
 ghost use Rattle.relays.specs.declared.outside.Passage.{Passage};
-ghost use Rattle.relays.specs.Passing.{Grows, passage_of};
+ghost use Rattle.relays.specs.Passing.{Grows, met, met_failure};
 
 use crate::relay::Turn;
 use arrayvec::ArrayVec;
@@ -26,10 +26,14 @@ pub enum Side {
 /// What passed between a relay and what is outside of it.
 #[derive(Debug, Drop, PartialEq, Eq)]
 pub enum Passage {
+    /// A wait began, for no longer than until this moment. How it ended is what passed next.
+    Waits(Option<u64>),
     /// These octets came to the socket of this side, from this address, at this moment.
     Came(Side, SocketAddr, Octets, u64),
     /// Nothing came until this moment.
     Idle(u64),
+    /// A socket or the clock failed, and nothing came.
+    Failed,
     /// These octets left by the socket of this side, for this address.
     Left(Side, SocketAddr, Octets),
 }
@@ -58,8 +62,8 @@ pub trait Outside {
     ///
     /// `OutsideFault`: nothing came, and a socket or the clock failed.
     fn wait(&mut self, until: Option<u64>, room: &mut Octets) -> Result<Meeting, OutsideFault>
-        ensures met { IfOk result (λ meeting. Grows (traffic self.old) (passage_of meeting room.new ∷ []) (traffic self.new)) }
-        ensures nothing { OnErr result (Grows (traffic self.old) [] (traffic self.new)) };
+        ensures met { IfOk result (λ meeting. Grows (traffic self.old) (met until meeting room.new) (traffic self.new)) }
+        ensures failed { OnErr result (Grows (traffic self.old) (met_failure until) (traffic self.new)) };
 
     /// Hands octets over, to leave by the socket of a side for an address. Whether the network takes them is not known.
     fn send(&mut self, side: Side, to: SocketAddr, octets: &[u8])

@@ -1,5 +1,5 @@
 //! How fast retransmissions leave (RFC 4588, section 7: they share the rate of the session).
-ghost use Rattle.std.specs.Prelude.{◌≡◌};
+ghost use Rattle.std.specs.Prelude.{◌≡◌, ℕ, nat_le};
 ghost use Rattle.relays.specs.Pacing.{opens_after, is_open};
 
 /// A rate of retransmissions. Each closes it for as long as its octets take at that rate.
@@ -41,7 +41,9 @@ impl Pace {
     }
 
     /// The moment from which on one may leave, in milliseconds.
-    pub fn opens(&self) -> u64 {
+    pub fn opens(&self) -> u64
+        ensures { (now : ℕ) → is_open self.now now ≡ nat_le result now }
+    {
         self.opens / 1000 + u64::from(self.opens % 1000 > 0)
     }
 }

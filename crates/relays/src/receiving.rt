@@ -1,14 +1,14 @@
 //! The relay behind a network that loses.
-ghost use Rattle.std.specs.Prelude.{◌≡◌, ◌↔◌, ◌+◌, ◌≤◌, ◌<◌, ℕ, List, length, None, IfSome, IfOk, IsOk, OnErr, OnOk, take, true};
+ghost use Rattle.std.specs.Prelude.{◌≡◌, ◌↔◌, ◌+◌, ◌^◌, ◌≤◌, ◌<◌, ℕ, List, false, length, None, IfSome, IfOk, IsOk, OnErr, OnOk, take, true};
 ghost use Rattle.receiver.specs.declared.answer.Played.TheVariants.{Wait};
 ghost use Rattle.rtpwire.specs.declared.limits.TheConstants.{MAX_DATAGRAM};
 ghost use Rattle.rtpwire.specs.Rtp.{RtpSpells};
 ghost use Rattle.rtpwire.specs.Content.{packet_of};
 ghost use Rattle.receiver.specs.Receiver.{begun, state_of};
-ghost use Rattle.endpoint.specs.Receiving.{fresh, no_run};
+ghost use Rattle.stores.specs.Asking.{has_come};
 ghost use Rattle.relays.specs.Passing.{IsWithin};
 ghost use Rattle.relays.specs.RoundTrip.{measured_by};
-ghost use Rattle.relays.specs.ReceiveRelay.{Asks, HearsFar, next_play, NothingDue, numbering_after, PlaysOut, receive_side, SpeaksAs};
+ghost use Rattle.relays.specs.ReceiveRelay.{Asks, HearsFar, is_done, new_receive_side, next_play, NothingDue, numbering_after, PlaysOut, SpeaksAs};
 
 use crate::bounds::Bounds;
 use crate::numbering::Numbering;
@@ -20,6 +20,7 @@ use places::near;
 use receiver::{HasStarted, Peeked, ReceiveFault, ReceiverConfig};
 use rtpwire::{Carried, Content, MAX_DATAGRAM, Session, media_len, u16_at, write_media_into};
 use std::alloc::Global;
+use std::marker::Model;
 use std::net::SocketAddr;
 use stores::{OutOfMemory, SlotRef, Window, sooner};
 
@@ -43,6 +44,14 @@ pub struct ReceiveRelay<W: Window> {
     bounds: Bounds,
 }
 
+impl<W: Window> Model for ReceiveRelay<W> {
+    ghost use Rattle.relays.specs.ReceiveRelay.{ReceiveSide};
+
+    ghost Value = { ReceiveSide };
+
+    ghost view = { λ r. record { core = r.endpoint.core; spare = r.endpoint.spare; run = r.endpoint.run; probation = r.endpoint.probation; counts = r.endpoint.counts; far = r.far; player = r.player; numbering = r.numbering; trip = r.trip; is_new = r.is_new; last = r.last; bounds = r.bounds } };
+}
+
 impl<W: Window> ReceiveRelay<W> {
     /// A relay from a far side to a player that took nothing so far. Its windows keep up to `capacity` places each, from 1 to 8192
     /// of them. The player's sequence numbers go on from `numbering`.
@@ -59,13 +68,7 @@ impl<W: Window> ReceiveRelay<W> {
     ) -> Result<ReceiveRelay<W>, OutOfMemory>
         requires nonzero { 0 < capacity }
         requires limit { capacity ≤ 8192 }
-        ensures core { IfOk result (λ made. made.endpoint.core ≡ fresh config capacity) }
-        ensures spare { IfOk result (λ made. made.endpoint.spare ≡ fresh config capacity) }
-        ensures run { IfOk result (λ made. made.endpoint.run ≡ no_run) }
-        ensures probation { IfOk result (λ made. made.endpoint.probation ≡ record { dropout = 3000; misorder = 100; ahead = 2; behind = 256 }) }
-        ensures far { IfOk result (λ made. made.far ≡ far) }
-        ensures player { IfOk result (λ made. made.player ≡ player) }
-        ensures numbering { IfOk result (λ made. made.numbering ≡ numbering) }
+        ensures { IfOk result (λ made. made ≡ new_receive_side config capacity far player numbering bounds) }
     {
         Ok(ReceiveRelay {
             endpoint: ReceivingEndpoint::new(alloc, config, Probation::usual(), capacity)?,
@@ -81,7 +84,7 @@ impl<W: Window> ReceiveRelay<W> {
 
     /// What its endpoint answered so far.
     pub fn counts(&self) -> ReceiveCounts
-        ensures { result ≡ self.now.endpoint.counts }
+        ensures { result ≡ self.now.counts }
     {
         self.endpoint.counts()
     }
@@ -94,20 +97,30 @@ impl<W: Window> ReceiveRelay<W> {
     }
 
     /// The moment at which it ends by its bounds.
-    fn end(&self) -> Option<u64> {
+    fn end(&self) -> Option<u64>
+        ensures { (now : ℕ) → has_come result now ≡ is_done self.now now }
+    {
         let counts = self.endpoint.counts();
         self.bounds
             .end(counts.played.saturating_add(counts.gaps), self.last)
+    }
+
+    /// From when on something is to be played or asked for.
+    #[tactic(auto, using(crate::proofs::Waking::waits, crate::proofs::Waking::asks_nothing))]
+    fn core_moment(&self) -> Option<u64>
+        ensures plays { (now : ℕ) → now < 2 ^ 64 → has_come result now ≡ false → next_play self.now now ≡ Wait }
+        ensures asks { (now : ℕ) → now < 2 ^ 64 → has_come result now ≡ false → NothingDue self.now now }
+    {
+        self.endpoint.core().next_moment()
     }
 
     /// Has the stream begin with this sequence number: so what is lost before the first packet that comes is asked for too.
     ///
     /// `HasStarted` (40): a packet was taken already, or it began before. The relay is then as it was.
     pub fn begin(&mut self, first: u16) -> Result<(), HasStarted>
-        ensures ok { OnOk result (self.new.endpoint.core ≡ begun self.old.endpoint.core (65536 + first)) }
-        ensures unstarted { IsOk result ↔ (state_of self.old.endpoint.core ≡ None) }
+        ensures ok { OnOk result (self.new ≡ record self.old { core = begun self.old.core (65536 + first) }) }
+        ensures unstarted { IsOk result ↔ (state_of self.old.core ≡ None) }
         ensures err { OnErr result (self.new ≡ self.old) }
-        ensures rest { self.new ≡ record self.old { endpoint = self.new.endpoint } }
     {
         self.endpoint.begin(first)
     }
@@ -121,15 +134,14 @@ impl<W: Window> ReceiveRelay<W> {
 
     /// The session that it takes.
     pub fn session(&self) -> Session
-        ensures { result ≡ self.now.endpoint.core.config.session }
+        ensures { result ≡ self.now.core.config.session }
     {
         self.endpoint.core().config().session()
     }
 
     /// Hears a datagram at the far side's socket.
     fn hear_far(&mut self, from: SocketAddr, octets: &[u8], now: u64) -> Turn
-        ensures hears { HearsFar (receive_side self.old.endpoint.core self.old.endpoint.spare self.old.endpoint.run self.old.endpoint.probation self.old.far self.old.player self.old.numbering self.old.trip self.old.is_new) from octets.now now result.note result.leaves
-            (receive_side self.new.endpoint.core self.new.endpoint.spare self.new.endpoint.run self.new.endpoint.probation self.new.far self.new.player self.new.numbering self.new.trip self.new.is_new) }
+        ensures hears { HearsFar self.old from octets.now now result.note result.leaves self.new }
         ensures within { IsWithin result }
     {
         if from != self.far {
@@ -146,8 +158,7 @@ impl<W: Window> ReceiveRelay<W> {
     /// Has the times follow what was measured.
     fn set_times(&mut self) -> Turn
         requires { self.old.is_new ≡ true }
-        ensures sets { (now : ℕ) (out : List ℕ) → SpeaksAs (receive_side self.old.endpoint.core self.old.endpoint.spare self.old.endpoint.run self.old.endpoint.probation self.old.far self.old.player self.old.numbering self.old.trip self.old.is_new) now result.note result.leaves out
-            (receive_side self.new.endpoint.core self.new.endpoint.spare self.new.endpoint.run self.new.endpoint.probation self.new.far self.new.player self.new.numbering self.new.trip self.new.is_new) }
+        ensures sets { (now : ℕ) (out : List ℕ) → SpeaksAs self.old now result.note result.leaves out self.new }
         ensures within { IsWithin result }
     {
         self.is_new = false;
@@ -161,10 +172,9 @@ impl<W: Window> ReceiveRelay<W> {
     /// Plays, and writes what goes to the player.
     fn play(&mut self, now: u64, out: &mut [u8]) -> Option<Turn>
         requires { length out.old ≡ MAX_DATAGRAM }
-        ensures some { IfSome result (λ turn. PlaysOut (next_play (receive_side self.old.endpoint.core self.old.endpoint.spare self.old.endpoint.run self.old.endpoint.probation self.old.far self.old.player self.old.numbering self.old.trip self.old.is_new) now) (receive_side self.old.endpoint.core self.old.endpoint.spare self.old.endpoint.run self.old.endpoint.probation self.old.far self.old.player self.old.numbering self.old.trip self.old.is_new) turn.note turn.leaves out.new
-            (receive_side self.new.endpoint.core self.new.endpoint.spare self.new.endpoint.run self.new.endpoint.probation self.new.far self.new.player self.new.numbering self.new.trip self.new.is_new)) }
-        ensures none { result ≡ None → next_play (receive_side self.old.endpoint.core self.old.endpoint.spare self.old.endpoint.run self.old.endpoint.probation self.old.far self.old.player self.old.numbering self.old.trip self.old.is_new) now ≡ Wait }
-        ensures same { result ≡ None → (receive_side self.new.endpoint.core self.new.endpoint.spare self.new.endpoint.run self.new.endpoint.probation self.new.far self.new.player self.new.numbering self.new.trip self.new.is_new) ≡ (receive_side self.old.endpoint.core self.old.endpoint.spare self.old.endpoint.run self.old.endpoint.probation self.old.far self.old.player self.old.numbering self.old.trip self.old.is_new) }
+        ensures some { IfSome result (λ turn. PlaysOut (next_play self.old now) self.old now turn.note turn.leaves out.new self.new) }
+        ensures none { result ≡ None → next_play self.old now ≡ Wait }
+        ensures same { result ≡ None → self.new ≡ self.old }
         ensures within { IfSome result IsWithin }
         ensures room { length out.new ≡ MAX_DATAGRAM }
     {
@@ -204,10 +214,9 @@ impl<W: Window> ReceiveRelay<W> {
     /// Asks the far side for what is due.
     fn ask(&mut self, now: u64, out: &mut [u8]) -> Option<Turn>
         requires { length out.old ≡ MAX_DATAGRAM }
-        ensures some { IfSome result (λ turn. Asks (receive_side self.old.endpoint.core self.old.endpoint.spare self.old.endpoint.run self.old.endpoint.probation self.old.far self.old.player self.old.numbering self.old.trip self.old.is_new) now turn.note turn.leaves out.new
-            (receive_side self.new.endpoint.core self.new.endpoint.spare self.new.endpoint.run self.new.endpoint.probation self.new.far self.new.player self.new.numbering self.new.trip self.new.is_new)) }
-        ensures none { result ≡ None → NothingDue (receive_side self.old.endpoint.core self.old.endpoint.spare self.old.endpoint.run self.old.endpoint.probation self.old.far self.old.player self.old.numbering self.old.trip self.old.is_new) now }
-        ensures same { result ≡ None → (receive_side self.new.endpoint.core self.new.endpoint.spare self.new.endpoint.run self.new.endpoint.probation self.new.far self.new.player self.new.numbering self.new.trip self.new.is_new) ≡ (receive_side self.old.endpoint.core self.old.endpoint.spare self.old.endpoint.run self.old.endpoint.probation self.old.far self.old.player self.old.numbering self.old.trip self.old.is_new) }
+        ensures some { IfSome result (λ turn. Asks self.old now turn.note turn.leaves out.new self.new) }
+        ensures none { result ≡ None → NothingDue self.old now }
+        ensures same { result ≡ None → self.new ≡ self.old }
         ensures within { IfSome result IsWithin }
         ensures room { length out.new ≡ MAX_DATAGRAM }
     {
@@ -294,11 +303,13 @@ fn write(content: &Content, number: u16, session: &Session, ssrc: u32, out: &mut
 }
 
 impl<W: Window> Relay for ReceiveRelay<W> {
-    ghost use Rattle.relays.specs.ReceiveRelay.{Hears, Speaks, receive_side};
+    ghost use Rattle.relays.specs.ReceiveRelay.{Hears, Speaks, is_done};
 
-    ghost hears = { λ old side from octets now turn out new. Hears (receive_side old.endpoint.core old.endpoint.spare old.endpoint.run old.endpoint.probation old.far old.player old.numbering old.trip old.is_new) side from octets now turn out (receive_side new.endpoint.core new.endpoint.spare new.endpoint.run new.endpoint.probation new.far new.player new.numbering new.trip new.is_new) };
+    ghost hears = { λ old side from octets now turn out new. Hears old side from octets now turn out new };
 
-    ghost speaks = { λ old now turn out new. Speaks (receive_side old.endpoint.core old.endpoint.spare old.endpoint.run old.endpoint.probation old.far old.player old.numbering old.trip old.is_new) now turn out (receive_side new.endpoint.core new.endpoint.spare new.endpoint.run new.endpoint.probation new.far new.player new.numbering new.trip new.is_new) };
+    ghost speaks = { λ old now turn out new. Speaks old now turn out new };
+
+    ghost done = { λ relay now. is_done relay now };
 
     fn hear(
         &mut self,
@@ -325,7 +336,10 @@ impl<W: Window> Relay for ReceiveRelay<W> {
     }
 
     fn next_moment(&self) -> Option<u64> {
-        sooner(self.endpoint.core().next_moment(), self.end())
+        if self.is_new {
+            return Some(0);
+        }
+        sooner(self.core_moment(), self.end())
     }
 
     fn is_done(&self, now: u64) -> bool {

@@ -1,10 +1,11 @@
 //! A relay, as what carries its datagrams sees it.
-ghost use Rattle.std.specs.Prelude.{◌≡◌, ◌≤◌, ℕ, List, Option, None, length, IfSome};
+ghost use Rattle.std.specs.Prelude.{◌≡◌, ◌≤◌, ℕ, Bool, List, Option, None, length, IfSome};
 ghost use Rattle.rtpwire.specs.declared.limits.TheConstants.{MAX_DATAGRAM};
 ghost use Rattle.std.specs.declared.net.socket_addr.SocketAddr.{SocketAddr};
 ghost use Rattle.relays.specs.declared.outside.Side.{Side};
 ghost use Rattle.relays.specs.declared.relay.Turn.{Turn};
 ghost use Rattle.relays.specs.Passing.{IsWithin};
+ghost use Rattle.relays.specs.Running.{RestsUntil};
 
 use crate::outside::Side;
 use endpoint::{Heard, Told};
@@ -74,6 +75,9 @@ pub trait Relay {
     /// What it does of its own at a moment, and the octets that are written then.
     ghost speaks: { Self → ℕ → Option Turn → List ℕ → Self → Type 0 };
 
+    /// Whether it has done all that it was to do, at a moment.
+    ghost done: { Self → ℕ → Bool };
+
     /// Takes the octets of a datagram that came to a side from an address at the moment `now`, in milliseconds. What leaves
     /// because of it stands at the front of `out`.
     fn hear(
@@ -97,9 +101,12 @@ pub trait Relay {
         ensures within { IfSome result IsWithin }
         ensures room { length out.new ≡ MAX_DATAGRAM };
 
-    /// The moment to call [`speak`](Relay::speak) again, in milliseconds, if nothing comes until then.
-    fn next_moment(&self) -> Option<u64>;
+    /// The moment to call [`speak`](Relay::speak) again, in milliseconds, if nothing comes until then: before it there is nothing
+    /// to do, and it is not done.
+    fn next_moment(&self) -> Option<u64>
+        ensures { RestsUntil speaks done self.now result };
 
-    /// Whether it has done all that it was to do.
-    fn is_done(&self, now: u64) -> bool;
+    /// Whether it has done all that it was to do, at the moment `now`, in milliseconds.
+    fn is_done(&self, now: u64) -> bool
+        ensures { result ≡ done self.now now };
 }

@@ -1,9 +1,10 @@
 //! The relay before a network that loses.
-ghost use Rattle.std.specs.Prelude.{◌≡◌, ◌≤◌, ℕ, [], length, None, IfSome, false};
+ghost use Rattle.std.specs.Prelude.{◌≡◌, ◌<◌, ◌^◌, ℕ, [], length, None, IfSome, false};
 ghost use Rattle.rtpwire.specs.declared.limits.TheConstants.{MAX_DATAGRAM};
 ghost use Rattle.sender.specs.Sender.{new_sending};
+ghost use Rattle.stores.specs.Asking.{has_come};
 ghost use Rattle.relays.specs.Passing.{IsWithin};
-ghost use Rattle.relays.specs.SendRelay.{CarriesNothing, Forwards, HearsFar, IsCarried, is_tail_at, NothingOpen, send_side, SpeaksAs};
+ghost use Rattle.relays.specs.SendRelay.{CarriesNothing, Forwards, HearsFar, IsCarried, is_done, is_tail_at, new_send_side, NothingOpen, SpeaksAs};
 
 use crate::bounds::Bounds;
 use crate::outside::Side;
@@ -13,6 +14,7 @@ use crate::stream::Stream;
 use endpoint::{SendCounts, SendingEndpoint};
 use rtpwire::{Carried, MAX_DATAGRAM, RtpView, Session};
 use sender::SenderConfig;
+use std::marker::Model;
 use std::net::SocketAddr;
 use stores::{History, sooner};
 
@@ -31,10 +33,22 @@ pub struct SendRelay<H: History> {
     pace: Pace,
     /// Whether the last packet is still to be retransmitted, once the stream falls silent.
     tail: bool,
-    /// Whether a packet may be marked that waits for the pace.
+    /// Whether a packet may be marked. It is so after whatever may mark one, until none is found.
     is_pending: bool,
     bounds: Bounds,
-    ghost same: { session ≡ endpoint.core.config.session },
+}
+
+impl<H: History> Model for SendRelay<H> {
+    ghost use Rattle.std.specs.Prelude.{◌≡◌, false};
+    ghost use Rattle.sender.specs.Sender.{state_of};
+    ghost use Rattle.sender.specs.History.{NoneMarked};
+    ghost use Rattle.relays.specs.SendRelay.{SendSide};
+
+    ghost Value = { SendSide };
+
+    ghost view = { λ r. record { core = r.endpoint.core; counts = r.endpoint.counts; far = r.far; stream = r.stream; pace = r.pace; tail = r.tail; bounds = r.bounds } };
+
+    ghost invariant = { λ r. (r.session ≡ r.endpoint.core.config.session) × (r.is_pending ≡ false → NoneMarked (state_of r.endpoint.core)) };
 }
 
 impl<H: History> SendRelay<H> {
@@ -48,11 +62,7 @@ impl<H: History> SendRelay<H> {
         bounds: Bounds,
     ) -> SendRelay<H>
         requires { (H.meaning history).entries ≡ [] }
-        ensures core { result.endpoint.core ≡ new_sending config (H.meaning history) }
-        ensures far { result.far ≡ far }
-        ensures stream { result.stream ≡ stream }
-        ensures pace { result.pace ≡ pace }
-        ensures tail { result.tail ≡ false }
+        ensures { result ≡ new_send_side (new_sending config (H.meaning history)) far stream pace bounds }
     {
         SendRelay {
             endpoint: SendingEndpoint::new(config, history),
@@ -61,53 +71,26 @@ impl<H: History> SendRelay<H> {
             stream,
             pace,
             tail: false,
-            is_pending: false,
+            is_pending: true,
             bounds,
         }
     }
 
     /// What its endpoint did so far.
     pub fn counts(&self) -> SendCounts
-        ensures { result ≡ self.now.endpoint.counts }
+        ensures { result ≡ self.now.counts }
     {
         self.endpoint.counts()
     }
 
-    /// The SSRC and what is carried of a datagram of the application, if it is a packet of the stream.
-    fn carried<'a>(&self, octets: &'a [u8], now: u64) -> Option<(u32, Carried<'a>)>
-        ensures some { IfSome result (λ c. IsCarried (send_side self.now.endpoint.core self.now.far self.now.stream self.now.pace self.now.tail) octets.now now c.0 c.1) }
-        ensures none { result ≡ None → CarriesNothing (send_side self.now.endpoint.core self.now.far self.now.stream self.now.pace self.now.tail) octets.now now }
-    {
-        let Ok(view) = RtpView::read(octets) else {
-            return None;
-        };
-        let ssrc = view.ssrc();
-        if view.payload_type() != self.session.media_type() {
-            return None;
-        }
-        if !self.stream.follows(ssrc, now) {
-            return None;
-        }
-        match Carried::with_payload(&view, view.payload()) {
-            Ok(carried) => Some((ssrc, carried)),
-            Err(_) => None,
-        }
-    }
-
-    /// The moment at which it ends by its bounds.
-    fn end(&self) -> Option<u64> {
-        self.bounds
-            .end(self.endpoint.counts().sent, self.stream.last())
-    }
-
-    /// Sends a packet of the application.
+    /// Sends a datagram of the application, if it is a packet of the stream.
     fn forward(&mut self, octets: &[u8], now: u64, out: &mut [u8]) -> Turn
         requires { length out.old ≡ MAX_DATAGRAM }
-        ensures forwards { Forwards (send_side self.old.endpoint.core self.old.far self.old.stream self.old.pace self.old.tail) octets.now now result.note result.leaves out.new (send_side self.new.endpoint.core self.new.far self.new.stream self.new.pace self.new.tail) }
+        ensures forwards { Forwards self.old octets.now now result.note result.leaves out.new self.new }
         ensures within { IsWithin result }
         ensures room { length out.new ≡ MAX_DATAGRAM }
     {
-        let Some((ssrc, carried)) = self.carried(octets, now) else {
+        let Some((ssrc, carried)) = carried(&self.session, &self.stream, octets, now) else {
             return silent(Note::Unsent);
         };
         let Ok(Ok((place, len))) = self.endpoint.send_into(out, &carried, 0) else {
@@ -115,6 +98,7 @@ impl<H: History> SendRelay<H> {
         };
         self.stream.follow(ssrc, now);
         self.tail = true;
+        self.is_pending = true;
         Turn {
             note: Note::Sent(place),
             leaves: Some(Departure {
@@ -127,7 +111,7 @@ impl<H: History> SendRelay<H> {
 
     /// Hears a datagram at the far side's socket.
     fn hear_far(&mut self, from: SocketAddr, octets: &[u8]) -> Turn
-        ensures hears { HearsFar (send_side self.old.endpoint.core self.old.far self.old.stream self.old.pace self.old.tail) from octets.now result.note result.leaves (send_side self.new.endpoint.core self.new.far self.new.stream self.new.pace self.new.tail) }
+        ensures hears { HearsFar self.old from octets.now result.note result.leaves self.new }
         ensures within { IsWithin result }
     {
         if from != self.far {
@@ -140,52 +124,104 @@ impl<H: History> SendRelay<H> {
     /// Retransmits the least packet that is marked, if the pace lets it leave.
     fn retransmit(&mut self, now: u64, out: &mut [u8]) -> Option<Turn>
         requires { length out.old ≡ MAX_DATAGRAM }
-        ensures some { IfSome result (λ turn. SpeaksAs (send_side self.old.endpoint.core self.old.far self.old.stream self.old.pace self.old.tail) now turn.note turn.leaves out.new (send_side self.new.endpoint.core self.new.far self.new.stream self.new.pace self.new.tail)) }
-        ensures none { result ≡ None → NothingOpen (send_side self.old.endpoint.core self.old.far self.old.stream self.old.pace self.old.tail) now }
-        ensures same { result ≡ None → send_side self.new.endpoint.core self.new.far self.new.stream self.new.pace self.new.tail ≡ send_side self.old.endpoint.core self.old.far self.old.stream self.old.pace self.old.tail }
+        ensures some { IfSome result (λ turn. SpeaksAs self.old now turn.note turn.leaves out.new self.new) }
+        ensures none { result ≡ None → NothingOpen self.old now }
+        ensures same { result ≡ None → self.new ≡ self.old }
         ensures within { IfSome result IsWithin }
         ensures room { length out.new ≡ MAX_DATAGRAM }
     {
         if !self.pace.is_open(now) {
             return None;
         }
-        match self.endpoint.next_repair_into(out) {
-            Ok(Some((place, len))) => {
-                self.pace.spend(len, now);
-                Some(Turn {
-                    note: Note::Retransmitted(place),
-                    leaves: Some(Departure {
-                        side: Side::Far,
-                        to: self.far,
-                        len,
-                    }),
-                })
-            }
-            Ok(None) => {
-                self.is_pending = false;
-                None
-            }
-            Err(_) => None,
-        }
+        let Ok(Some((place, len))) = self.endpoint.next_repair_into(out) else {
+            self.is_pending = false;
+            return None;
+        };
+        self.pace.spend(len, now);
+        Some(Turn {
+            note: Note::Retransmitted(place),
+            leaves: Some(Departure {
+                side: Side::Far,
+                to: self.far,
+                len,
+            }),
+        })
     }
 
     /// Whether the last packet is to be retransmitted at the moment `now`.
     fn is_tail_at(&self, now: u64) -> bool
-        ensures { result ≡ is_tail_at (send_side self.now.endpoint.core self.now.far self.now.stream self.now.pace self.now.tail) now }
+        ensures { result ≡ is_tail_at self.now now }
     {
         match self.stream.last() {
             Some(last) => self.tail && now.saturating_sub(last) >= SILENT,
             None => false,
         }
     }
+
+    /// From when on the last packet is to be retransmitted.
+    fn tail_moment(&self) -> Option<u64>
+        ensures { (now : ℕ) → now < 2 ^ 64 → has_come result now ≡ false → is_tail_at self.now now ≡ false }
+    {
+        match self.stream.last() {
+            Some(last) if self.tail => Some(last.saturating_add(SILENT)),
+            _ => None,
+        }
+    }
+
+    /// From when on a packet that is marked may leave, if one may be.
+    fn marked_moment(&self) -> Option<u64>
+        ensures { (now : ℕ) → has_come result now ≡ false → NothingOpen self.now now }
+    {
+        if self.is_pending {
+            Some(self.pace.opens())
+        } else {
+            None
+        }
+    }
+
+    /// The moment at which it ends by its bounds.
+    fn end(&self) -> Option<u64>
+        ensures { (now : ℕ) → has_come result now ≡ is_done self.now now }
+    {
+        self.bounds
+            .end(self.endpoint.counts().sent, self.stream.last())
+    }
+}
+
+/// The SSRC and what is carried of a datagram of the application, if it is a packet of the stream.
+fn carried<'a>(
+    session: &Session,
+    stream: &Stream,
+    octets: &'a [u8],
+    now: u64,
+) -> Option<(u32, Carried<'a>)>
+    ensures some { IfSome result (λ c. IsCarried session.now stream.now octets.now now c.0 c.1) }
+    ensures none { result ≡ None → CarriesNothing session.now stream.now octets.now now }
+{
+    let Ok(view) = RtpView::read(octets) else {
+        return None;
+    };
+    let ssrc = view.ssrc();
+    if view.payload_type() != session.media_type() {
+        return None;
+    }
+    if !stream.follows(ssrc, now) {
+        return None;
+    }
+    match Carried::with_payload(&view, view.payload()) {
+        Ok(carried) => Some((ssrc, carried)),
+        Err(_) => None,
+    }
 }
 
 impl<H: History> Relay for SendRelay<H> {
-    ghost use Rattle.relays.specs.SendRelay.{Hears, Speaks, send_side};
+    ghost use Rattle.relays.specs.SendRelay.{Hears, Speaks, is_done};
 
-    ghost hears = { λ old side from octets now turn out new. Hears (send_side old.endpoint.core old.far old.stream old.pace old.tail) side from octets now turn out (send_side new.endpoint.core new.far new.stream new.pace new.tail) };
+    ghost hears = { λ old side from octets now turn out new. Hears old side from octets now turn out new };
 
-    ghost speaks = { λ old now turn out new. Speaks (send_side old.endpoint.core old.far old.stream old.pace old.tail) now turn out (send_side new.endpoint.core new.far new.stream new.pace new.tail) };
+    ghost speaks = { λ old now turn out new. Speaks old now turn out new };
+
+    ghost done = { λ relay now. is_done relay now };
 
     fn hear(
         &mut self,
@@ -214,12 +250,8 @@ impl<H: History> Relay for SendRelay<H> {
     }
 
     fn next_moment(&self) -> Option<u64> {
-        let tail = match self.stream.last() {
-            Some(last) if self.tail => Some(last.saturating_add(SILENT)),
-            _ => None,
-        };
-        let marked = self.is_pending.then_some(self.pace.opens());
-        sooner(sooner(tail, marked), self.end())
+        let own = sooner(self.tail_moment(), self.marked_moment());
+        sooner(own, self.end())
     }
 
     fn is_done(&self, now: u64) -> bool {

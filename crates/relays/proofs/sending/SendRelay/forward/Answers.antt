@@ -1,11 +1,18 @@
-use Rattle.std.proofs.Common.{refl, subst, sym}
+use Rattle.std.proofs.Common.{◌≡◌, ◌∙◌, ap, refl, subst, sym}
+use Rattle.rtpwire.specs.Session.{Streams}
 use Rattle.relays.specs.declared.relay.Turn.{Turn}
-use Rattle.relays.specs.SendRelay.{Forwards, send_side}
+use Rattle.relays.specs.declared.stream.Stream.{Stream}
+use Rattle.relays.specs.SendRelay.{Carries, Forwards, SendSide}
 use Rattle.relays.proofs.sending.SendRelay.forward.Goals as goal
 
 pub returns-in_default-clause-forwards : goal.returns-in_default-clause-forwards
 returns-in_default-clause-forwards g c =
-    let s = c.args.self.now in
-    let side = send_side s.endpoint.core s.far s.stream s.pace s.tail in
-    subst (λ (turn : Turn). Forwards side c.args.octets.now c.args.now turn.note turn.leaves c.args.out.now side) (sym c.silent.ensures)
-    ((λ packet content carries. absurd (c.carried.ensures.none c.in_default.is packet content carries)), refl)
+    let old = c.args.self.now in
+    let its : old.core.config.session ≡ c.self.inside.session = ap (λ (s : SendSide). s.core.config.session) (sym c.self.view_is) ∙ sym c.self.invariant.0 in
+    let followed : old.stream ≡ c.self.inside.stream = ap (λ (s : SendSide). s.stream) (sym c.self.view_is) in
+    subst (λ (turn : Turn). Forwards old c.args.octets.now c.args.now turn.note turn.leaves c.args.out.now old) (sym c.silent.ensures) (
+      (λ packet content carries. absurd (c.carried.ensures.none c.in_default.is packet content
+          (subst (λ (s : Streams). Carries s c.self.inside.stream c.args.octets.now c.args.now packet content) its
+          (subst (λ (s : Stream). Carries old.core.config.session s c.args.octets.now c.args.now packet content) followed carries)))),
+      refl,
+    )

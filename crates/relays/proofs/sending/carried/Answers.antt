@@ -1,33 +1,31 @@
 use Rattle.std.proofs.Common.{◌≡◌, ◌∙◌, ℕ, List, ap, refl, subst, sym}
 use Rattle.std.proofs.lemmas.Bool.{true≢false}
 use Rattle.rtpwire.specs.Rtp.{RtpPacket}
-use Rattle.rtpwire.specs.Session.{Streams}
 use Rattle.rtpwire.specs.Content.{IsTooLong}
 use Rattle.relays.specs.Following.{follows}
 use Rattle.relays.proofs.Reading.{same_packet}
-use Rattle.relays.proofs.sending.SendRelay.carried.Goals as goal
+use Rattle.relays.proofs.sending.carried.Goals as goal
 
 pub returns-in_default-clause-none : goal.returns-in_default-clause-none
-returns-in_default-clause-none g c same packet content carries = c.in_default.not-Ok packet (c.read.ensures.only packet carries.spelled)
+returns-in_default-clause-none c same packet content carries = c.in_default.not-Ok packet (c.read.ensures.only packet carries.spelled)
 
 pub returns-then-payload_type-media_type-clause-none : goal.returns-then-payload_type-media_type-clause-none
-returns-then-payload_type-media_type-clause-none g c same packet content carries =
+returns-then-payload_type-media_type-clause-none c same packet content carries =
     let is = same_packet c.read.result c.in-Ok.view packet c.in-Ok.is (c.read.ensures.only packet carries.spelled) in
     c.if-payload_type-media_type.true
     (c.payload_type.ensures
     ∙ ap (λ (p : RtpPacket). p.payload_type) is
     ∙ carries.of_type
-    ∙ ap (λ (s : Streams). s.media_type) (sym c.args.self.now.same)
     ∙ sym c.media_type.ensures.value)
 
 pub returns-then-not-follows-clause-none : goal.returns-then-not-follows-clause-none
-returns-then-not-follows-clause-none g c same packet content carries =
+returns-then-not-follows-clause-none c same packet content carries =
     let is = same_packet c.read.result c.in-Ok.view packet c.in-Ok.is (c.read.ensures.only packet carries.spelled) in
     let its : packet.ssrc ≡ c.ssrc-ssrc.result = ap (λ (p : RtpPacket). p.ssrc) (sym is) ∙ sym c.ssrc-ssrc.ensures in
-    true≢false (sym carries.of_stream ∙ ap (λ (n : ℕ). follows c.args.self.now.stream n c.args.now) its ∙ sym c.if-not-follows.ensures)
+    true≢false (sym carries.of_stream ∙ ap (λ (n : ℕ). follows c.args.stream.now n c.args.now) its ∙ sym c.if-not-follows.ensures)
 
 pub returns-in-Err-clause-none : goal.returns-in-Err-clause-none
-returns-in-Err-clause-none g c same packet content carries =
+returns-in-Err-clause-none c same packet content carries =
     let is = same_packet c.read.result c.in-Ok.view packet c.in-Ok.is (c.read.ensures.only packet carries.spelled) in
     let view = c.in-Ok.view in
     let long : IsTooLong (record view { payload = c.payload.result.now }) = c.in-Err.ensures.too_long.0 refl in
