@@ -247,10 +247,21 @@ static void end(GstGozdritRecv *self) {
     g_mutex_unlock(&self->lock);
 }
 
+/* A sink that is not yet PAUSED when a live pipeline goes on to PLAYING stays behind until all sinks are PAUSED, that of the media
+ * too, and takes no NACK: then what is lost of the first frame could not be asked for. Its gap event is under way. */
+static void wait_for_feedback_sink(GstGozdritRecv *self) {
+    GstPad *peer = gst_pad_get_peer(self->feedback);
+    GstElement *next = peer ? gst_pad_get_parent_element(peer) : NULL;
+    if (next) gst_element_get_state(next, NULL, NULL, 100 * GST_MSECOND);
+    gst_clear_object(&next);
+    gst_clear_object(&peer);
+}
+
 static GstStateChangeReturn change_state(GstElement *element, GstStateChange change) {
     GstGozdritRecv *self = GST_GOZDRIT_RECV(element);
     if (change == GST_STATE_CHANGE_READY_TO_PAUSED) begin(self);
     GstStateChangeReturn done = GST_ELEMENT_CLASS(gst_gozdrit_recv_parent_class)->change_state(element, change);
+    if (change == GST_STATE_CHANGE_READY_TO_PAUSED) wait_for_feedback_sink(self);
     if (change == GST_STATE_CHANGE_PAUSED_TO_READY) end(self);
     return done;
 }

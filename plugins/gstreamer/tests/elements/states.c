@@ -155,7 +155,43 @@ static void test_changes(void) {
     drop_pair(&p);
 }
 
+static void on_nack(GstElement *sink, GstBuffer *buffer, GstPad *pad, gint *nacks) {
+    (void)sink, (void)buffer, (void)pad;
+    g_atomic_int_inc(nacks);
+}
+
+/* Whether the first packet, which was lost, is asked for in a live pipeline, while the media's sink waits for it. */
+static gboolean asks_for_the_first(void) {
+    GError *error = NULL;
+    gint nacks = 0;
+    GstFlowReturn flow;
+    GstElement *pipeline = gst_parse_launch("appsrc name=source is-live=true format=time caps=" CAPS ",seqnum-base=(uint)10"
+                                            " ! gozdritrecv name=recv latency=5000 ! fakesink"
+                                            " recv.feedback_src ! fakesink name=sink signal-handoffs=true", &error);
+    CHECK(pipeline && !error);
+    GstElement *source = gst_bin_get_by_name(GST_BIN(pipeline), "source"), *sink = gst_bin_get_by_name(GST_BIN(pipeline), "sink");
+    g_signal_connect(sink, "handoff", G_CALLBACK(on_nack), &nacks);
+    gst_element_set_state(pipeline, GST_STATE_PLAYING);
+    GstBuffer *buffer = make_packet((packet){.sequence = 11});
+    g_signal_emit_by_name(source, "push-buffer", buffer, &flow);
+    gst_buffer_unref(buffer);
+    for (gint i = 0; i < 1000 && g_atomic_int_get(&nacks) == 0; i++) g_usleep(1000);
+    gst_element_set_state(pipeline, GST_STATE_NULL);
+    gst_object_unref(source);
+    gst_object_unref(sink);
+    gst_object_unref(pipeline);
+    return nacks > 0;
+}
+
+/* The sink of NACKs goes on to PLAYING by itself. Were that a race, one of so many would lose it. */
+static void test_first_frame(void) {
+    gboolean each = TRUE;
+    for (gint i = 0; i < 20; i++) each &= asks_for_the_first();
+    CHECK(each);
+}
+
 void test_states(void) {
+    test_first_frame();
     test_many_streams();
     test_changes();
 }
