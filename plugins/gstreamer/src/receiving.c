@@ -259,16 +259,19 @@ void receiving_asked(GstGozdritRecv *self, guint16 number, guint64 now) {
     }
 }
 
-/* What is waited for an answer: the property, or the round trip with its spread, and what is usual until one is known. Where all
- * NACKs for a packet would not fit the latency, less of the spread is waited for. */
+/* What is waited for an answer: the property, or the round trip with its spread, and what is usual until one is known. Where the
+ * latency is too short for all NACKs of a packet with the answer to the last, so much less is waited for as lets them fit; but not
+ * less than the round trip without half its deviation: where few packets are held back for long, most answers come by then. */
 static guint64 retry_of(const GstGozdritRecv *self) {
     const recv_settings *settings = &self->settings;
     const round_trip *trip = &self->trip;
     if (settings->retry >= 0) return (guint64)MAX(settings->retry, 1);
     if (trip->smooth < 0) return USUAL_TRIP;
     guint64 answer = (guint64)trip->smooth / 8 + 1, spread = (guint64)MAX(trip->apart, SPREAD);
-    guint64 share = (settings->latency - MIN(settings->delay, settings->latency)) / MAX(settings->nacks, 1);
-    return MAX(answer + SPREAD, MIN(answer + spread, share));
+    guint64 soonest = answer - MIN((guint64)trip->apart / 8, answer - 1);
+    guint64 around = settings->delay + answer + SPREAD; /* what passes before the first NACK and behind the last */
+    guint64 room = settings->latency - MIN(around, settings->latency);
+    return MAX(soonest, MIN(answer + spread, room / MAX(settings->nacks - 1, 1)));
 }
 
 guint64 receiving_step(const GstGozdritRecv *self) {

@@ -209,6 +209,6 @@ void test_receive(void) {
     test_overrun();
     test_others();
     test_refused();
-    test_retry(1000, 10 + 4 * 5 + 1); /* the trip, four times its spread, and a millisecond */
-    test_retry(100, (100 - 20) / 4);  /* what lets four NACKs fit */
+    test_retry(1000, 10 + 4 * 5 + 1);     /* the trip, four times its spread, and a millisecond */
+    test_retry(100, (100 - 20 - 16) / 3); /* what lets four NACKs fit, and the answer to the last */
 }
