@@ -25,10 +25,7 @@ pub fn relay<'a>(rt: &HostRuntime, choice: &Choice<'a>) -> Result<(), Fault<'a>>
             history,
             rtx_first,
         } => {
-            let to = prepared(rt, options)?;
-            let listening = bind(rt, find(rt, options.listen)?)?;
-            let leaving = bind(rt, source(rt, options, to)?)?;
-            greet(rt, &listening, to, &leaving);
+            let (to, listening, leaving) = opened(rt, options)?;
             let learner = SendLearner {
                 alloc: rt.alloc(),
                 known: Known::of(options),
@@ -48,10 +45,7 @@ pub fn relay<'a>(rt: &HostRuntime, choice: &Choice<'a>) -> Result<(), Fault<'a>>
             latency,
             window,
         } => {
-            let to = prepared(rt, options)?;
-            let listening = bind(rt, find(rt, options.listen)?)?;
-            let leaving = bind(rt, source(rt, options, to)?)?;
-            greet(rt, &listening, to, &leaving);
+            let (to, listening, leaving) = opened(rt, options)?;
             let learner = ReceiveLearner {
                 alloc: rt.alloc(),
                 known: Known::of(options),
@@ -75,6 +69,18 @@ fn within(capacity: usize) -> usize
     ensures limit { result ≤ 8192 }
 {
     capacity.max(1).min(8192)
+}
+
+/// The address that a relay sends to, the socket that it listens at and the one that it sends from.
+fn opened<'a>(
+    rt: &HostRuntime,
+    options: &Options<'a>,
+) -> Result<(SocketAddr, UdpSocket, UdpSocket), Fault<'a>> {
+    let to = prepared(rt, options)?;
+    let listening = bind(rt, find(rt, options.listen)?)?;
+    let leaving = bind(rt, source(rt, options, to)?)?;
+    greet(rt, &listening, to, &leaving);
+    Ok((to, listening, leaving))
 }
 
 /// The address that a relay sends to, if its options are those of a session.

@@ -86,7 +86,8 @@ impl<R: Relay + HasFar + Drop, L: Learner<R>> Machine<L, R> {
 
     /// Has another relay take the place of the one before, where a datagram begins a session.
     fn begin(&mut self, side: Side, from: SocketAddr, octets: &[u8], now: u64)
-        ensures { Stands (λ made note. L.begins self.old.learner from (R.HasFar.far made) × TellsOf note (R.HasFar.far made)) self.old.relay self.old.note self.new.relay self.new.note }
+        ensures until { self.new.until ≡ self.old.until }
+        ensures stands { Stands (λ made note. L.begins self.old.learner from (R.HasFar.far made) × TellsOf note (R.HasFar.far made)) self.old.relay self.old.note self.new.relay self.new.note }
     {
         let was_quiet = now.saturating_sub(self.last) >= QUIET;
         match self
@@ -110,11 +111,12 @@ impl<R: Relay + HasFar + Drop, L: Learner<R>> Machine<L, R> {
 }
 
 impl<R: Relay + HasFar + Drop, L: Learner<R>> Relay for Machine<L, R> {
+    ghost use Rattle.std.specs.Prelude.{◌≡◌};
     ghost use Rattle.gozdrit_relay.specs.Machine.{Hears, Speaks, TellsOf, is_done};
 
-    ghost hears = { λ old side from octets now turn out new. Hears R.Relay.hears (λ made note. L.begins old.learner from (R.HasFar.far made) × TellsOf note (R.HasFar.far made)) old.relay old.note side from octets now turn out new.relay new.note };
+    ghost hears = { λ old side from octets now turn out new. Hears R.Relay.hears (λ made note. L.begins old.learner from (R.HasFar.far made) × TellsOf note (R.HasFar.far made)) old.relay old.note side from octets now turn out new.relay new.note × (new.until ≡ old.until) };
 
-    ghost speaks = { λ old now turn out new. Speaks R.Relay.speaks old.relay old.note now turn out new.relay new.note };
+    ghost speaks = { λ old now turn out new. Speaks R.Relay.speaks old.relay old.note now turn out new.relay new.note × (new.until ≡ old.until) × (new.is_out_of_memory ≡ old.is_out_of_memory) };
 
     ghost done = { λ machine now. is_done R.Relay.done machine.until machine.is_out_of_memory machine.relay now };
 

@@ -85,6 +85,11 @@ fn receive<'a>(alloc: Global) -> Result<Command<'a>, AllocError> {
 
 /// The options of both.
 fn common<'a>(alloc: Global, command: Command<'a>) -> Result<Command<'a>, AllocError> {
+    of_run(alloc, of_session(alloc, command)?)
+}
+
+/// What a session is, where it is not to be learnt.
+fn of_session<'a>(alloc: Global, command: Command<'a>) -> Result<Command<'a>, AllocError> {
     command
         .arg(option(
             alloc,
@@ -115,7 +120,12 @@ fn common<'a>(alloc: Global, command: Command<'a>) -> Result<Command<'a>, AllocE
             "first",
             "N",
             "The first sequence number of the media; learnt by default",
-        ))?
+        ))
+}
+
+/// When a run ends, and what it tells.
+fn of_run<'a>(alloc: Global, command: Command<'a>) -> Result<Command<'a>, AllocError> {
+    command
         .arg(option(
             alloc,
             "packets",
