@@ -51,7 +51,7 @@ static GstBuffer *next_nack(GstGozdritRecv *self, guint64 now) {
     if (!self->end.held) return NULL;
     gint32 number = gozdrit_nack(&self->end, now, GOZDRIT_MOST, &length, octets, sizeof octets);
     if (number != GOZDRIT_OK || length == 0) return NULL;
-    receiving_asked(self, GST_READ_UINT16_BE(octets + 12), now); /* the first that it names: RFC 4585, section 6.2.1 */
+    receiving_asked(self, octets, length, now);
     return gst_buffer_new_memdup(octets, length);
 }
 

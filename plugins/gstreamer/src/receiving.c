@@ -161,6 +161,7 @@ static void note_arrival(GstGozdritRecv *self, GstBuffer *buffer, const guint8 *
     noted->dts = GST_BUFFER_DTS(buffer);
     noted->timestamp = PACKET_TIMESTAMP(octets);
     noted->known = TRUE;
+    noted->asked = FALSE;
     if (believed) rtp_times_arrived(&self->times, noted->timestamp, noted->pts);
 }
 
@@ -224,7 +225,10 @@ static void take(GstGozdritRecv *self, GstBuffer *buffer, const guint8 *octets, 
     switch (heard.kind) {
     case GOZDRIT_MEDIA: note_arrival(self, buffer, octets, TRUE); break;
     case GOZDRIT_HELD_BACK: note_arrival(self, buffer, octets, FALSE); break;
-    case GOZDRIT_RETRANSMISSION: measure(self, heard.sequence, now); break;
+    case GOZDRIT_RETRANSMISSION:
+        measure(self, heard.sequence, now);
+        self->arrivals[(guint16)heard.sequence % ARRIVALS].asked = FALSE;
+        break;
     case GOZDRIT_RESTARTED: restarted(self, buffer, octets); break;
     case GOZDRIT_NOT_TAKEN:
         GST_LOG_OBJECT(self, "not taken: %s", gozdrit_refusal_name(heard.refusal));
@@ -247,28 +251,37 @@ void receiving_packet(GstGozdritRecv *self, GstBuffer *buffer, const guint8 *oct
 
 /* ---- times */
 
-/* The answer to an ask shows the round trip, of one packet at a time. */
-void receiving_asked(GstGozdritRecv *self, guint16 number, guint64 now) {
+/* Notes what a NACK asks for (RFC 4585, section 6.2.1). The answer to the first packet that it names shows the round trip, where
+ * none is measured, and where that packet was not asked for before: else it is open which NACK is answered. */
+void receiving_asked(GstGozdritRecv *self, const guint8 *nack, gsize length, guint64 now) {
     round_trip *trip = &self->trip;
-    if (trip->waiting && trip->asked == number) {
-        trip->waiting = FALSE; /* asked again: which ask its repair answers is open */
-    } else if (!trip->waiting || now > trip->at + self->settings.latency) {
-        trip->waiting = TRUE;
-        trip->asked = number;
-        trip->at = now;
+    guint16 first = GST_READ_UINT16_BE(nack + 12);
+    gboolean again = self->arrivals[first % ARRIVALS].asked;
+    for (gsize at = 12; at + 4 <= length; at += 4) {
+        guint32 named = (guint32)GST_READ_UINT16_BE(nack + at + 2) << 1 | 1;
+        for (guint i = 0; i <= 16; i++) {
+            guint16 number = (guint16)(GST_READ_UINT16_BE(nack + at) + i);
+            if (!(named >> i & 1)) continue;
+            self->arrivals[number % ARRIVALS].asked = TRUE;
+            if (trip->asked == number) trip->waiting = FALSE;
+        }
     }
+    if (again || (trip->waiting && now <= trip->at + self->settings.latency)) return;
+    trip->waiting = TRUE;
+    trip->asked = first;
+    trip->at = now;
 }
 
 /* What is waited for an answer: the property, or the round trip with its spread, and what is usual until one is known. Where the
  * latency is too short for all NACKs of a packet with the answer to the last, so much less is waited for as lets them fit; but not
- * less than the round trip without half its deviation: where few packets are held back for long, most answers come by then. */
+ * less than the round trip and its deviation: sooner, most packets would be asked for again. */
 static guint64 retry_of(const GstGozdritRecv *self) {
     const recv_settings *settings = &self->settings;
     const round_trip *trip = &self->trip;
     if (settings->retry >= 0) return (guint64)MAX(settings->retry, 1);
     if (trip->smooth < 0) return USUAL_TRIP;
     guint64 answer = (guint64)trip->smooth / 8 + 1, spread = (guint64)MAX(trip->apart, SPREAD);
-    guint64 soonest = answer - MIN((guint64)trip->apart / 8, answer - 1);
+    guint64 soonest = answer + (guint64)trip->apart / 4;
     guint64 around = settings->delay + answer + SPREAD; /* what passes before the first NACK and behind the last */
     guint64 room = settings->latency - MIN(around, settings->latency);
     return MAX(soonest, MIN(answer + spread, room / MAX(settings->nacks - 1, 1)));

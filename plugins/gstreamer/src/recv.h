@@ -39,6 +39,7 @@ typedef struct arrival {
     GstClockTime pts, dts;
     guint32 timestamp;
     gboolean known;
+    gboolean asked; /* a NACK named its number before it came */
 } arrival;
 
 /* Both the window and what is held back after a jump have a place: twice the largest window. */
@@ -127,7 +128,7 @@ void receiving_flush(GstGozdritRecv *self);
 void receiving_set_times(GstGozdritRecv *self);
 /* The least time between two asks, in milliseconds. */
 guint64 receiving_step(const GstGozdritRecv *self);
-void receiving_asked(GstGozdritRecv *self, guint16 number, guint64 now);
+void receiving_asked(GstGozdritRecv *self, const guint8 *nack, gsize length, guint64 now);
 GstStructure *receiving_counts(GstGozdritRecv *self);
 
 /* ---- playing.c. The lock is held in all but the task. */

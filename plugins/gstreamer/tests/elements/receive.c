@@ -211,5 +211,5 @@ void test_receive(void) {
     test_refused();
     test_retry(1000, 10 + 4 * 5 + 1);     /* the trip, four times its spread, and a millisecond */
     test_retry(100, (100 - 20 - 16) / 3); /* what lets four NACKs fit, and the answer to the last */
-    test_retry(50, 10 + 1 - 20 / 8);      /* no less than it takes most answers to come */
+    test_retry(60, 10 + 1 + 5);           /* no less than the trip and its deviation */
 }
