@@ -200,6 +200,29 @@ static void test_retry(guint latency, guint64 wait) {
     drop_receiver(&r);
 }
 
+/* A packet that stood behind another one in a NACK, and is asked for again, shows no round trip. */
+static void test_in_doubt(void) {
+    receiver r = make_receiver(CAPS);
+    g_object_set(r.element, "rtx-retry-timeout", -1, "latency", 1000, NULL);
+    SEND(&r, .sequence = 10);
+    SEND(&r, .sequence = 13);
+    TICKS(&r, 20);
+    GstBuffer *nack = next_buffer(r.feedback);
+    CHECK(is_nack(nack, 11, 1));
+    gst_clear_buffer(&nack);
+    set_clock_to(&r, 30);
+    REPAIR(&r, 50, .sequence = 11);
+    TICKS(&r, 20 + 31);
+    nack = next_buffer(r.feedback);
+    CHECK(is_nack(nack, 12, 0));
+    gst_clear_buffer(&nack);
+    set_clock_to(&r, 55);
+    REPAIR(&r, 51, .sequence = 12);
+    CHECK(count_of(r.element, "retransmissions") == 2);
+    CHECK(count_of(r.element, "rtx-round-trip") == MS(10));
+    drop_receiver(&r);
+}
+
 void test_receive(void) {
     test_whole_packet();
     test_order();
@@ -212,4 +235,5 @@ void test_receive(void) {
     test_retry(1000, 10 + 4 * 5 + 1);     /* the trip, four times its spread, and a millisecond */
     test_retry(100, (100 - 20 - 16) / 3); /* what lets four NACKs fit, and the answer to the last */
     test_retry(60, 10 + 1 + 5);           /* no less than the trip and its deviation */
+    test_in_doubt();
 }
