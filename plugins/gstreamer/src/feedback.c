@@ -1,7 +1,5 @@
 #include "recv.h"
 
-#include <gst/rtp/rtp.h>
-
 /* ---- waking the timer. The lock is held. */
 
 void feedback_wake(GstGozdritRecv *self) {
