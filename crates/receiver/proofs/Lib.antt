@@ -12,3 +12,4 @@ pub mod Found
 pub mod Numbered
 pub mod Limits
 pub mod InOrder
+pub mod Timed

@@ -4,6 +4,7 @@
 mod answer;
 mod asks;
 mod config;
+mod config_laws;
 mod fault;
 mod laws;
 mod receiver;
@@ -12,6 +13,9 @@ mod waking;
 
 pub use answer::{Peeked, Played, Taken};
 pub use config::ReceiverConfig;
+pub use config_laws::{
+    configurations_keep_their_fields, receivers_keep_the_rest, set_times_are_followed,
+};
 pub use fault::{HasStarted, ReceiveFault};
 pub use laws::{
     asking_is_determined, asking_most_is_asking, beginning_is_a_start, hearing_is_determined,
