@@ -18,7 +18,7 @@ use Rattle.endpoint.specs.declared.probation.Probation.{Probation}
 use Rattle.endpoint.specs.declared.heard.Heard.{Heard}
 use Rattle.endpoint.specs.declared.heard.Heard.TheVariants.{Control, Media, Repair, HeldBack, Restarted}
 use Rattle.endpoint.specs.declared.receive_counts.ReceiveCounts.{ReceiveCounts}
-use Rattle.endpoint.specs.Counts.{as_count, more}
+use Rattle.endpoint.specs.Counts.{count_in_64, more}
 use Rattle.endpoint.specs.ReceiveCounts.{count_heard, count_played, count_ask, NamesMany, CountsAsk}
 use Rattle.endpoint.specs.Events.{Event, Endpoint, Steps, RunsOver, heard, played, asked, begun_at, restarted_by_call, timed}
 use Rattle.endpoint.specs.Tally.{tally, media_in, repairs_in, held_in, restarts_in, control_in, refused_as, refused_else, overrun_in, abandoned_in, played_in, gaps_in, asks_in, places_in}
@@ -26,7 +26,7 @@ use Rattle.endpoint.proofs.Adding.{pair, adds}
 
 module _ (octets : List ℕ) (now : ℕ) (before : List Event) where
   -- a refusal that has no count of its own
-  other : (fault : ReceiveFault) → record (tally before) { refused = more (as_count (sum_by refused_else before)) (refused_else (heard octets now (Err fault))) } ≡ record (tally before) { refused = as_count (sum_by refused_else (heard octets now (Err fault) ∷ before)) }
+  other : (fault : ReceiveFault) → record (tally before) { refused = more (count_in_64 (sum_by refused_else before)) (refused_else (heard octets now (Err fault))) } ≡ record (tally before) { refused = count_in_64 (sum_by refused_else (heard octets now (Err fault) ∷ before)) }
   other fault = ap (λ (n : ℕ). record (tally before) { refused = n }) (adds refused_else (heard octets now (Err fault)) before)
 
   refused_so : (fault : ReceiveFault) → count_heard (Err fault) (tally before) ≡ tally (heard octets now (Err fault) ∷ before)
@@ -67,10 +67,10 @@ module _ (now : ℕ) (before : List Event) where
   played_so (Gap place) = ap (λ (n : ℕ). record (tally before) { gaps = n }) (adds gaps_in (played now (Gap place)) before)
   played_so Wait = refl
 
-  capped : (count n : ℕ) → more count (as_count n) ≡ more count n
+  capped : (count n : ℕ) → more count (count_in_64 n) ≡ more count n
   capped count n = omega arith
 
-  asked_for : (most : ℕ) (datagram : ArrayVec ℕ) (places : ℕ) → count_ask (as_count places) (tally before) ≡ tally (asked now most (Some datagram) places ∷ before)
+  asked_for : (most : ℕ) (datagram : ArrayVec ℕ) (places : ℕ) → count_ask (count_in_64 places) (tally before) ≡ tally (asked now most (Some datagram) places ∷ before)
   asked_for most datagram places =
       ap (λ (x : ℕ × ℕ). record (tally before) { asks = x.0; places_asked = x.1 })
       (pair (adds asks_in (asked now most (Some datagram) places) before)
@@ -86,7 +86,7 @@ module _ (now : ℕ) (before : List Event) where
   asked_so c state after most None places counts asks named counted = counted
   asked_so c state after most (Some datagram) places counts asks named counted =
       let it : (nack : Nack) × NackSpells nack datagram.items = spelled c state after most datagram asks in
-      counted it.0 it.1 ∙ ap (λ (n : ℕ). count_ask (as_count n) (tally before)) (sym (named it.0 it.1)) ∙ asked_for most datagram places
+      counted it.0 it.1 ∙ ap (λ (n : ℕ). count_ask (count_in_64 n) (tally before)) (sym (named it.0 it.1)) ∙ asked_for most datagram places
 
 -- one event more
 stepped : (p : Probation) (event : Event) (before : List Event) (old new : Endpoint) → old.counts ≡ tally before → Steps p event old new → new.counts ≡ tally (event ∷ before)

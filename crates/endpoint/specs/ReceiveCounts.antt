@@ -13,7 +13,7 @@ use Rattle.receiver.specs.Asks.{asked_into}
 use Rattle.endpoint.specs.declared.heard.Heard.{Heard}
 use Rattle.endpoint.specs.declared.heard.Heard.TheVariants as heard
 use Rattle.endpoint.specs.declared.receive_counts.ReceiveCounts.{ReceiveCounts}
-use Rattle.endpoint.specs.Counts.{as_count, more}
+use Rattle.endpoint.specs.Counts.{count_in_64, more}
 
 -- the answer to a datagram
 abbrev pub count_heard : Result Heard ReceiveFault → ReceiveCounts → ReceiveCounts
@@ -46,7 +46,7 @@ NamesMany (Some datagram) places = (nack : Nack) → NackSpells nack datagram.it
 -- An ask counts them, and nothing where there is no NACK.
 abbrev pub CountsAsk : Option (ArrayVec ℕ) → ReceiveCounts → ReceiveCounts → Type 0
 CountsAsk None old new = new ≡ old
-CountsAsk (Some datagram) old new = (nack : Nack) → NackSpells nack datagram.items → new ≡ count_ask (as_count (length (numbers_of nack.pairs))) old
+CountsAsk (Some datagram) old new = (nack : Nack) → NackSpells nack datagram.items → new ≡ count_ask (count_in_64 (length (numbers_of nack.pairs))) old
 
 -- the same of an ask to the front of a slice
 abbrev pub CountsAskInto : List ℕ → Result (Option ℕ) TooShort → ReceiveCounts → ReceiveCounts → Type 0

@@ -9,7 +9,7 @@ use Rattle.sender.specs.declared.fault.SendFault.{SendFault}
 use Rattle.endpoint.specs.declared.told.Told.{Told}
 use Rattle.endpoint.specs.declared.told.Told.TheVariants.{Media, Reports, Feedback}
 use Rattle.endpoint.specs.declared.send_counts.SendCounts.{SendCounts}
-use Rattle.endpoint.specs.Counts.{as_count}
+use Rattle.endpoint.specs.Counts.{count_in_64}
 use Rattle.endpoint.specs.SendCounts.{count_told, no_counts}
 use Rattle.endpoint.specs.Sending.{CountsSent, CountsRepaired}
 
@@ -84,15 +84,15 @@ refused_in event = 0
 abbrev pub tally : List Event → SendCounts
 tally events =
     record {
-      sent = as_count (sum_by sent_in events);
-      octets = as_count (sum_by octets_in events);
-      retransmissions = as_count (sum_by repairs_in events);
-      nacks = as_count (sum_by nacks_in events);
-      others = as_count (sum_by others_in events);
-      numbers = as_count (sum_by numbers_in events);
-      unknown = as_count (sum_by unknown_in events);
-      exhausted = as_count (sum_by exhausted_in events);
-      media = as_count (sum_by media_in events);
-      reports = as_count (sum_by reports_in events);
-      refused = as_count (sum_by refused_in events);
+      sent = count_in_64 (sum_by sent_in events);
+      octets = count_in_64 (sum_by octets_in events);
+      retransmissions = count_in_64 (sum_by repairs_in events);
+      nacks = count_in_64 (sum_by nacks_in events);
+      others = count_in_64 (sum_by others_in events);
+      numbers = count_in_64 (sum_by numbers_in events);
+      unknown = count_in_64 (sum_by unknown_in events);
+      exhausted = count_in_64 (sum_by exhausted_in events);
+      media = count_in_64 (sum_by media_in events);
+      reports = count_in_64 (sum_by reports_in events);
+      refused = count_in_64 (sum_by refused_in events);
     }

@@ -6,7 +6,7 @@ use Rattle.receiver.specs.declared.answer.Played.TheVariants.{Packet, Gap}
 use Rattle.receiver.specs.Fault.{receive_number}
 use Rattle.endpoint.specs.declared.heard.Heard.TheVariants.{Control, Media, Repair, HeldBack, Restarted}
 use Rattle.endpoint.specs.declared.receive_counts.ReceiveCounts.{ReceiveCounts}
-use Rattle.endpoint.specs.Counts.{as_count}
+use Rattle.endpoint.specs.Counts.{count_in_64}
 use Rattle.endpoint.specs.Events.{Event, heard, played, asked}
 
 -- 1 for each event that it counts, and 0 for the others
@@ -73,19 +73,19 @@ places_in event = 0
 abbrev pub tally : List Event → ReceiveCounts
 tally events =
     record {
-      media = as_count (sum_by media_in events);
-      retransmissions = as_count (sum_by repairs_in events);
-      held_back = as_count (sum_by held_in events);
-      restarts = as_count (sum_by restarts_in events);
-      control = as_count (sum_by control_in events);
-      duplicate = as_count (sum_by (refused_as 36) events);
-      late = as_count (sum_by (refused_as 35) events);
-      far = as_count (sum_by (refused_as 34) events);
-      refused = as_count (sum_by refused_else events);
-      overrun = as_count (sum_by overrun_in events);
-      abandoned = as_count (sum_by abandoned_in events);
-      played = as_count (sum_by played_in events);
-      gaps = as_count (sum_by gaps_in events);
-      asks = as_count (sum_by asks_in events);
-      places_asked = as_count (sum_by places_in events);
+      media = count_in_64 (sum_by media_in events);
+      retransmissions = count_in_64 (sum_by repairs_in events);
+      held_back = count_in_64 (sum_by held_in events);
+      restarts = count_in_64 (sum_by restarts_in events);
+      control = count_in_64 (sum_by control_in events);
+      duplicate = count_in_64 (sum_by (refused_as 36) events);
+      late = count_in_64 (sum_by (refused_as 35) events);
+      far = count_in_64 (sum_by (refused_as 34) events);
+      refused = count_in_64 (sum_by refused_else events);
+      overrun = count_in_64 (sum_by overrun_in events);
+      abandoned = count_in_64 (sum_by abandoned_in events);
+      played = count_in_64 (sum_by played_in events);
+      gaps = count_in_64 (sum_by gaps_in events);
+      asks = count_in_64 (sum_by asks_in events);
+      places_asked = count_in_64 (sum_by places_in events);
     }

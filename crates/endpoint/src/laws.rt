@@ -1,7 +1,8 @@
 //! Laws on what an endpoint is over all its calls. These functions compute nothing: their contracts are the laws.
-ghost use Rattle.std.specs.Prelude.{◌≡◌, ℕ, List};
+ghost use Rattle.std.specs.Prelude.{◌≡◌, ℕ, ◌-◌, ◌^◌, ◌<◌, ◌≤◌, List};
 ghost use Rattle.receiver.specs.Config.{Config};
 ghost use Rattle.endpoint.specs.declared.probation.Probation.{Probation};
+ghost use Rattle.endpoint.specs.Counts.{count_in_64};
 ghost use Rattle.endpoint.specs.Events.{Event, Endpoint, RunsOver};
 ghost use Rattle.endpoint.specs.Tally.{tally};
 ghost use Rattle.endpoint.specs.Ledger.{Reached, ledger};
@@ -17,6 +18,12 @@ pub fn counts_are_exact()
 /// So are those of a sending endpoint.
 pub fn sending_counts_are_exact()
     ensures { (events : List sending.Event) (counts : SendCounts) → sending.RunsOver events counts → counts ≡ sending.tally events }
+{}
+
+/// No count of an endpoint is cut off below 2^64, and none goes on from there.
+pub fn counts_are_in_full()
+    ensures below { (n : ℕ) → n < 2 ^ 64 → count_in_64 n ≡ n }
+    ensures above { (n : ℕ) → 2 ^ 64 ≤ n → count_in_64 n ≡ 2 ^ 64 - 1 }
 {}
 
 /// What an endpoint believes is all that its receiver knows.

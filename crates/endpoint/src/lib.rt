@@ -3,6 +3,7 @@
 #![tactic(auto)]
 
 mod asking;
+mod config_laws;
 mod demultiplex;
 mod heard;
 mod holding;
@@ -16,9 +17,12 @@ mod send_counts;
 mod sending;
 mod told;
 
+pub use config_laws::new_receivers_are_as_configured;
 pub use demultiplex::is_control;
 pub use heard::{Heard, Restart};
-pub use laws::{core_has_what_is_believed, counts_are_exact, sending_counts_are_exact};
+pub use laws::{
+    core_has_what_is_believed, counts_are_exact, counts_are_in_full, sending_counts_are_exact,
+};
 pub use padding::without_padding;
 pub use probation::Probation;
 pub use receive_counts::ReceiveCounts;

@@ -13,15 +13,15 @@ use Rattle.stores.specs.PastByPlace.{Finds}
 use Rattle.sender.specs.declared.answer.Shared.{Shared}
 use Rattle.sender.specs.Config.{Config}
 use Rattle.sender.specs.Feedback.{is_ours}
-use Rattle.sender.specs.Shared.{our_numbers, as_count, IsUnknown, IsExhausted, CountsShared}
+use Rattle.sender.specs.Shared.{our_numbers, count_in_32, IsUnknown, IsExhausted, CountsShared}
 use Rattle.sender.specs.Counting.{entry_found, is_absent, is_spent, is_unknown, is_exhausted, CountsNumbers, CountsNacks, AddsUp}
 use Rattle.sender.specs.Sender.{history_of}
 use Rattle.sender.proofs.Ours.{our_numbers_more}
 
-added : (x y sum a b s : ℕ) → x ≡ as_count a → y ≡ as_count b → sum ≡ as_count (x + y) → s ≡ a + b → sum ≡ as_count s
+added : (x y sum a b s : ℕ) → x ≡ count_in_32 a → y ≡ count_in_32 b → sum ≡ count_in_32 (x + y) → s ≡ a + b → sum ≡ count_in_32 s
 added x y sum a b s = omega arith
 
-none_added : (x y sum : ℕ) → x ≡ 0 → y ≡ 0 → sum ≡ as_count (x + y) → sum ≡ 0
+none_added : (x y sum : ℕ) → x ≡ 0 → y ≡ 0 → sum ≡ count_in_32 (x + y) → sum ≡ 0
 none_added x y sum = omega arith
 
 count_more : (p : ℕ → Bool) (xs ys : List ℕ) → count_by p (xs ++ ys) ≡ count_by p xs + count_by p ys

@@ -11,3 +11,4 @@ pub mod SameSteps
 pub mod SameMarks
 pub mod SameShared
 pub mod InOrder
+pub mod InFull

@@ -14,7 +14,7 @@ use Rattle.sender.specs.declared.answer.Shared.{Shared}
 use Rattle.sender.specs.Config.{Config}
 use Rattle.sender.specs.History.{SenderState, Marks}
 use Rattle.sender.specs.Feedback.{is_receiver, is_ours, first_wrong, ReadsFeedback, MarksNamed, HearsNacks, HearsSaid, HearsFeedback, MarksAlone, MarksOrRefuses}
-use Rattle.sender.specs.Shared.{ours, theirs, as_count, CountsThose, SharesNacks, SharesSaid, HearsShared, SharesAlone, marked_of}
+use Rattle.sender.specs.Shared.{ours, theirs, count_in_32, CountsThose, SharesNacks, SharesSaid, HearsShared, SharesAlone, marked_of}
 use Rattle.sender.specs.Tail.{MarksLast, IsLastNumber}
 use Rattle.sender.proofs.Named.{or_right}
 use Rattle.sender.proofs.Ours.{all_ours, none_wrong}
@@ -24,7 +24,7 @@ use Rattle.sender.proofs.SameSteps.{Same}
 -- a count has one value
 
 one_those : (Has : ℕ → Type 0) (numbers : List ℕ) (i j : ℕ) → CountsThose Has numbers i → CountsThose Has numbers j → i ≡ j
-one_those Has numbers i j a b = a.counted ∙ ap (λ (test : ℕ → Bool). as_count (count_by test numbers)) (λ k n. each n k) ∙ sym b.counted
+one_those Has numbers i j a b = a.counted ∙ ap (λ (test : ℕ → Bool). count_in_32 (count_by test numbers)) (λ k n. each n k) ∙ sym b.counted
   where
     each : (n : ℕ) → a.test n ≡ b.test n
     each n = same_test (a.test n) (b.test n) (λ is. (b.tells n).1 ((a.tells n).0 is)) (λ is. (a.tells n).1 ((b.tells n).0 is))
@@ -94,15 +94,15 @@ module _ (laws : Laws) (c : Config) (old : SenderState) where
     names_alone : (n : ℕ) → NacksName (nack ∷ []) n ↔ Names nack.pairs n
     names_alone n = (λ named. elim named [ inl names ↦ names | inr never ↦ absurd never ], λ names. inl names)
 
-    one_of : (nacks : List Nack) → ours c nacks ≡ nack ∷ [] → as_count (length (theirs c nacks)) ≡ k → (answer : Result Shared FeedbackFault) → SharesNacks c old nacks answer new → SharesAlone c old nack k answer new
+    one_of : (nacks : List Nack) → ours c nacks ≡ nack ∷ [] → count_in_32 (length (theirs c nacks)) ≡ k → (answer : Result Shared FeedbackFault) → SharesNacks c old nacks answer new → SharesAlone c old nack k answer new
     one_of nacks mine others (Ok shared) a = (
       same_set c.repeats (NacksName (nack ∷ [])) (Names nack.pairs) names_alone old shared.places new (subst (λ (n : List Nack). Marks c.repeats (NacksName n) old shared.places new) mine a.marks),
-      a.counts.nacks ∙ ap (λ (n : List Nack). as_count (length n)) mine,
+      a.counts.nacks ∙ ap (λ (n : List Nack). count_in_32 (length n)) mine,
       a.counts.others ∙ others,
     )
     one_of nacks mine others (Err fault) (none, first, same) = absurd (some_none (nack ∷ []) (omega arith) (sym mine ∙ none))
 
-    pub shares_alone : (nacks : List Nack) → CompoundSpells nacks octets → ours c nacks ≡ nack ∷ [] → as_count (length (theirs c nacks)) ≡ k →
+    pub shares_alone : (nacks : List Nack) → CompoundSpells nacks octets → ours c nacks ≡ nack ∷ [] → count_in_32 (length (theirs c nacks)) ≡ k →
         (answer : Result Shared FeedbackFault) → HearsShared c old octets answer new → SharesAlone c old nack k answer new
     shares_alone nacks spells mine others answer hears = by hears.said hears.says hears.heard
       where
@@ -137,21 +137,21 @@ module _ (c : Config) (a : Nack) (mine : is_ours c a ≡ true) where
   pub ours_alone : ours c (a ∷ []) ≡ a ∷ []
   ours_alone = ap (λ b. cond b (a ∷ []) []) mine
 
-  pub theirs_alone : as_count (length (theirs c (a ∷ []))) ≡ 0
-  theirs_alone = ap (λ b. as_count (length (cond (not b) (a ∷ []) []))) mine
+  pub theirs_alone : count_in_32 (length (theirs c (a ∷ []))) ≡ 0
+  theirs_alone = ap (λ b. count_in_32 (length (cond (not b) (a ∷ []) []))) mine
 
   module _ (b : Nack) (foreign : is_ours c b ≡ false) where
     pub ours_first : ours c (a ∷ b ∷ []) ≡ a ∷ []
     ours_first = λ i. cond (mine i) (a ∷ cond (foreign i) (b ∷ []) []) (cond (foreign i) (b ∷ []) [])
 
-    pub theirs_second : as_count (length (theirs c (a ∷ b ∷ []))) ≡ 1
-    theirs_second = λ i. as_count (length (cond (not (mine i)) (a ∷ cond (not (foreign i)) (b ∷ []) []) (cond (not (foreign i)) (b ∷ []) [])))
+    pub theirs_second : count_in_32 (length (theirs c (a ∷ b ∷ []))) ≡ 1
+    theirs_second = λ i. count_in_32 (length (cond (not (mine i)) (a ∷ cond (not (foreign i)) (b ∷ []) []) (cond (not (foreign i)) (b ∷ []) [])))
 
     pub ours_second : ours c (b ∷ a ∷ []) ≡ a ∷ []
     ours_second = λ i. cond (foreign i) (b ∷ cond (mine i) (a ∷ []) []) (cond (mine i) (a ∷ []) [])
 
-    pub theirs_first : as_count (length (theirs c (b ∷ a ∷ []))) ≡ 1
-    theirs_first = λ i. as_count (length (cond (not (foreign i)) (b ∷ cond (not (mine i)) (a ∷ []) []) (cond (not (mine i)) (a ∷ []) [])))
+    pub theirs_first : count_in_32 (length (theirs c (b ∷ a ∷ []))) ≡ 1
+    theirs_first = λ i. count_in_32 (length (cond (not (foreign i)) (b ∷ cond (not (mine i)) (a ∷ []) []) (cond (not (mine i)) (a ∷ []) [])))
 
 -- marking the newest entry
 

@@ -7,7 +7,7 @@ use Rattle.stores.specs.declared.entry.HistoryEntry.{HistoryEntry}
 use Rattle.stores.specs.Past.{Past, entry_at, numbered}
 use Rattle.sender.specs.declared.answer.Shared.{Shared}
 use Rattle.sender.specs.Config.{Config}
-use Rattle.sender.specs.Shared.{ours, theirs, our_numbers, as_count}
+use Rattle.sender.specs.Shared.{ours, theirs, our_numbers, count_in_32}
 
 -- the entry of a place that was found
 abbrev pub entry_found : Past → Option ℕ → Option HistoryEntry
@@ -35,24 +35,24 @@ pub record CountsNumbers (repeats : ℕ) (h : Past) (named : List ℕ) (shared :
   pub places : shared.places ≡ 0
   pub nacks : shared.nacks ≡ 0
   pub others : shared.others ≡ 0
-  pub numbers : shared.numbers ≡ as_count (length named)
-  pub unknown : shared.unknown ≡ as_count (count_by (is_unknown h) named)
-  pub exhausted : shared.exhausted ≡ as_count (count_by (is_exhausted repeats h) named)
+  pub numbers : shared.numbers ≡ count_in_32 (length named)
+  pub unknown : shared.unknown ≡ count_in_32 (count_by (is_unknown h) named)
+  pub exhausted : shared.exhausted ≡ count_in_32 (count_by (is_exhausted repeats h) named)
 
 -- of the NACKs that are spelled, or of some of them
 pub record CountsNacks (c : Config) (h : Past) (spelled : List Nack) (shared : Shared) : Type 0 where
   pub places : shared.places ≡ 0
-  pub nacks : shared.nacks ≡ as_count (length (ours c spelled))
-  pub others : shared.others ≡ as_count (length (theirs c spelled))
-  pub numbers : shared.numbers ≡ as_count (length (our_numbers c spelled))
-  pub unknown : shared.unknown ≡ as_count (count_by (is_unknown h) (our_numbers c spelled))
-  pub exhausted : shared.exhausted ≡ as_count (count_by (is_exhausted c.repeats h) (our_numbers c spelled))
+  pub nacks : shared.nacks ≡ count_in_32 (length (ours c spelled))
+  pub others : shared.others ≡ count_in_32 (length (theirs c spelled))
+  pub numbers : shared.numbers ≡ count_in_32 (length (our_numbers c spelled))
+  pub unknown : shared.unknown ≡ count_in_32 (count_by (is_unknown h) (our_numbers c spelled))
+  pub exhausted : shared.exhausted ≡ count_in_32 (count_by (is_exhausted c.repeats h) (our_numbers c spelled))
 
 -- what two counts come to
 pub record AddsUp (x y sum : Shared) : Type 0 where
-  pub places : sum.places ≡ as_count (x.places + y.places)
-  pub nacks : sum.nacks ≡ as_count (x.nacks + y.nacks)
-  pub others : sum.others ≡ as_count (x.others + y.others)
-  pub numbers : sum.numbers ≡ as_count (x.numbers + y.numbers)
-  pub unknown : sum.unknown ≡ as_count (x.unknown + y.unknown)
-  pub exhausted : sum.exhausted ≡ as_count (x.exhausted + y.exhausted)
+  pub places : sum.places ≡ count_in_32 (x.places + y.places)
+  pub nacks : sum.nacks ≡ count_in_32 (x.nacks + y.nacks)
+  pub others : sum.others ≡ count_in_32 (x.others + y.others)
+  pub numbers : sum.numbers ≡ count_in_32 (x.numbers + y.numbers)
+  pub unknown : sum.unknown ≡ count_in_32 (x.unknown + y.unknown)
+  pub exhausted : sum.exhausted ≡ count_in_32 (x.exhausted + y.exhausted)

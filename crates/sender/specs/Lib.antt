@@ -10,3 +10,4 @@ pub mod Marking
 pub mod Counting
 pub mod Repairing
 pub mod Order
+pub mod InFull

@@ -40,20 +40,20 @@ abbrev pub IsExhausted : (repeats : ℕ) → SenderState → ℕ → Type 0
 IsExhausted repeats old n = (q : ℕ) × (number q ≡ n) × IsSomeAnd (old.entries q) (λ entry. repeats ≤ entry.repeats)
 
 -- a count in 32 bits, which stays at the greatest number that they hold
-abbrev pub as_count : ℕ → ℕ
-as_count n = min n (2 ^ 32 - 1)
+abbrev pub count_in_32 : ℕ → ℕ
+count_in_32 n = min n (2 ^ 32 - 1)
 
 -- So many of the numbers have the property, each counted as often as it stands there: those that a test tells.
 pub record CountsThose (Has : ℕ → Type 0) (numbers : List ℕ) (count : ℕ) : Type 0 where
   pub test : ℕ → Bool
   pub tells : (n : ℕ) → IsTrue (test n) ↔ Has n
-  pub counted : count ≡ as_count (count_by test numbers)
+  pub counted : count ≡ count_in_32 (count_by test numbers)
 
 -- What is counted of the NACKs that are spelled, by the sender before.
 pub record CountsShared (c : Config) (old : SenderState) (spelled : List Nack) (shared : Shared) : Type 0 where
-  pub nacks : shared.nacks ≡ as_count (length (ours c spelled))
-  pub others : shared.others ≡ as_count (length (theirs c spelled))
-  pub numbers : shared.numbers ≡ as_count (length (our_numbers c spelled))
+  pub nacks : shared.nacks ≡ count_in_32 (length (ours c spelled))
+  pub others : shared.others ≡ count_in_32 (length (theirs c spelled))
+  pub numbers : shared.numbers ≡ count_in_32 (length (our_numbers c spelled))
   pub unknown : CountsThose (IsUnknown old) (our_numbers c spelled) shared.unknown
   pub exhausted : CountsThose (IsExhausted c.repeats old) (our_numbers c spelled) shared.exhausted
 

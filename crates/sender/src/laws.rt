@@ -23,6 +23,7 @@ ghost use Rattle.sender.specs.History.{SenderState};
 ghost use Rattle.sender.specs.Sending.{SendsAny};
 ghost use Rattle.sender.specs.Feedback.{HearsFeedback, MarksAlone, MarksOrRefuses, is_ours};
 ghost use Rattle.sender.specs.Shared.{HearsShared, SharesAlone, marked_of, our_numbers};
+ghost use Rattle.sender.specs.InFull.{CountsInFull};
 ghost use Rattle.sender.specs.Tail.{MarksLast};
 ghost use Rattle.sender.specs.Repairing.{RepairsAny};
 
@@ -98,6 +99,9 @@ pub fn shared_feedback_is_determined()
     // Of fewer than 2^29 octets, half a gigabyte, no count is cut off.
     ensures whole { (c : Config) (octets : List ℕ) (nacks : List Nack) → CompoundSpells nacks octets → length octets < 2 ^ 29
         → (length nacks < 2 ^ 32) × (length (our_numbers c nacks) < 2 ^ 32) }
+    // So each count of an answer to them is the length of a list of what it counts.
+    ensures in_full { (c : Config) (old : SenderState) (octets : List ℕ) (nacks : List Nack) (shared : Shared) (new : SenderState)
+        → CompoundSpells nacks octets → length octets < 2 ^ 29 → HearsShared c old octets (Ok shared) new → CountsInFull c old nacks shared }
 {
     compound_is_determined();
 }

@@ -3,6 +3,7 @@
 
 mod answer;
 mod config;
+mod config_laws;
 mod counting;
 mod fault;
 mod laws;
@@ -11,6 +12,7 @@ mod sender;
 
 pub use answer::{Marked, Shared};
 pub use config::SenderConfig;
+pub use config_laws::{configurations_keep_their_fields, new_senders_are_as_configured};
 pub use fault::SendFault;
 pub use laws::{
     any_reporter_is_heard, feedback_is_determined, feedback_is_in_order,

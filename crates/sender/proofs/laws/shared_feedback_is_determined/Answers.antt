@@ -1,4 +1,5 @@
 use Rattle.std.proofs.Common.{arith, sym, ◌∙◌}
+use Rattle.sender.proofs.InFull.{in_full}
 use Rattle.sender.proofs.Ours.{ours_few}
 use Rattle.sender.proofs.SameMarks.{Laws}
 use Rattle.sender.proofs.SameShared.{one_shared, same_as_feedback, shares_alone, marks_or_refuses, is_mine, is_foreign, ours_alone, theirs_alone, ours_first, theirs_second, ours_second, theirs_first}
@@ -34,4 +35,8 @@ returns g =
           let few = law.few octets nacks spells in
           let mine = ours_few c nacks in
           (omega (arith, few.0, short), omega (arith, few.1, mine.1, short));
+      in_full = λ c old octets nacks shared new spells short hears.
+          let few = law.few octets nacks spells in
+          let mine = ours_few c nacks in
+          in_full laws c old octets nacks shared new spells (omega (arith, few.0, short)) (omega (arith, few.1, mine.1, short)) hears;
     }
