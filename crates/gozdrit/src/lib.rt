@@ -11,6 +11,7 @@ mod defaults;
 mod handle;
 mod header;
 mod heard;
+mod laws;
 mod lent;
 mod packet_exports;
 mod packets;
@@ -23,3 +24,5 @@ mod sender_exports;
 mod sending;
 mod unboxed;
 mod version;
+
+pub use laws::{fields_say_configurations, new_ends_are_as_configured};

@@ -3,6 +3,7 @@
 
 mod closeness;
 mod config;
+mod config_laws;
 mod ends;
 mod event;
 mod laws;
@@ -12,6 +13,7 @@ mod settling;
 mod world;
 
 pub use config::Config;
+pub use config_laws::configurations_keep_their_fields;
 pub use event::{Answer, End, Entry, Event, Label};
 pub use laws::{
     answers_are_determined, logs_are_good, logs_are_in_order, plays_are_determined,

@@ -1,0 +1,37 @@
+//! Laws on the configurations that C says, field by field. These functions compute nothing: their contracts are the laws.
+ghost use Rattle.std.specs.Prelude.{◌≡◌, ◌↔◌, ℕ, ◌<◌, true, false};
+ghost use Rattle.gozdrit.specs.declared.config.SessionFields.{SessionFields};
+ghost use Rattle.gozdrit.specs.declared.config.SenderFields.{SenderFields};
+ghost use Rattle.gozdrit.specs.declared.config.ReceiverFields.{ReceiverFields};
+ghost use Rattle.gozdrit.specs.Config.{streams_of, sender_config, receiver_config, probation_of};
+ghost use Rattle.gozdrit.specs.Sending.{new_sender};
+ghost use Rattle.gozdrit.specs.Receiving.{new_receiver};
+
+/// Each field of a struct of C's is the one of the configuration that it is named after.
+pub fn fields_say_configurations()
+    ensures session { (s : SessionFields) → let t = streams_of s in
+        (t.media_ssrc ≡ s.media_ssrc) × (t.media_type ≡ s.media_type) × (t.repair_ssrc ≡ s.rtx_ssrc) × (t.repair_type ≡ s.rtx_type) × (t.receiver_ssrc ≡ s.receiver_ssrc) }
+    ensures sender { (f : SenderFields) → let c = sender_config f in
+        (c.session ≡ streams_of f.session) × (c.first ≡ f.first) × (c.repair_first ≡ f.rtx_first) × (c.repeats ≡ f.repeats) }
+    ensures receiver { (f : ReceiverFields) → let c = receiver_config f in
+        (c.session ≡ streams_of f.session) × (c.patience ≡ f.patience) × (c.delay ≡ f.delay) × (c.retry ≡ f.retry) × (c.asks ≡ f.nacks) }
+    // What is true or false is false where the field is 0, and true at every other number.
+    ensures any_reporter { (f : SenderFields) → ((sender_config f).any_reporter ≡ false) ↔ (f.any_reporter ≡ 0) }
+    ensures learns { (f : ReceiverFields) → ((receiver_config f).learns ≡ false) ↔ (f.learns ≡ 0) }
+    // A number of the probation is the field's, and the usual one where that is 0.
+    ensures probation { (f : ReceiverFields) → 0 < f.max_dropout → 0 < f.max_misorder → 0 < f.min_ahead → 0 < f.min_behind → let p = probation_of f in
+        (p.dropout ≡ f.max_dropout) × (p.misorder ≡ f.max_misorder) × (p.ahead ≡ f.min_ahead) × (p.behind ≡ f.min_behind) }
+    ensures usual_dropout { (f : ReceiverFields) → f.max_dropout ≡ 0 → (probation_of f).dropout ≡ 3000 }
+    ensures usual_misorder { (f : ReceiverFields) → f.max_misorder ≡ 0 → (probation_of f).misorder ≡ 100 }
+    ensures usual_ahead { (f : ReceiverFields) → f.min_ahead ≡ 0 → (probation_of f).ahead ≡ 2 }
+    ensures usual_behind { (f : ReceiverFields) → f.min_behind ≡ 0 → (probation_of f).behind ≡ 256 }
+{}
+
+/// A new end is configured so, and keeps as many packets or places as the struct says.
+pub fn new_ends_are_as_configured()
+    ensures sender { (f : SenderFields) → let s = new_sender f in
+        (s.core.config ≡ sender_config f) × (s.core.past.capacity ≡ f.history) }
+    ensures receiver { (f : ReceiverFields) → let r = new_receiver f in
+        (r.core.config ≡ receiver_config f) × (r.core.span.capacity ≡ f.window)
+        × (r.spare.config ≡ receiver_config f) × (r.spare.span.capacity ≡ f.window) × (r.probation ≡ probation_of f) }
+{}
