@@ -1,5 +1,5 @@
 -- Asks that a window counts are asks of the receiver.
-use Rattle.std.proofs.Common.{◌≡◌, ◌≢◌, ℕ, zero, suc, nat_lt, nat_le, ◌&&◌, ◌+◌, ◌-◌, ◌*◌, ◌<◌, ◌==◌, ◌||◌, Bool, true, false, cond, List, [], ◌∷◌, length, take, get_or, Option, Some, None, IsSomeAnd, IsSome, option_map, refl, sym, ap, subst, ◌∙◌, arith, inl, inr, eqb-true, eq-eqb, ne_eqb, true≢false}
+use Rattle.std.proofs.Common.{◌≡◌, ◌≢◌, ℕ, zero, suc, nat_lt, nat_le, ◌&&◌, ◌+◌, ◌-◌, ◌*◌, ◌<◌, ◌==◌, ◌||◌, min, Bool, true, false, cond, List, [], ◌∷◌, length, take, get_or, Option, Some, None, IsSomeAnd, IsSome, option_map, refl, sym, ap, subst, ◌∙◌, arith, inl, inr, eqb-true, eq-eqb, ne_eqb, true≢false}
 use Rattle.std.specs.List.{All, filter}
 use Rattle.std.proofs.lemmas.Grind.{common_steps}
 use Rattle.std.proofs.lemmas.Bool.Decides.{nat_tests}
@@ -19,11 +19,11 @@ use Rattle.stores.specs.declared.slot.Slot.TheVariants.{Held, Missing}
 use Rattle.stores.specs.Span.{Span, IsSpan}
 use Rattle.stores.specs.ByPlace.{slot_at, IsInside}
 use Rattle.stores.specs.PlaceLists.{Lists}
-use Rattle.stores.specs.Asking.{CanBeAsked, asked_slot, places_of, due_places, missing_places, CountsAsk, longest_ask}
+use Rattle.stores.specs.Asking.{CanBeAsked, asked_slot, places_of, due_places, missing_places, CountsAsk}
 use Rattle.stores.specs.Asking.{is_due as is_due_slot, is_missing as is_missing_slot, is_long_since}
 use Rattle.receiver.specs.Config.{Config}
 use Rattle.receiver.specs.Window.{held_in, missed_in, window_at, window_of}
-use Rattle.receiver.specs.Asks.{is_due, is_missed, asked_once, Asks, AsksMost, AnyNeedsRoomMost, CountsMissing}
+use Rattle.receiver.specs.Asks.{is_due, is_missed, asked_once, Asks, AsksMost, AnyNeedsRoom, looked_at, CountsMissing}
 use Rattle.receiver.specs.Counted.{CanAllBeAsked, CountsAsks}
 use Rattle.receiver.proofs.Rising.{members, not_before}
 
@@ -173,12 +173,15 @@ pub take_none : (n : ℕ) → take {A = ℕ} n [] ≡ []
 take_none zero = refl
 take_none (suc n) = refl
 
--- so many of so many, whichever are taken first
-pub take_swap : (m n : ℕ) (xs : List ℕ) → take m (take n xs) ≡ take n (take m xs)
-take_swap zero n xs = sym (take_none n)
-take_swap (suc m) zero xs = refl
-take_swap (suc m) (suc n) [] = refl
-take_swap (suc m) (suc n) (x ∷ xs) = ap (λ ys. x ∷ ys) (take_swap m n xs)
+-- so many of so many are the lesser number of them
+pub take_lesser : (m n k : ℕ) (xs : List ℕ) → k ≡ min m n → take m (take n xs) ≡ take k xs
+take_lesser zero n zero xs e = refl
+take_lesser zero n (suc k) xs e = absurd (omega arith)
+take_lesser (suc m) zero zero xs e = refl
+take_lesser (suc m) zero (suc k) xs e = absurd (omega arith)
+take_lesser (suc m) (suc n) zero xs e = absurd (omega arith)
+take_lesser (suc m) (suc n) (suc k) [] e = refl
+take_lesser (suc m) (suc n) (suc k) (x ∷ xs) e = ap (λ ys. x ∷ ys) (take_lesser m n k xs (omega arith))
 
 -- an ask of a window
 module _ (slots : List Slot) (room : ℕ) (c : Config) (now most : ℕ) (learnt : Option ℕ) where
@@ -189,36 +192,36 @@ module _ (slots : List Slot) (room : ℕ) (c : Config) (now most : ℕ) (learnt 
   all_due cursor = due_places (at cursor) now c.delay c.retry c.asks
 
   abbrev due : Option ℕ → List ℕ
-  due cursor = take most (all_due cursor)
+  due cursor = take (looked_at most) (all_due cursor)
 
   abbrev AreDue : Option ℕ → Type 0
   AreDue cursor = Lists (all_due cursor) (λ q. is_due_slot now c.delay c.retry c.asks (slot_at (at cursor) q))
 
   pub asks_some : (cursor : Option ℕ) (pairs : List Pair) (count : ℕ) (datagram : ArrayVec ℕ) (new : Span) →
-      AreDue cursor → IsNarrow (take longest_ask (due cursor)) →
-      take longest_ask (due cursor) ≢ [] → 0 < count → IsPacking (take longest_ask (due cursor)) pairs count →
+      AreDue cursor → IsNarrow (due cursor) →
+      due cursor ≢ [] → 0 < count → IsPacking (due cursor) pairs count →
       NackSpells (record { reporter = c.session.receiver_ssrc; media = c.session.media_ssrc; pairs = pairs }) datagram.items →
-      CountsAsks (at cursor) new (take count (take longest_ask (due cursor))) now →
+      CountsAsks (at cursor) new (take count (due cursor)) now →
       AsksMost c (window_of learnt (at cursor)) now most (Some datagram) (window_of learnt new)
-  asks_some None pairs count datagram new lists narrow some covers packs spells counts = absurd (some (ap (take longest_ask) (take_none most)))
+  asks_some None pairs count datagram new lists narrow some covers packs spells counts = absurd (some (take_none (looked_at most)))
   asks_some (Some k) pairs count datagram new lists narrow some covers packs spells counts =
       record {
         due = all_due (Some k);
         each = lists_same _ _ _ (λ q. same_due now c.delay c.retry c.asks (slot_at (at (Some k)) q)) lists;
         answers = (
-          λ none. some (ap (take longest_ask) none),
+          some,
           record { pairs = pairs; asked = record { count = count; covers = covers; narrow = narrow; packing = packs; asks = asks_at learnt k slots room new _ now counts }; spells = spells },
         );
       }
 
   pub needs_room : (cursor : Option ℕ) (pairs : List Pair) (count : ℕ) → AreDue cursor →
-      take longest_ask (due cursor) ≢ [] → IsPacking (take longest_ask (due cursor)) pairs count → AnyNeedsRoomMost c (window_of learnt (at cursor)) now most (12 + 4 * length pairs)
-  needs_room None pairs count lists some packs = absurd (some (ap (take longest_ask) (take_none most)))
+      due cursor ≢ [] → IsPacking (due cursor) pairs count → AnyNeedsRoom c (window_of learnt (at cursor)) now most (12 + 4 * length pairs)
+  needs_room None pairs count lists some packs = absurd (some (take_none (looked_at most)))
   needs_room (Some k) pairs count lists some packs =
       record {
         due = all_due (Some k);
         each = lists_same _ _ _ (λ q. same_due now c.delay c.retry c.asks (slot_at (at (Some k)) q)) lists;
-        some = λ none. some (ap (take longest_ask) none);
+        some = some;
         pairs = pairs;
         count = count;
         packing = packs;
@@ -246,8 +249,8 @@ counts_missed slots room learnt (Some k) count lists is =
       counted = is;
     }
 
--- no place is due where the first ones are none
-pub none_due : (items places : List ℕ) → items ≡ take longest_ask places → (length items == 0) ≡ true → places ≡ []
+-- no place is looked at where the list of those that are is empty
+pub none_due : (items places : List ℕ) → items ≡ places → (length items == 0) ≡ true → places ≡ []
 none_due items [] is none = refl
 none_due items (x ∷ xs) is none = let count = ap length is in let e = eqb-true _ _ none in absurd (omega arith)
 

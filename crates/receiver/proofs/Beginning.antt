@@ -1,15 +1,15 @@
 -- A receiver that began at the number of the first packet, and one that the packet starts.
-use Rattle.std.proofs.Common.{◌≡◌, ◌≢◌, ℕ, ◌+◌, ◌-◌, ◌%◌, ◌^◌, ◌<◌, ◌≤◌, max, Option, Some, None, IsSomeAnd, Result, Ok, Err, refl, sym, ap, subst, ◌∙◌, inl, inr, arith}
+use Rattle.std.proofs.Common.{◌≡◌, ◌≢◌, ℕ, ◌+◌, ◌^◌, ◌<◌, ◌≤◌, Option, Some, None, IsSomeAnd, Result, Ok, Err, refl, sym, ap, subst, ◌∙◌, inl, inr, arith}
 use Rattle.std.specs.Prelude.{IsSome}
 use Rattle.std.proofs.lemmas.Bool.{cases_eq, cases_lt}
-use Rattle.places.specs.Place.{number, IsNear, IsFar, IsPastEnd}
+use Rattle.places.specs.Place.{IsNear, IsFar, IsPastEnd}
 use Rattle.rtpwire.specs.declared.content.Content.{Content}
 use Rattle.stores.specs.declared.slot.PutFault.TheVariants.{Late, Duplicate}
 use Rattle.receiver.specs.declared.answer.Taken.{Taken}
 use Rattle.receiver.specs.declared.fault.ReceiveFault.{ReceiveFault}
 use Rattle.receiver.specs.declared.fault.ReceiveFault.TheVariants as refused
 use Rattle.receiver.specs.declared.stream.Stream.TheVariants.{Media}
-use Rattle.receiver.specs.Window.{Missed, ReceiverState, Begins, Starts, Takes, AnswersPlace, StartsAt, cursor_after}
+use Rattle.receiver.specs.Window.{ReceiverState, Begins, Starts, Takes, AnswersPlace, StartsAt, cursor_after}
 use Rattle.receiver.specs.Heard.{TakesNumber}
 
 -- the place after the highest is near, and has its own number

@@ -14,12 +14,10 @@ use Rattle.receiver.specs.declared.stream.Stream.{Stream}
 use Rattle.receiver.specs.declared.stream.Stream.TheVariants.{Media, Repair, Candidate}
 use Rattle.receiver.specs.Config.{Config}
 use Rattle.receiver.specs.Window.{Missed, ReceiverState, Takes, Passes, AnswersPlace, Plays, PlaysAny}
-use Rattle.receiver.specs.Asks.{is_due, asked_once, asked_into, Asks, AsksAny, AsksInto, AsksMost, AsksMostInto, AsksWithin}
+use Rattle.receiver.specs.Asks.{is_due, asked_once, asked_into, Asks, AsksMost, AsksMostInto, AsksWithin, looked_at}
 use Rattle.receiver.specs.Heard.{AnswersIn, TakesNumber, Hears, TakesOrRefuses}
 use Rattle.receiver.proofs.Rising.{among_take}
-use Rattle.receiver.proofs.FewAsks.{most_of_any}
 use Rattle.receiver.proofs.Whichever.{whichever}
-use Rattle.stores.specs.Asking.{longest_ask}
 
 -- a place that is asked for was asked for fewer times than the limit
 kept : (now delay retry limit : ℕ) (m : Option Missed) (among : Bool) → (among ≡ true → is_due now delay retry limit m ≡ true) → IfSome m (λ x. x.asks ≤ limit) →
@@ -30,11 +28,11 @@ kept now delay retry limit (Some m) true due keeps = let is = due refl in grind 
 kept now delay retry limit (Some m) false due keeps = keeps
 
 keeps_at : (c : Config) (now : ℕ) (old : ReceiverState) (most : ℕ) (due : List ℕ) (count : ℕ) (new : Option ReceiverState) → ((q : ℕ) → is_among due q ≡ is_due now c.delay c.retry c.asks (old.missing q)) →
-    IsSomeAnd new (Asks old (take count (take longest_ask (take most due))) now) → AsksWithin c.asks (Some old) → AsksWithin c.asks new
+    IsSomeAnd new (Asks old (take count (take (looked_at most) due)) now) → AsksWithin c.asks (Some old) → AsksWithin c.asks new
 keeps_at c now old most due count None each none keeps = absurd none
 keeps_at c now old most due count (Some new) each asks keeps =
     λ k. subst (λ (m : Option Missed). IfSome m (λ x. x.asks ≤ c.asks)) (sym (asks.missing k))
-    (kept now c.delay c.retry c.asks (old.missing k) _ (λ among. sym (each k) ∙ among_take most due k (among_take longest_ask (take most due) k (among_take count (take longest_ask (take most due)) k among))) (keeps k))
+    (kept now c.delay c.retry c.asks (old.missing k) _ (λ among. sym (each k) ∙ among_take (looked_at most) due k (among_take count (take (looked_at most) due) k among)) (keeps k))
 
 pub asks_keep : (c : Config) (now most : ℕ) (old : Option ReceiverState) (answer : Option (ArrayVec ℕ)) (new : Option ReceiverState) → AsksMost c old now most answer new → AsksWithin c.asks old → AsksWithin c.asks new
 asks_keep c now most None answer new (none, is) keeps = subst (λ (s : Option ReceiverState). AsksWithin c.asks s) (sym is) keeps
@@ -45,14 +43,6 @@ pub asks_into_keep : (c : Config) (now most : ℕ) (old : Option ReceiverState) 
     → AsksMostInto c old now most out answer out' new → AsksWithin c.asks old → AsksWithin c.asks new
 asks_into_keep c now most old out (Ok answer) out' new asks keeps = asks_keep c now most old (asked_into out' answer) new asks.0 keeps
 asks_into_keep c now most old out (Err short) out' new asks keeps = subst (λ (s : Option ReceiverState). AsksWithin c.asks s) (sym asks.3) keeps
-
-pub any_keep : (c : Config) (now : ℕ) (old : Option ReceiverState) (answer : Option (ArrayVec ℕ)) (new : Option ReceiverState) → AsksAny c old now answer new → AsksWithin c.asks old → AsksWithin c.asks new
-any_keep c now old answer new asks keeps = asks_keep c now longest_ask old answer new (most_of_any c old now longest_ask answer new (omega arith) asks) keeps
-
-pub any_into_keep : (c : Config) (now : ℕ) (old : Option ReceiverState) (out : List ℕ) (answer : Result (Option ℕ) TooShort) (out' : List ℕ) (new : Option ReceiverState)
-    → AsksInto c old now out answer out' new → AsksWithin c.asks old → AsksWithin c.asks new
-any_into_keep c now old out (Ok answer) out' new asks keeps = any_keep c now old (asked_into out' answer) new asks.0 keeps
-any_into_keep c now old out (Err short) out' new asks keeps = subst (λ (s : Option ReceiverState). AsksWithin c.asks s) (sym asks.3) keeps
 
 -- one place keeps the limit: it isn't missing, or is as it was, or was only noticed
 abbrev Within : (limit : ℕ) → Option Missed → Type 0

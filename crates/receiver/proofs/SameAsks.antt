@@ -5,10 +5,9 @@ use Rattle.arrayvec.specs.ArrayVec.{ArrayVec}
 use Rattle.fbwire.specs.declared.nack.Pair.{Pair}
 use Rattle.fbwire.specs.Nack.{Nack, nack_octets}
 use Rattle.fbwire.specs.Packing.{IsPacking, IsNarrow}
-use Rattle.stores.specs.Asking.{longest_ask}
 use Rattle.receiver.specs.Config.{Config}
 use Rattle.receiver.specs.Window.{ReceiverState}
-use Rattle.receiver.specs.Asks.{is_due, Asks, AsksFor, AsksAny, AsksMost, AnswersAsk}
+use Rattle.receiver.specs.Asks.{is_due, Asks, AsksFor, AsksMost, AnswersAsk, looked_at}
 use Rattle.receiver.proofs.Rising.{rising_take, one_list}
 use Rattle.receiver.proofs.SameWindows.{Same, same_window, one_such}
 
@@ -21,16 +20,16 @@ abbrev pub OnePacking : Type 0
 OnePacking = (places : List ℕ) (a b : List Pair) (m n : ℕ) → IsStrictlyIncreasing places → IsNarrow places → IsPacking places a m → IsPacking places b n → (a ≡ b) × (m ≡ n)
 
 module _ (one_packing : OnePacking) (c : Config) (now : ℕ) (v w : Option ReceiverState) where
-  one_ask_for : (old : ReceiverState) (due : List ℕ) (x y : ArrayVec ℕ) → IsStrictlyIncreasing due → AsksFor c old due now x v → AsksFor c old due now y w → Same x y v w
-  one_ask_for old due x y rising a b =
+  one_ask_for : (old : ReceiverState) (places : List ℕ) (x y : ArrayVec ℕ) → IsStrictlyIncreasing places → AsksFor c old places now x v → AsksFor c old places now y w → Same x y v w
+  one_ask_for old places x y rising a b =
       let v_asked = a.asked in
       let w_asked = b.asked in
-      let packing = one_packing (take longest_ask due) a.pairs b.pairs v_asked.count w_asked.count (rising_take longest_ask due rising) v_asked.narrow v_asked.packing w_asked.packing in
+      let packing = one_packing places a.pairs b.pairs v_asked.count w_asked.count rising v_asked.narrow v_asked.packing w_asked.packing in
       let nack : List Pair → Nack = λ pairs. record { reporter = c.session.receiver_ssrc; media = c.session.media_ssrc; pairs = pairs } in
       let octets : x.items ≡ y.items = a.spells.spelled ∙ ap (λ pairs. nack_octets (nack pairs)) packing.0 ∙ sym b.spells.spelled in (
         λ i. record { items = octets i },
-        one_such (Asks old (take v_asked.count (take longest_ask due)) now) (one_asks old (take v_asked.count (take longest_ask due)) now) v w v_asked.asks
-            (subst (λ n. IsSomeAnd w (Asks old (take n (take longest_ask due)) now)) (sym packing.1) w_asked.asks),
+        one_such (Asks old (take v_asked.count places) now) (one_asks old (take v_asked.count places) now) v w v_asked.asks
+            (subst (λ n. IsSomeAnd w (Asks old (take n places) now)) (sym packing.1) w_asked.asks),
       )
 
   one_answer : (old : ReceiverState) (due : List ℕ) (r s : Option (ArrayVec ℕ)) → IsStrictlyIncreasing due → AnswersAsk c old due now r v → AnswersAsk c old due now s w → Same r s v w
@@ -44,11 +43,5 @@ module _ (one_packing : OnePacking) (c : Config) (now : ℕ) (v w : Option Recei
   pub one_ask_most : (old : Option ReceiverState) (most : ℕ) (r s : Option (ArrayVec ℕ)) → AsksMost c old now most r v → AsksMost c old now most s w → Same r s v w
   one_ask_most None most r s (none, is) (none', is') = (none ∙ sym none', is ∙ sym is')
   one_ask_most (Some old) most r s a b =
-      one_answer old (take most a.due) r s (rising_take most a.due a.each.rises) a.answers
-      (subst (λ (due : List ℕ). AnswersAsk c old (take most due) now s w) (one_list b.due a.due (λ k. is_due now c.delay c.retry c.asks (old.missing k)) b.each a.each) b.answers)
-
-  pub one_ask : (old : Option ReceiverState) (r s : Option (ArrayVec ℕ)) → AsksAny c old now r v → AsksAny c old now s w → Same r s v w
-  one_ask None r s (none, is) (none', is') = (none ∙ sym none', is ∙ sym is')
-  one_ask (Some old) r s a b =
-      one_answer old a.due r s a.each.rises a.answers
-      (subst (λ (due : List ℕ). AnswersAsk c old due now s w) (one_list b.due a.due (λ k. is_due now c.delay c.retry c.asks (old.missing k)) b.each a.each) b.answers)
+      one_answer old (take (looked_at most) a.due) r s (rising_take (looked_at most) a.due a.each.rises) a.answers
+      (subst (λ (due : List ℕ). AnswersAsk c old (take (looked_at most) due) now s w) (one_list b.due a.due (λ k. is_due now c.delay c.retry c.asks (old.missing k)) b.each a.each) b.answers)

@@ -1,5 +1,5 @@
 -- When a receiver is quiet, by its window.
-use Rattle.std.proofs.Common.{◌≡◌, ◌↔◌, ℕ, ◌+◌, ◌-◌, ◌<◌, ◌≤◌, ◌&&◌, ◌||◌, nat_le, Bool, true, false, List, [], ◌∷◌, length, slice_get, take, Option, Some, None, refl, sym, ap, subst, ◌∙◌, inl, inr, arith}
+use Rattle.std.proofs.Common.{◌≡◌, ◌↔◌, ℕ, ◌-◌, ◌&&◌, ◌||◌, nat_le, Bool, false, List, [], ◌∷◌, length, slice_get, take, Option, Some, None, refl, sym, ap, subst, ◌∙◌, inl, inr, arith}
 use Rattle.std.proofs.lemmas.Bool.{cases_Bool, or_parts, or_from}
 use Rattle.std.proofs.lemmas.Bool.Decides.{nat_tests}
 use Rattle.std.proofs.lemmas.Option.{same_Some}
@@ -8,7 +8,7 @@ use Rattle.stores.specs.declared.slot.Slot.TheVariants.{Held, Missing}
 use Rattle.stores.specs.Span.{Span, IsSpan, front_of}
 use Rattle.stores.specs.ByPlace.{slot_at}
 use Rattle.stores.specs.PlaceLists.{Lists}
-use Rattle.stores.specs.Asking.{due_places}
+use Rattle.stores.specs.Asking.{due_places, longest_ask}
 use Rattle.stores.specs.Asking.{is_due as is_due_slot}
 use Rattle.receiver.specs.declared.answer.Played.TheVariants.{Wait}
 use Rattle.receiver.specs.Config.{Config}
@@ -18,6 +18,7 @@ use Rattle.receiver.specs.Peeking.{is_ready}
 use Rattle.receiver.specs.Waking.{IsQuiet}
 use Rattle.receiver.proofs.Asking.{lists_same, same_due}
 use Rattle.receiver.proofs.Rising.{one_list}
+use Rattle.receiver.proofs.FewAsks.{none_of_few}
 
 module _ (patience now : ℕ) where
   -- a missing place's patience has not passed
@@ -80,7 +81,7 @@ module _ (slots : List Slot) (room : ℕ) (c : Config) (now : ℕ) (learnt : Opt
         one_list (due (Some k)) asks.due (λ q. is_due now c.delay c.retry c.asks (missed_in (slot_at (span (Some k)) q)))
         (subst (λ (at : Option ℕ). Lists (due at) (λ q. is_due now c.delay c.retry c.asks (missed_in (slot_at (span at) q)))) (sym same) (lists_same _ _ _ (λ q. same_due now c.delay c.retry c.asks (slot_at (span cursor) q)) lists))
         asks.each
-        ∙ asks.answers.0
+        ∙ none_of_few longest_ask asks.due (omega arith) asks.answers.0
 
     nothing_due_asks : (at : Option ℕ) → at ≡ cursor → due at ≡ [] → AsksAny c (window_of learnt (span at)) now None (window_of learnt (span at))
     nothing_due_asks None same none = (refl, refl)
@@ -88,7 +89,7 @@ module _ (slots : List Slot) (room : ℕ) (c : Config) (now : ℕ) (learnt : Opt
         record {
           due = due (Some k);
           each = subst (λ (at : Option ℕ). Lists (due at) (λ q. is_due now c.delay c.retry c.asks (missed_in (slot_at (span at) q)))) (sym same) (lists_same _ _ _ (λ q. same_due now c.delay c.retry c.asks (slot_at (span cursor) q)) lists);
-          answers = (none, refl);
+          answers = (ap (take longest_ask) none, refl);
         }
 
     -- it is quiet exactly where the slot at the front is not to be passed, and no place is due

@@ -1,6 +1,6 @@
 -- What a receiver asks for: which missing places are due, how they are packed into a generic NACK (RFC 4585,
 -- section 6.2.1), and what an ask leaves. When to ask is a choice of this project.
-use Rattle.std.specs.Prelude.{◌≡◌, ◌≢◌, ℕ, ◌+◌, ◌*◌, ◌<◌, ◌≤◌, ◌==◌, ◌||◌, ◌&&◌, Bool, true, false, List, [], length, take, Option, Some, None, Result, Ok, Err, IsSomeAnd, IfSome, if◌then◌else◌, nat_lt, nat_le}
+use Rattle.std.specs.Prelude.{◌≡◌, ◌≢◌, ℕ, ◌+◌, ◌*◌, ◌<◌, ◌≤◌, ◌==◌, ◌||◌, ◌&&◌, Bool, true, false, List, [], length, take, min, Option, Some, None, Result, Ok, Err, IsSomeAnd, IfSome, if◌then◌else◌, nat_lt, nat_le}
 use Rattle.std.specs.Option.{option_map}
 use Rattle.arrayvec.specs.ArrayVec.{ArrayVec}
 use Rattle.places.specs.Among.{is_among}
@@ -38,47 +38,45 @@ pub record Asks (old : ReceiverState) (covered : List ℕ) (now : ℕ) (new : Re
   pub missing : (k : ℕ) → new.missing k ≡ (if is_among covered k then option_map (asked_once now) (old.missing k) else old.missing k)
   pub learnt : new.learnt ≡ old.learnt
 
--- An ask for due places by pairs. The first `longest_ask` of them, or all, are packed into as few pairs as name
--- them, 64 at most. A due place that the pairs do not cover stays due.
-pub record AsksBy (old : ReceiverState) (due : List ℕ) (now : ℕ) (pairs : List Pair) (new : Option ReceiverState) : Type 0 where
+-- An ask for these places, at least one, by pairs: they are packed into as few pairs as name them, 64 at most. A place that the
+-- pairs do not cover stays due.
+pub record AsksBy (old : ReceiverState) (places : List ℕ) (now : ℕ) (pairs : List Pair) (new : Option ReceiverState) : Type 0 where
   pub count : ℕ
   pub covers : 0 < count
   -- the places lie within one window, so no two of them have one sequence number
-  pub narrow : IsNarrow (take longest_ask due)
-  pub packing : IsPacking (take longest_ask due) pairs count
-  pub asks : IsSomeAnd new (Asks old (take count (take longest_ask due)) now)
+  pub narrow : IsNarrow places
+  pub packing : IsPacking places pairs count
+  pub asks : IsSomeAnd new (Asks old (take count places) now)
 
 -- An ask as a datagram: the NACK of the pairs, from the receiver to the media source.
-pub record AsksFor (c : Config) (old : ReceiverState) (due : List ℕ) (now : ℕ) (datagram : ArrayVec ℕ) (new : Option ReceiverState) : Type 0 where
+pub record AsksFor (c : Config) (old : ReceiverState) (places : List ℕ) (now : ℕ) (datagram : ArrayVec ℕ) (new : Option ReceiverState) : Type 0 where
   pub pairs : List Pair
-  pub asked : AsksBy old due now pairs new
+  pub asked : AsksBy old places now pairs new
   pub spells : NackSpells (record { reporter = c.session.receiver_ssrc; media = c.session.media_ssrc; pairs = pairs }) datagram.items
 
--- where no place is due there is no ask, and nothing changes
-abbrev pub AnswersAsk : Config → ReceiverState → (due : List ℕ) → (now : ℕ) → Option (ArrayVec ℕ) → Option ReceiverState → Type 0
-AnswersAsk c old due now (Some datagram) new = (due ≢ []) × AsksFor c old due now datagram new
-AnswersAsk c old due now None new = (due ≡ []) × (new ≡ Some old)
+-- where there is no place there is no ask, and nothing changes
+abbrev pub AnswersAsk : Config → ReceiverState → (places : List ℕ) → (now : ℕ) → Option (ArrayVec ℕ) → Option ReceiverState → Type 0
+AnswersAsk c old places now (Some datagram) new = (places ≢ []) × AsksFor c old places now datagram new
+AnswersAsk c old places now None new = (places ≡ []) × (new ≡ Some old)
 
--- an ask at a started receiver
-pub record AsksDue (c : Config) (old : ReceiverState) (now : ℕ) (answer : Option (ArrayVec ℕ)) (new : Option ReceiverState) : Type 0 where
+-- how many places one ask looks at, where it is for at most so many
+abbrev pub looked_at : (most : ℕ) → ℕ
+looked_at most = min most longest_ask
+
+-- An ask for at most so many places, at a started receiver: the first so many of the due ones are asked for as if no other were due.
+pub record AsksDue (c : Config) (old : ReceiverState) (now most : ℕ) (answer : Option (ArrayVec ℕ)) (new : Option ReceiverState) : Type 0 where
   pub due : List ℕ
   pub each : Lists due (λ k. is_due now c.delay c.retry c.asks (old.missing k))
-  pub answers : AnswersAsk c old due now answer new
+  pub answers : AnswersAsk c old (take (looked_at most) due) now answer new
 
 -- A receiver that took nothing asks for nothing.
-abbrev pub AsksAny : Config → Option ReceiverState → (now : ℕ) → Option (ArrayVec ℕ) → Option ReceiverState → Type 0
-AsksAny c None now answer new = (answer ≡ None) × (new ≡ None)
-AsksAny c (Some old) now answer new = AsksDue c old now answer new
-
--- An ask for at most so many places: the first so many of the due ones are asked for as if no other were due.
-pub record AsksDueMost (c : Config) (old : ReceiverState) (now most : ℕ) (answer : Option (ArrayVec ℕ)) (new : Option ReceiverState) : Type 0 where
-  pub due : List ℕ
-  pub each : Lists due (λ k. is_due now c.delay c.retry c.asks (old.missing k))
-  pub answers : AnswersAsk c old (take most due) now answer new
-
 abbrev pub AsksMost : Config → Option ReceiverState → (now most : ℕ) → Option (ArrayVec ℕ) → Option ReceiverState → Type 0
 AsksMost c None now most answer new = (answer ≡ None) × (new ≡ None)
-AsksMost c (Some old) now most answer new = AsksDueMost c old now most answer new
+AsksMost c (Some old) now most answer new = AsksDue c old now most answer new
+
+-- An ask is one for at most the longest.
+abbrev pub AsksAny : Config → Option ReceiverState → (now : ℕ) → Option (ArrayVec ℕ) → Option ReceiverState → Type 0
+AsksAny c old now answer new = AsksMost c old now longest_ask answer new
 
 -- the answer of an ask to the front of a slice, with the octets there as its datagram
 abbrev pub asked_into : List ℕ → Option ℕ → Option (ArrayVec ℕ)
@@ -90,43 +88,28 @@ abbrev pub WritesAsk : List ℕ → Option ℕ → List ℕ → Type 0
 WritesAsk out (Some len) out' = WritesFront len out out'
 WritesAsk out None out' = out' ≡ out
 
--- An ask would be due whose NACK has so many octets.
-pub record NeedsRoom (c : Config) (old : ReceiverState) (now needed : ℕ) : Type 0 where
-  pub due : List ℕ
-  pub each : Lists due (λ k. is_due now c.delay c.retry c.asks (old.missing k))
-  pub some : due ≢ []
-  pub pairs : List Pair
-  pub count : ℕ
-  pub packing : IsPacking (take longest_ask due) pairs count
-  pub octets : needed ≡ 12 + 4 * length pairs
-
-abbrev pub AnyNeedsRoom : Config → Option ReceiverState → (now needed : ℕ) → Type 0
-AnyNeedsRoom c None now needed = ⊥
-AnyNeedsRoom c (Some old) now needed = NeedsRoom c old now needed
-
 -- An ask for at most so many places would be due whose NACK has so many octets.
-pub record NeedsRoomMost (c : Config) (old : ReceiverState) (now most needed : ℕ) : Type 0 where
+pub record NeedsRoom (c : Config) (old : ReceiverState) (now most needed : ℕ) : Type 0 where
   pub due : List ℕ
   pub each : Lists due (λ k. is_due now c.delay c.retry c.asks (old.missing k))
-  pub some : take most due ≢ []
+  pub some : take (looked_at most) due ≢ []
   pub pairs : List Pair
   pub count : ℕ
-  pub packing : IsPacking (take longest_ask (take most due)) pairs count
+  pub packing : IsPacking (take (looked_at most) due) pairs count
   pub octets : needed ≡ 12 + 4 * length pairs
 
-abbrev pub AnyNeedsRoomMost : Config → Option ReceiverState → (now most needed : ℕ) → Type 0
-AnyNeedsRoomMost c None now most needed = ⊥
-AnyNeedsRoomMost c (Some old) now most needed = NeedsRoomMost c old now most needed
+abbrev pub AnyNeedsRoom : Config → Option ReceiverState → (now most needed : ℕ) → Type 0
+AnyNeedsRoom c None now most needed = ⊥
+AnyNeedsRoom c (Some old) now most needed = NeedsRoom c old now most needed
 
 -- What is answered where the octets go to the front of a slice: an ask as any other, or none, and where the slice has no
 -- room for it, how many octets it has; then nothing changes.
-abbrev pub AsksInto : Config → Option ReceiverState → (now : ℕ) → List ℕ → Result (Option ℕ) TooShort → List ℕ → Option ReceiverState → Type 0
-AsksInto c old now out (Ok answer) out' new = AsksAny c old now (asked_into out' answer) new × WritesAsk out answer out'
-AsksInto c old now out (Err short) out' new = AnyNeedsRoom c old now short.needed × (length out < short.needed) × (out' ≡ out) × (new ≡ old)
-
 abbrev pub AsksMostInto : Config → Option ReceiverState → (now most : ℕ) → List ℕ → Result (Option ℕ) TooShort → List ℕ → Option ReceiverState → Type 0
 AsksMostInto c old now most out (Ok answer) out' new = AsksMost c old now most (asked_into out' answer) new × WritesAsk out answer out'
-AsksMostInto c old now most out (Err short) out' new = AnyNeedsRoomMost c old now most short.needed × (length out < short.needed) × (out' ≡ out) × (new ≡ old)
+AsksMostInto c old now most out (Err short) out' new = AnyNeedsRoom c old now most short.needed × (length out < short.needed) × (out' ≡ out) × (new ≡ old)
+
+abbrev pub AsksInto : Config → Option ReceiverState → (now : ℕ) → List ℕ → Result (Option ℕ) TooShort → List ℕ → Option ReceiverState → Type 0
+AsksInto c old now out answer out' new = AsksMostInto c old now longest_ask out answer out' new
 
 -- how many places are missing
 pub record CountsMissed (old : ReceiverState) (count : ℕ) : Type 0 where

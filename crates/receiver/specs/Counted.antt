@@ -8,7 +8,8 @@ use Rattle.fbwire.specs.declared.nack.Pair.{Pair}
 use Rattle.fbwire.specs.Packing.{IsPacking, IsNarrow}
 use Rattle.stores.specs.Span.{Span, highest_of}
 use Rattle.stores.specs.ByPlace.{slot_at}
-use Rattle.stores.specs.Asking.{CanBeAsked, asked_slot, due_places, longest_ask}
+use Rattle.stores.specs.Asking.{CanBeAsked, asked_slot, due_places}
+use Rattle.receiver.specs.Asks.{looked_at}
 
 -- one more ask may be counted for each of these places
 abbrev pub CanAllBeAsked : Span → List ℕ → Type 0
@@ -23,7 +24,7 @@ pub record CountsAsks (old new : Span) (places : List ℕ) (now : ℕ) : Type 0 
 
 -- The first due places, at most so many, and the pairs that cover a beginning of them.
 pub record FindsPairs (s : Span) (now delay retry limit most : ℕ) (first : List ℕ) (pairs : List Pair) (count : ℕ) : Type 0 where
-  pub due : first ≡ take longest_ask (take most (due_places s now delay retry limit))
+  pub due : first ≡ take (looked_at most) (due_places s now delay retry limit)
   pub some : first ≢ []
   pub covers : 0 < count
   pub writes : 0 < length pairs
@@ -34,5 +35,5 @@ pub record FindsPairs (s : Span) (now delay retry limit most : ℕ) (first : Lis
 
 -- there are pairs exactly where a place is due
 abbrev pub AnswersPairs : Span → (now delay retry limit most : ℕ) → Option (ArrayVec Pair × ℕ) → (first : List ℕ) → Type 0
-AnswersPairs s now delay retry limit most None first = take most (due_places s now delay retry limit) ≡ []
+AnswersPairs s now delay retry limit most None first = take (looked_at most) (due_places s now delay retry limit) ≡ []
 AnswersPairs s now delay retry limit most (Some found) first = FindsPairs s now delay retry limit most first found.0.items found.1

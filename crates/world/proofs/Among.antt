@@ -1,5 +1,5 @@
 -- Which places are among some.
-use Rattle.std.proofs.Common.{◌≡◌, ℕ, zero, suc, true, Bool, List, [], ◌∷◌, take, map, ap, ⊎_elim, arith}
+use Rattle.std.proofs.Common.{◌≡◌, ℕ, zero, suc, true, Bool, ◌<◌, List, [], ◌∷◌, take, map, refl, ap, ⊎_elim, arith}
 use Rattle.std.specs.Prelude.{◌||◌, ◌==◌, Contains}
 use Rattle.std.proofs.lemmas.Bool.{or_cases, eqb-true}
 use Rattle.std.proofs.lemmas.Bool.Decides.{nat_tests}
@@ -11,6 +11,12 @@ here_among n b = grind (arith, nat_tests)
 
 later_among : (a b : Bool) → b ≡ true → (a || b) ≡ true
 later_among a b e = grind (arith, nat_tests)
+
+-- the first so many of some places are none only where all are
+pub none_of_few : (most : ℕ) (xs : List ℕ) → 0 < most → take most xs ≡ [] → xs ≡ []
+none_of_few zero xs some none = absurd (omega arith)
+none_of_few (suc most) [] some none = refl
+none_of_few (suc most) (x ∷ xs) some none = absurd cc
 
 -- what is among the first ones is among all
 pub among_take : (n : ℕ) (xs : List ℕ) (k : ℕ) → is_among (take n xs) k ≡ true → is_among xs k ≡ true

@@ -80,7 +80,7 @@ due_missing c now (Some m) due = (m, refl)
 
 module _ (c : Config) (met : IsConfig c) (now shift p q top : ℕ) where
   -- An ask, and its pairs at the sender.
-  module _ (v v' : ReceiverState) (s s' : SenderState) (due : List ℕ) (each : (k : ℕ) → is_among due k ≡ is_due now c.receiver.delay c.receiver.retry c.receiver.asks (v.missing k)) (pairs : List Pair) (r' : Option ReceiverState) (by : AsksBy v due now pairs r')
+  module _ (v v' : ReceiverState) (s s' : SenderState) (due : List ℕ) (each : (k : ℕ) → is_among due k ≡ is_due now c.receiver.delay c.receiver.retry c.receiver.asks (v.missing k)) (pairs : List Pair) (r' : Option ReceiverState) (by : AsksBy v (take longest_ask due) now pairs r')
       (asking : Asks v (take by.count (take longest_ask due)) now v') (count : ℕ) (marking : Marks c.repeats (Names pairs) s count s') (decided : (n : ℕ) → Names pairs n ⊎ (Names pairs n → ⊥)) (r : Ready c shift p q top v s) where
     abbrev covered : List ℕ
     covered = take by.count (take longest_ask due)

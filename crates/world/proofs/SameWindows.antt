@@ -127,7 +127,7 @@ one_asks old covered now v w a b =
     same_window v w (a.cursor ∙ sym b.cursor) (a.highest ∙ sym b.highest) (λ k. a.held k ∙ sym (b.held k)) (λ k. a.missing k ∙ sym (b.missing k)) (a.learnt ∙ sym b.learnt)
 
 module _ (one_packing : OnePacking) (now : ℕ) (m n : List Pair) (v w : Option ReceiverState) where
-  one_ask_by : (old : ReceiverState) (due : List ℕ) → IsStrictlyIncreasing due → AsksBy old due now m v → AsksBy old due now n w → (m ≡ n) × (v ≡ w)
+  one_ask_by : (old : ReceiverState) (due : List ℕ) → IsStrictlyIncreasing due → AsksBy old (take longest_ask due) now m v → AsksBy old (take longest_ask due) now n w → (m ≡ n) × (v ≡ w)
   one_ask_by old due rising a b =
       let packing = one_packing (take longest_ask due) m n a.count b.count (rising_take longest_ask due rising) a.narrow a.packing b.packing in (
         packing.0,
@@ -139,4 +139,4 @@ module _ (one_packing : OnePacking) (now : ℕ) (m n : List Pair) (v w : Option 
   one_ask c None never b = absurd never
   one_ask c (Some old) a b =
       one_ask_by old a.due a.each.rises a.asked
-      (subst (λ (due : List ℕ). AsksBy old due now n w) (one_list b.due a.due (λ k. is_due now c.delay c.retry c.asks (old.missing k)) b.each a.each) b.asked)
+      (subst (λ (due : List ℕ). AsksBy old (take longest_ask due) now n w) (one_list b.due a.due (λ k. is_due now c.delay c.retry c.asks (old.missing k)) b.each a.each) b.asked)

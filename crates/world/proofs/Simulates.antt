@@ -1,5 +1,5 @@
 -- A close and honest log is a run of the place world.
-use Rattle.std.proofs.Common.{◌≡◌, ℕ, ◌+◌, ◌^◌, ◌<◌, List, [], ◌∷◌, ◌++◌, map, Bool, true, false, if◌then◌else◌, Option, Some, None, Result, Ok, Err, refl, sym, ap, subst, ◌∙◌, inl, inr, arith}
+use Rattle.std.proofs.Common.{◌≡◌, ℕ, ◌+◌, ◌^◌, ◌<◌, List, [], ◌∷◌, ◌++◌, map, take, Bool, true, false, if◌then◌else◌, Option, Some, None, Result, Ok, Err, refl, sym, ap, subst, ◌∙◌, inl, inr, arith}
 use Rattle.std.specs.Prelude.{slice_get, option_map}
 use Rattle.std.proofs.lemmas.List.{length-map, map-append}
 use Rattle.std.proofs.lemmas.Bool.Decides.{nat_tests}
@@ -30,6 +30,7 @@ use Rattle.receiver.specs.declared.stream.Stream.{Stream}
 use Rattle.receiver.specs.declared.stream.Stream.TheVariants as streams
 use Rattle.receiver.specs.Streams.{learnt_by, source_of, stream_of}
 use Rattle.receiver.specs.Heard.{AnswersNumber, TakesNumber, Hears}
+use Rattle.stores.specs.Asking.{longest_ask}
 use Rattle.receiver.specs.Asks.{AsksBy, AsksAny}
 use Rattle.world.specs.declared.event.Event.{Event}
 use Rattle.world.specs.declared.event.Event.TheVariants.{Send, Repair as Retransmit, Ask, Deliver, Play, Inject}
@@ -46,6 +47,7 @@ use Rattle.world.specs.Answers.{Item, WorldState, told_marks, nack_of, SenderHea
 use Rattle.world.specs.Reach.{highest_taken, shift_of}
 use Rattle.world.specs.Close.{close_distance, IsCloseTo, IsClose, IsHonest}
 use Rattle.world.specs.PlaceRun.{PlaceWorld, repair_in, AnswersLabel, ReceivesLabel, HearsFeedbackOf, HearsLabel, RefusesSend, AsksAnyBy, NoneDue, MarksAnything, PlaceRun, label_of, places_of}
+use Rattle.world.proofs.Among.{none_of_few}
 use Rattle.world.proofs.Faithful.{Wired, OneNack, wired, spelled}
 use Rattle.world.proofs.Marked.{AnyFeedback, Decided}
 use Rattle.world.proofs.Learnt.{IsOwn, LearntIs, learnt_is}
@@ -134,11 +136,11 @@ asked_by one c now index old new step None (none, is) = absurd cc
 asked_by one c now index old new step (Some w) asks =
     let answer = asks.answers.1 in
     let same : answer.pairs ≡ step.pairs.items = ap (λ (n : Nack). n.pairs) (one step.datagram.items (nack_of c.receiver.session answer.pairs) (nack_of c.receiver.session step.pairs.items) answer.spells step.spells) in
-    record { due = asks.due; each = asks.each; some = asks.answers.0; asked = subst (λ (pairs : List Pair). AsksBy w asks.due now pairs new.receiver) same answer.asked }
+    record { due = asks.due; each = asks.each; some = λ none. asks.answers.0 (ap (take longest_ask) none); asked = subst (λ (pairs : List Pair). AsksBy w (take longest_ask asks.due) now pairs new.receiver) same answer.asked }
 
 pub none_due : (c : Receiving) (now : ℕ) (r new : Option ReceiverState) → AsksAny c r now None new → NoneDue c r now
 none_due c now None new step = tt
-none_due c now (Some w) new asks = λ k. sym (asks.each.each k) ∙ ap (λ (due : List ℕ). is_among due k) asks.answers.0
+none_due c now (Some w) new asks = λ k. sym (asks.each.each k) ∙ ap (λ (due : List ℕ). is_among due k) (none_of_few longest_ask asks.due (omega arith) asks.answers.0)
 
 -- what is injected at the sender marks something, or nothing
 injected_as : (c : Config) (old new : PlaceWorld) (heard : Result Marking FeedbackFault) → MarksOrRefuses (sending c) old.sender heard new.sender → new.receiver ≡ old.receiver → MarksAnything c old (told_marks heard) new

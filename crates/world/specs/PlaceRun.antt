@@ -1,7 +1,7 @@
 -- The place world: both ends over places without bound, with no octets, sequence numbers or stores. Labels
 -- take the place of datagrams, and what a label stands for is the content that was sent at its place. A log
 -- is newest first here.
-use Rattle.std.specs.Prelude.{◌≡◌, ◌≢◌, ◌⊎◌, false, ℕ, ◌+◌, ◌^◌, ◌<◌, ◌≤◌, List, [], ◌∷◌, ◌++◌, length, map, Option, Some, None, Result, Err, slice_get}
+use Rattle.std.specs.Prelude.{◌≡◌, ◌≢◌, ◌⊎◌, false, ℕ, ◌+◌, ◌^◌, ◌<◌, ◌≤◌, List, [], ◌∷◌, ◌++◌, length, take, map, Option, Some, None, Result, Err, slice_get}
 use Rattle.arrayvec.specs.ArrayVec.{ArrayVec}
 use Rattle.places.specs.Place.{number, reach, IsWithin}
 use Rattle.places.specs.declared.nearness.PlaceFault.TheVariants.{Far}
@@ -23,6 +23,7 @@ use Rattle.receiver.specs.Config.{Config as Receiving}
 use Rattle.receiver.specs.Window.{ReceiverState, PlaysAny}
 use Rattle.receiver.specs.Streams.{known_to, learnt_by}
 use Rattle.receiver.specs.Heard.{StartsIn, AnswersIn}
+use Rattle.stores.specs.Asking.{longest_ask}
 use Rattle.receiver.specs.Asks.{is_due, AsksBy}
 use Rattle.world.specs.declared.event.Label.{Label}
 use Rattle.world.specs.declared.event.Label.TheVariants.{Media, Repair, Feedback}
@@ -106,12 +107,12 @@ abbrev pub RefusesSend : (next : ℕ) → SendFault → Type 0
 RefusesSend next PaddedEmpty = Unit {0}
 RefusesSend next Exhausted = 2 ^ 48 ≤ next
 
--- an ask at a started receiver, by these pairs
+-- an ask at a started receiver, by these pairs: for the first `longest_ask` of the due places
 pub record AsksDueBy (c : Receiving) (old : ReceiverState) (now : ℕ) (pairs : List Pair) (new : Option ReceiverState) : Type 0 where
   pub due : List ℕ
   pub each : Lists due (λ k. is_due now c.delay c.retry c.asks (old.missing k))
   pub some : due ≢ []
-  pub asked : AsksBy old due now pairs new
+  pub asked : AsksBy old (take longest_ask due) now pairs new
 
 abbrev pub AsksAnyBy : Receiving → Option ReceiverState → (now : ℕ) → (pairs : List Pair) → Option ReceiverState → Type 0
 AsksAnyBy c None now pairs new = ⊥

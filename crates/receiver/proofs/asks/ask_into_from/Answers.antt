@@ -4,7 +4,7 @@ use Rattle.rtpwire.specs.Session.{Streams}
 use Rattle.fbwire.specs.Nack.{Nack, NackSpells}
 use Rattle.fbwire.specs.Packing.{IsPacking, IsNarrow}
 use Rattle.receiver.specs.Counted.{CountsAsks}
-use Rattle.receiver.specs.Asks.{AnyNeedsRoomMost}
+use Rattle.receiver.specs.Asks.{AnyNeedsRoom}
 use Rattle.receiver.specs.Window.{window_of}
 use Rattle.receiver.proofs.Asking.{asks_some, needs_room}
 use Rattle.receiver.proofs.asks.ask_into_from.Goals as goal
@@ -17,7 +17,7 @@ returns-then-out-needed-clause-asks g c = λ learnt.
     c.in-Some.ensures.lists
     (λ none. found.some (found.due ∙ none))
     (subst (λ (places : List ℕ). IsPacking places c.in-Some.pairs.items c.in-Some.count) found.due found.packing) in
-    (subst (λ n. AnyNeedsRoomMost c.args.config.now (window_of learnt s) c.args.now c.args.most (12 + 4 * n)) (sym c.len.ensures.value) room, c.if-out-needed.true, refl, refl)
+    (subst (λ n. AnyNeedsRoom c.args.config.now (window_of learnt s) c.args.now c.args.most (12 + 4 * n)) (sym c.len.ensures.value) room, c.if-out-needed.true, refl, refl)
 
 pub returns-clause-asks : goal.returns-clause-asks
 returns-clause-asks g c = λ learnt.

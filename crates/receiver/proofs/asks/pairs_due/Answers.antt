@@ -2,8 +2,9 @@ use Rattle.std.proofs.Common.{◌≡◌, ◌<◌, length, ℕ, refl, sym, subst,
 use Rattle.fbwire.specs.Packing.{IsPacking}
 use Rattle.stores.specs.declared.ask_rule.AskRule.{AskRule}
 use Rattle.stores.specs.Asking.{due_places, longest_ask}
+use Rattle.receiver.specs.Asks.{looked_at}
 use Rattle.receiver.proofs.Rising.{rising_take}
-use Rattle.receiver.proofs.Asking.{due_narrow, due_askable, none_due, some_due, positive, take_swap}
+use Rattle.receiver.proofs.Asking.{due_narrow, due_askable, none_due, some_due, positive, take_lesser}
 use Rattle.receiver.proofs.asks.pairs_due.Goals as goal
 
 pub pack-requires : goal.pack-requires
@@ -24,8 +25,8 @@ returns-then-is_empty-clause-found g c =
     let s = g.W.Window.meaning c.args.window.now in
     let config = c.args.config.now in
     let due = due_places s c.args.now config.delay config.retry config.asks in
-    let is = c.truncate.ensures.items ∙ ap (take c.args.most) (c.due_into.ensures ∙ ap (λ (r : AskRule). take longest_ask (due_places s c.args.now r.delay r.retry r.asks)) c.rule.ensures.value) ∙ take_swap c.args.most longest_ask due in
-    none_due c.truncate.new.self.items (take c.args.most due) is (sym c.is_empty.ensures ∙ c.if-is_empty.true)
+    let is = c.truncate.ensures.items ∙ ap (take c.args.most) (c.due_into.ensures ∙ ap (λ (r : AskRule). take longest_ask (due_places s c.args.now r.delay r.retry r.asks)) c.rule.ensures.value) ∙ take_lesser c.args.most longest_ask (looked_at c.args.most) due refl in
+    none_due c.truncate.new.self.items (take (looked_at c.args.most) due) is (sym c.is_empty.ensures ∙ c.if-is_empty.true)
 
 pub returns-clause-found : goal.returns-clause-found
 returns-clause-found g c =
@@ -41,7 +42,7 @@ returns-clause-found g c =
     let some = some_due first _ refl (sym c.is_empty.ensures ∙ c.if-is_empty.false) in
     let packed = c.pack.ensures.some (subst (λ (places : List ℕ). 0 < length places) (sym c.as_slice.ensures.value) (positive first some)) in
     record {
-      due = swapped ∙ take_swap c.args.most longest_ask all;
+      due = swapped ∙ take_lesser c.args.most longest_ask (looked_at c.args.most) all refl;
       some = some;
       covers = packed.1;
       writes = packed.0;

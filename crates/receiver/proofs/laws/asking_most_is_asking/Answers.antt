@@ -1,4 +1,4 @@
-use Rattle.receiver.proofs.FewAsks.{any_of_most, most_of_any}
+use Rattle.receiver.proofs.FewAsks.{many_is_any}
 use Rattle.receiver.proofs.SameAsks.{one_ask_most}
 use Rattle.receiver.proofs.laws.asking_most_is_asking.Goals as goal
 
@@ -6,5 +6,5 @@ pub returns : goal.returns
 returns c =
     record {
       one = λ config now most old r s v w a b. one_ask_most c.packing_is_determined.ensures.one config now v w old most r s a b;
-      all = λ config now most old answer new l. (any_of_most config old now most answer new l, most_of_any config old now most answer new l);
+      all = λ config now most old answer new l. many_is_any config old now most answer new l;
     }
