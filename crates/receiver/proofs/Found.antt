@@ -16,10 +16,10 @@ use Rattle.receiver.specs.declared.fault.ReceiveFault.{ReceiveFault}
 use Rattle.receiver.specs.declared.fault.ReceiveFault.TheVariants as refused
 use Rattle.receiver.specs.declared.stream.Stream.{Stream}
 use Rattle.receiver.specs.declared.stream.Stream.TheVariants.{Media, Repair, Candidate}
-use Rattle.receiver.specs.Window.{ReceiverState, StartsAt, TakesPlace, held_in, missed_in, window_of}
+use Rattle.receiver.specs.Window.{ReceiverState, StartsAt, held_in, missed_in, window_of}
 use Rattle.receiver.specs.Heard.{WasAsked, AnswersIn, TakesNumber}
 use Rattle.receiver.specs.Receiver.{IsUnlearnt}
-use Rattle.receiver.proofs.Takes.{put_takes}
+use Rattle.receiver.proofs.Takes.{TakesPlace, put_takes}
 use Rattle.receiver.proofs.Numbered.{is_err}
 use Rattle.receiver.specs.Finding.{MayHave, FindsNear, FindsFirst, FindsPlace}
 

@@ -1,5 +1,5 @@
 -- A put of the window is a take of the receiver.
-use Rattle.std.proofs.Common.{◌≡◌, ◌≢◌, ◌⊎◌, ℕ, ◌+◌, ◌-◌, ◌<◌, ◌≤◌, ◌==◌, ◌&&◌, Bool, true, false, cond, List, length, max, Option, Some, None, Ok, nat_lt, arith, refl, ap, sym, subst, slice_get, ◌∙◌, inl, inr, eq-eqb}
+use Rattle.std.proofs.Common.{◌≡◌, ◌≢◌, ◌⊎◌, ℕ, ◌+◌, ◌-◌, ◌<◌, ◌≤◌, ◌==◌, ◌&&◌, Bool, true, false, cond, List, length, max, Option, Some, None, Result, Ok, nat_lt, arith, refl, ap, sym, subst, slice_get, ◌∙◌, inl, inr, eq-eqb}
 use Rattle.std.specs.Prelude.{IsSomeAnd}
 use Rattle.std.specs.Option.{option_map}
 use Rattle.std.proofs.lemmas.Option.{slice_get_past, same_Some}
@@ -10,8 +10,15 @@ use Rattle.stores.specs.declared.slot.Slot.TheVariants.{Held, Missing}
 use Rattle.stores.specs.Span.{Span, IsSpan}
 use Rattle.stores.specs.Put.{overrun_of}
 use Rattle.stores.specs.ByPlace.{slot_at, PutStep, StartsWith, Gains, IsHeld}
+use Rattle.receiver.specs.declared.answer.Taken.{Taken}
+use Rattle.receiver.specs.declared.fault.ReceiveFault.{ReceiveFault}
 use Rattle.receiver.specs.Receiver.{IsUnlearnt}
-use Rattle.receiver.specs.Window.{Starts, Takes, TakesPlace, held_in, missed_in, window_at, window_of, cursor_after}
+use Rattle.receiver.specs.Window.{ReceiverState, Starts, Takes, StartsAt, AnswersPlace, held_in, missed_in, window_at, window_of, cursor_after}
+
+-- what is answered to a content at its place, by a receiver that took nothing or one that did
+abbrev pub TakesPlace : (room : ℕ) → Option ReceiverState → (place : ℕ) → Content → (now : ℕ) → Result Taken ReceiveFault → Option ReceiverState → Type 0
+TakesPlace room None place content now answer new = StartsAt place content answer new
+TakesPlace room (Some old) place content now answer new = AnswersPlace room old place content now answer new
 
 -- the tests in the words on slots, decided
 at_place : (p : ℕ) (x y : Option Slot) → cond (p == p) x y ≡ x

@@ -121,10 +121,6 @@ abbrev pub StartsAt : (place : ℕ) → Content → Result Taken ReceiveFault �
 StartsAt place content (Ok taken) new = (taken.place ≡ place) × (taken.overrun ≡ 0) × IsSomeAnd new (Starts place content)
 StartsAt place content (Err fault) new = ⊥
 
-abbrev pub TakesPlace : (room : ℕ) → Option ReceiverState → (place : ℕ) → Content → (now : ℕ) → Result Taken ReceiveFault → Option ReceiverState → Type 0
-TakesPlace room None place content now answer new = StartsAt place content answer new
-TakesPlace room (Some old) place content now answer new = AnswersPlace room old place content now answer new
-
 -- the place's patience had passed: so long ago it was noticed
 pub record HasPassed (patience noticed now : ℕ) : Type 0 where
   pub later : noticed ≤ now
