@@ -5,7 +5,7 @@ use Rattle.std.proofs.lemmas.Bool.{cases_eq, cases_lt}
 use Rattle.std.proofs.lemmas.Option.{none-some, same_Some}
 use Rattle.places.specs.Place.{number}
 use Rattle.rtpwire.specs.declared.content.Content.{Content}
-use Rattle.rtpwire.specs.Rtp.{RtpSpells}
+use Rattle.rtpwire.specs.Rtp.{RtpSpells, written}
 use Rattle.rtpwire.specs.Content.{IsTooLong}
 use Rattle.rtpwire.specs.Retransmission.{RepairSpells}
 use Rattle.fbwire.specs.declared.nack.Pair.{Pair}
@@ -111,6 +111,7 @@ sent_now c past place index padding content sent old new same step was =
           next = sends.place_is ∙ was.next;
           padding = padding;
           spelled = subst (λ (y : Content). RtpSpells (media_packet c.receiver.session y padding place) step.datagram.items) (sym same) sends.spells;
+          written_so = sends.written_so ∙ ap (λ (y : Content). written (media_packet c.receiver.session y padding place)) (sym same);
         },
         was.faithful,
       );

@@ -9,6 +9,8 @@ use Rattle.world.specs.Answers.{WorldState, Answers}
 use Rattle.world.specs.Close.{IsClose, IsHonest, IsUninjected}
 use Rattle.world.specs.Good.{IsGood, PlaysRightly}
 use Rattle.world.specs.PlaceRun.{places_of}
+use Rattle.world.proofs.Asking.{NamesListed}
+use Rattle.world.proofs.AskedRuns.{asks_rightly}
 use Rattle.world.proofs.Order.{AnyHearing, ordered}
 use Rattle.world.proofs.Right.{goes, shift_is_whole}
 use Rattle.world.proofs.Simulates.{Laws, simulates}
@@ -40,7 +42,7 @@ first_answers c events log end n answers =
     before c (reverse (drop n events)) (reverse (take n events)) (reverse (drop n log)) (reverse (take n log)) end same
     (subst (λ (x : List Event × List Entry). Answers c x.0 x.1 end) (λ i. (parted n events i, parted n log i)) answers)
 
-module _ (any : AnyHearing) (laws : Laws) where
+module _ (any : AnyHearing) (laws : Laws) (names : NamesListed) where
   pub good : (c : Config) → IsConfig c → (events : List Event) (past : List Entry) (end : WorldState) → Answers c events past end → IsClose past → IsHonest past → IsGood c past end
   good c met events past end answers close honest =
       let run = simulates laws c met events past end answers close honest in
@@ -53,6 +55,7 @@ module _ (any : AnyHearing) (laws : Laws) where
         final = order.final;
         right = plays.1.0;
         justified = plays.1.1;
+        asks = asks_rightly names c met past (places_of end) run;
         refusals = plays.1.2;
       }
 

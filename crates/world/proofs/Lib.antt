@@ -26,3 +26,7 @@ mod Played
 mod OneListing
 mod SameWindows
 mod SamePlaces
+mod Asking
+mod AskedRuns
+mod SameWires
+mod LeftOut

@@ -38,7 +38,7 @@ abbrev pub SpansAny : ℕ → Option ReceiverState → Type 0
 SpansAny room None = Unit {0}
 SpansAny room (Some w) = Spans room w
 
-spans_starts : (room place : ℕ) (c : Content) (new : ReceiverState) → 1 ≤ room → Starts place c new → Spans room new
+pub spans_starts : (room place : ℕ) (c : Content) (new : ReceiverState) → 1 ≤ room → Starts place c new → Spans room new
 spans_starts room place c new some t =
     record {
       short = omega (arith, t.cursor, t.highest, some);
@@ -54,7 +54,7 @@ spans_takes room place now c old new some t spans =
       missing = λ k m is. grind (arith, cases_lt k new.cursor, cases_eq k place, cases_lt k place, cases_lt old.highest k, t.highest, t.cursor, t.missing, t.held_else k, t.missing_dropped k, t.missing_between k, t.missing_below k, t.missing_above k, spans.missing k m, spans.above k);
     }
 
-spans_passes : (room : ℕ) (old new : ReceiverState) → Passes old new → Spans room old → Spans room new
+pub spans_passes : (room : ℕ) (old new : ReceiverState) → Passes old new → Spans room old → Spans room new
 spans_passes room old new t spans =
     record {
       short = let h = spans.short in omega (arith, t.cursor, t.highest, h);

@@ -12,6 +12,7 @@ use Rattle.world.specs.Reach.{shift_of}
 use Rattle.world.specs.Close.{IsClose, IsHonest}
 use Rattle.world.specs.Right.{IsRight}
 use Rattle.world.specs.Justified.{IsJustified}
+use Rattle.world.specs.JustifiedAsks.{IsAskedRightly}
 use Rattle.world.specs.Lawful.{IsRefusedLawfully}
 use Rattle.world.specs.PlaceRun.{PlaceRun, places_of}
 use Rattle.world.specs.World.{IsLogged}
@@ -24,6 +25,7 @@ pub record IsGood (c : Config) (past : List Entry) (end : WorldState) : Type 0 w
   pub final : IsFinal past
   pub right : IsRight c past
   pub justified : IsJustified c past
+  pub asks : IsAskedRightly c (places_of end).labels past
   pub refusals : IsRefusedLawfully c past
 
 -- Each beginning of the log, the oldest entry first, is good if it is close and honest: so no entry makes an

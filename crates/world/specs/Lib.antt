@@ -7,6 +7,7 @@ pub mod Reach
 pub mod Close
 pub mod Right
 pub mod Justified
+pub mod JustifiedAsks
 pub mod Lawful
 pub mod PlaceRun
 pub mod Good

@@ -88,6 +88,31 @@ IsGone (Delivered index label now (Taken taken) ∷ before) place = PassedBy (cu
 IsGone (Injected end now (Taken taken) ∷ before) place = PassedBy (cursor_of before) taken.overrun place ⊎ IsGone before place
 IsGone (entry ∷ before) place = IsGone before place
 
+-- the first place that was taken
+abbrev pub unless_some : (other : ℕ) → Option ℕ → Option ℕ
+unless_some other None = Some other
+unless_some other (Some place) = Some place
+
+abbrev pub first_place : List Entry → Option ℕ
+first_place [] = None
+first_place (Delivered index label now (Taken taken) ∷ before) = unless_some taken.place (first_place before)
+first_place (Injected end now (Taken taken) ∷ before) = unless_some taken.place (first_place before)
+first_place (entry ∷ before) = first_place before
+
+abbrev pub IsFrom : (first : Option ℕ) → (place : ℕ) → Type 0
+IsFrom None place = ⊥
+IsFrom (Some first) place = first ≤ place
+
+abbrev pub IsBehind : (cursor : Option ℕ) → (place : ℕ) → Type 0
+IsBehind None place = ⊥
+IsBehind (Some cursor) place = place < cursor
+
+-- the cursor passed the place, and it was not played
+pub record IsLeftOut (past : List Entry) (place : ℕ) : Type 0 where
+  pub from_first : IsFrom (first_place past) place
+  pub behind : IsBehind (cursor_of past) place
+  pub unplayed : IsPlayed past place → ⊥
+
 -- A place that was given up or overrun is never played later.
 abbrev pub IsFinal : List Entry → Type 0
 IsFinal [] = Unit {0}

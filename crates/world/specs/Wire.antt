@@ -1,10 +1,10 @@
 -- What lies on the wire, by the log.
-use Rattle.std.specs.Prelude.{◌≡◌, ℕ, ◌+◌, ◌≤◌, ◌%◌, List, [], ◌∷◌, ◌++◌, length, take}
+use Rattle.std.specs.Prelude.{◌≡◌, ℕ, ◌+◌, ◌≤◌, ◌%◌, ◌==◌, Bool, false, List, [], ◌∷◌, ◌++◌, length, take}
 use Rattle.std.specs.List.Sorted.{IsStrictlyIncreasing}
 use Rattle.arrayvec.specs.ArrayVec.{ArrayVec}
 use Rattle.places.specs.Place.{number}
 use Rattle.rtpwire.specs.declared.content.Content.{Content}
-use Rattle.rtpwire.specs.Rtp.{RtpSpells}
+use Rattle.rtpwire.specs.Rtp.{RtpSpells, written}
 use Rattle.rtpwire.specs.Retransmission.{RepairSpells}
 use Rattle.fbwire.specs.declared.nack.Pair.{Pair}
 use Rattle.fbwire.specs.Nack.{NackSpells}
@@ -24,6 +24,7 @@ pub record IsSentAs (c : Config) (before : List Entry) (place : ℕ) (content : 
   pub next : place ≡ 65536 + c.first + length (contents before)
   pub padding : ℕ
   pub spelled : RtpSpells (media_packet c.receiver.session content padding place) octets
+  pub written_so : octets ≡ written (media_packet c.receiver.session content padding place)  -- its padding is zeros and the count
 
 -- The octets are those of a place that is retransmitted after this log: it is among the last that were sent, so many
 -- as the history keeps, and they spell the content that was sent there (RFC 4588, section 4). Retransmissions are
@@ -71,6 +72,16 @@ IsFaithful c (Asked index now ∷ before) wire =
     × IsAskedAs c pairs.items datagram.items
     × IsFaithful c before rest
 IsFaithful c (entry ∷ before) wire = IsFaithful c before wire
+
+-- how many octets a datagram has
+abbrev pub size_of : Item → ℕ
+size_of item = length item.1.items
+
+-- whether a label is that of a retransmission of this place
+abbrev pub is_repair_of : (place : ℕ) → Label → Bool
+is_repair_of place (Media sent) = false
+is_repair_of place (Repair repaired) = repaired == place
+is_repair_of place (Feedback pairs) = false
 
 -- a content was sent at the place, and these octets spell its retransmission under some number
 pub record SpellsRepair (c : Config) (past : List Entry) (place : ℕ) (octets : List ℕ) : Type 0 where

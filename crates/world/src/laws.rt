@@ -1,13 +1,13 @@
 //! Laws on logs. These functions compute nothing: their contracts are the laws.
-ghost use Rattle.std.specs.Prelude.{◌≡◌, ◌≤◌, ◌++◌, ℕ, List, Some, reverse, slice_get};
+ghost use Rattle.std.specs.Prelude.{◌≡◌, ◌↔◌, ◌≤◌, ◌++◌, ℕ, List, Some, reverse, slice_get, map, count_by};
 ghost use Rattle.world.specs.declared.event.Event.{Event};
 ghost use Rattle.world.specs.declared.event.Entry.{Entry};
 ghost use Rattle.world.specs.Config.{Config, IsConfig};
 ghost use Rattle.world.specs.Answers.{Item, WorldState, Answers};
-ghost use Rattle.world.specs.Reading.{repairs_of, IsRising, IsFinal, IsStrictlyRising};
-ghost use Rattle.world.specs.Wire.{IsFaithful, SpellsLabel};
+ghost use Rattle.world.specs.Reading.{repairs_of, IsRising, IsFinal, IsStrictlyRising, IsGone, IsLeftOut};
+ghost use Rattle.world.specs.Wire.{IsFaithful, SpellsLabel, size_of, is_repair_of};
 ghost use Rattle.world.specs.Close.{IsClose, IsHonest, IsUninjected};
-ghost use Rattle.world.specs.PlaceRun.{PlaceWorld, PlaceRun};
+ghost use Rattle.world.specs.PlaceRun.{PlaceWorld, PlaceRun, label_of};
 ghost use Rattle.world.specs.Reach.{highest_taken, shift_of};
 ghost use Rattle.world.specs.Good.{IsGood, KeepsPromises, PlaysRightly, MayPlay};
 ghost use Rattle.receiver.specs.declared.answer.Played.{Played as Play_answer};
@@ -16,6 +16,7 @@ ghost use Rattle.world.specs.Round.{Adds, IsRound, IsMarkedUpTo, IsMendable, IsM
 
 use crate::world::World;
 use fbwire::{compound_is_determined, nack_is_determined, packing_is_determined};
+use rtpwire::repair_is_determined;
 use receiver::{asking_is_determined, hearing_is_determined, playing_is_determined};
 use sender::{feedback_is_determined, repairing_is_determined, sending_is_determined};
 use stores::{History, Window};
@@ -26,6 +27,8 @@ pub fn logs_are_in_order()
     ensures rising { (c : Config) (events : List Event) (past : List Entry) (end : WorldState) → Answers c events past end → IsRising c past }
     ensures finals { (c : Config) (events : List Event) (past : List Entry) (end : WorldState) → Answers c events past end → IsFinal past }
     ensures strictly { (c : Config) (events : List Event) (past : List Entry) (end : WorldState) → Answers c events past end → IsStrictlyRising past }
+    // Those that were given up or overrun are exactly the places that the cursor passed and that were not played.
+    ensures gone { (c : Config) (events : List Event) (past : List Entry) (end : WorldState) → Answers c events past end → (place : ℕ) → IsGone past place ↔ IsLeftOut past place }
 {
     hearing_is_determined();
 }
@@ -42,6 +45,19 @@ pub fn wires_are_faithful()
     compound_is_determined();
     nack_is_determined();
     feedback_is_determined();
+}
+
+/// A log, the labels of its wire and the lengths of the datagrams determine each octet of the wire: of two wires that are faithful to one
+/// log there is no other difference. (No entry tells how long a packet's padding is.) And a log tells how often a place was
+/// retransmitted exactly as the labels do.
+pub fn wires_are_determined()
+    ensures one { (c : Config) (past : List Entry) (one other : List Item) → IsFaithful c past one → IsFaithful c past other
+        → map label_of one ≡ map label_of other → map size_of one ≡ map size_of other → one ≡ other }
+    ensures repairs { (c : Config) (past : List Entry) (wire : List Item) (place : ℕ) → IsFaithful c past wire
+        → repairs_of place past ≡ count_by (is_repair_of place) (map label_of wire) }
+{
+    repair_is_determined();
+    nack_is_determined();
 }
 
 /// Whatever events a log answers, and whatever octets a peer injected: no place is retransmitted more often than the

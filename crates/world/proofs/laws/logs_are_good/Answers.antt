@@ -14,4 +14,5 @@ returns c =
       decided = c.compound_is_determined.ensures.decided;
       one_nack = c.nack_is_determined.ensures.one_nack;
     } in
-    record { good = good any laws; beginnings = plays_rightly any laws }
+    let names = c.nack_is_determined.ensures.names in
+    record { good = good any laws names; beginnings = plays_rightly any laws names }

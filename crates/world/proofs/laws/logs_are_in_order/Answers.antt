@@ -1,4 +1,5 @@
 use Rattle.world.proofs.Order.{ordered}
+use Rattle.world.proofs.LeftOut.{gone_exactly}
 use Rattle.world.proofs.Strictly.{strictly}
 use Rattle.world.proofs.laws.logs_are_in_order.Goals as goal
 
@@ -9,4 +10,5 @@ returns c =
       rising = λ config events past end answers. (order config events past end answers).rising;
       finals = λ config events past end answers. (order config events past end answers).final;
       strictly = λ config events past end answers. strictly config past (order config events past end answers).rising;
+      gone = λ config events past end answers. gone_exactly config past (order config events past end answers).rising;
     }
