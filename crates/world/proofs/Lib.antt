@@ -20,6 +20,7 @@ mod Ready
 mod Steps
 mod Mends
 mod Rounds
+mod OnlyMends
 mod RoundSteps
 pub mod ScheduleSteps
 mod Played

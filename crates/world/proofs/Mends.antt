@@ -43,7 +43,7 @@ asking_honest now [] past kind honest = honest
 asking_honest now (Delivered index label moment answer ∷ Asked at asked ∷ added) past kind honest = asking_honest now added past kind.3 honest
 asking_honest now (entry ∷ added) past kind honest = absurd kind
 
-repairing_honest : (now : ℕ) (added past : List Entry) → IsRepairing now added → IsHonest past → IsHonest (added ++ past)
+pub repairing_honest : (now : ℕ) (added past : List Entry) → IsRepairing now added → IsHonest past → IsHonest (added ++ past)
 repairing_honest now [] past kind honest = absurd kind
 repairing_honest now (NoAsk asked ∷ added) past kind honest = asking_honest now added past kind.1 honest
 repairing_honest now (Delivered index label moment answer ∷ Repaired place at ∷ added) past kind honest = repairing_honest now added past kind.2 honest

@@ -1,7 +1,8 @@
 -- One round that settles a world: the receiver asks until nothing is due, and each ask reaches the sender at once; then
 -- the sender retransmits until nothing is marked, and each retransmission reaches the receiver at once. Entries are newest
 -- first here.
-use Rattle.std.specs.Prelude.{◌≡◌, ℕ, ◌+◌, ◌<◌, ◌≤◌, true, IsSome, List, [], ◌∷◌, ◌++◌, reverse, Option, Some, None}
+use Rattle.std.specs.Prelude.{◌≡◌, ℕ, ◌+◌, ◌<◌, ◌≤◌, true, List, [], ◌∷◌, ◌++◌, reverse, Option, Some, None}
+use Rattle.rtpwire.specs.declared.content.Content.{Content}
 use Rattle.stores.specs.declared.entry.HistoryEntry.{HistoryEntry}
 use Rattle.sender.specs.History.{SenderState}
 use Rattle.receiver.specs.Window.{ReceiverState}
@@ -11,6 +12,8 @@ use Rattle.world.specs.declared.event.Entry.{Entry}
 use Rattle.world.specs.declared.event.Entry.TheVariants.{Repaired, NoRepair, Asked, NoAsk, Delivered}
 use Rattle.world.specs.Config.{Config}
 use Rattle.world.specs.Answers.{WorldState, Step}
+use Rattle.world.specs.Reach.{shift_of}
+use Rattle.world.specs.Reading.{WasSent}
 
 -- The entries answer these events, and lead from one stand to another.
 abbrev pub Adds : Config → WorldState → List Event → List Entry → WorldState → Type 0
@@ -58,22 +61,27 @@ IsUpTo (Some highest) place = place ≤ highest
 abbrev pub IsMarkedUpTo : (highest : Option ℕ) → SenderState → Type 0
 IsMarkedUpTo highest sender = (place : ℕ) (entry : HistoryEntry) → sender.entries place ≡ Some entry → entry.marked ≡ true → IsUpTo highest place
 
--- The sender's place is missing at the receiver, where it is the shift below, and due; the history has it, and it may be
--- retransmitted once more.
-pub record IsMendable (c : Config) (shift : ℕ) (s : WorldState) (place now : ℕ) : Type 0 where
+-- The sender's place is missing at the receiver, where it is the shift below, and due.
+pub record IsAwaited (c : Config) (shift : ℕ) (s : WorldState) (place now : ℕ) : Type 0 where
   pub window : ReceiverState
   pub started : s.receiver ≡ Some window
   pub own : ℕ
   pub at : own + shift ≡ place
   pub due : is_due now c.receiver.delay c.receiver.retry c.receiver.asks (window.missing own) ≡ true
+
+-- It is awaited, the history has it, and it may be retransmitted once more.
+pub record IsMendable (c : Config) (shift : ℕ) (s : WorldState) (place now : ℕ) : Type 0 where
+  pub awaited : IsAwaited c shift s place now
   pub entry : HistoryEntry
   pub kept : s.sender.entries place ≡ Some entry
   pub allowed : entry.repeats < c.repeats
 
--- the receiver holds the sender's place
-pub record IsMended (shift : ℕ) (s : WorldState) (place : ℕ) : Type 0 where
+-- The receiver holds the sender's place after this log, with the content that was sent there.
+pub record IsMended (c : Config) (past : List Entry) (s : WorldState) (place : ℕ) : Type 0 where
   pub window : ReceiverState
   pub started : s.receiver ≡ Some window
   pub own : ℕ
-  pub at : own + shift ≡ place
-  pub held : IsSome (window.held own)
+  pub at : own + shift_of past ≡ place
+  pub content : Content
+  pub held : window.held own ≡ Some content
+  pub sent : WasSent c past place content

@@ -12,7 +12,7 @@ ghost use Rattle.world.specs.Reach.{highest_taken, shift_of};
 ghost use Rattle.world.specs.Good.{IsGood, KeepsPromises, PlaysRightly, MayPlay};
 ghost use Rattle.receiver.specs.declared.answer.Played.{Played as Play_answer};
 ghost use Rattle.world.specs.World.{IsLogged, stand_of};
-ghost use Rattle.world.specs.Round.{Adds, IsRound, IsMarkedUpTo, IsMendable, IsMended};
+ghost use Rattle.world.specs.Round.{Adds, IsRound, IsMarkedUpTo, IsAwaited, IsMendable, IsMended};
 
 use crate::world::World;
 use fbwire::{compound_is_determined, nack_is_determined, packing_is_determined};
@@ -95,12 +95,16 @@ pub(crate) fn logs_keep_promises()
 }
 
 /// One undisturbed round mends: where a log is close and honest, and no place is marked above the greatest one taken,
-/// each place of the sender's is held afterwards that was missing and due, that the history has, and that may be
-/// retransmitted once more. The log stays close. A receiver that learns its SSRC is no exception.
+/// each place of the sender's is held afterwards, with what was sent there, that was missing and due, that the history has, and that
+/// may be retransmitted once more. The log stays close. A receiver that learns its SSRC is no exception.
 pub fn rounds_mend()
-    ensures { (c : Config) → IsConfig c → (before : List Event) (past : List Entry) (old : WorldState) → Answers c before past old → IsClose past → IsHonest past
+    ensures mended { (c : Config) → IsConfig c → (before : List Event) (past : List Entry) (old : WorldState) → Answers c before past old → IsClose past → IsHonest past
         → IsMarkedUpTo (highest_taken past) old.sender → (now : ℕ) (events : List Event) (added : List Entry) (new : WorldState) → IsRound now added → Adds c old events added new
-        → (place : ℕ) → IsMendable c (shift_of past) old place now → IsMended (shift_of (added ++ past)) new place × IsClose (added ++ past) }
+        → (place : ℕ) → IsMendable c (shift_of past) old place now → IsMended c (added ++ past) new place × IsClose (added ++ past) }
+    // No other place that was missing and due is mended by a round that leaves the log close.
+    ensures only { (c : Config) → IsConfig c → (before : List Event) (past : List Entry) (old : WorldState) → Answers c before past old → IsClose past → IsHonest past
+        → (now : ℕ) (events : List Event) (added : List Entry) (new : WorldState) → IsRound now added → Adds c old events added new → IsClose (added ++ past)
+        → (place : ℕ) → IsAwaited c (shift_of past) old place now → IsMended c (added ++ past) new place → IsMendable c (shift_of past) old place now }
 {
     compound_is_determined();
     nack_is_determined();

@@ -38,7 +38,7 @@ impl<H: History, W: Window> World<H, W> {
         ensures mended { OnOk result ((place : ℕ) → IsClose (reverse self.old.log) → IsHonest (reverse self.old.log)
             → IsMarkedUpTo (highest_taken (reverse self.old.log)) (stand_of self.old).sender
             → IsMendable self.old.config (shift_of (reverse self.old.log)) (stand_of self.old) place now
-            → IsMended (shift_of (reverse self.new.log)) (stand_of self.new) place × IsClose (reverse self.new.log)) }
+            → IsMended self.old.config (reverse self.new.log) (stand_of self.new) place × IsClose (reverse self.new.log)) }
 
         // As after each event: the log answers events, and keeps to what such logs promise.
         ensures logged { IsLogged self.new.config self.new.log (stand_of self.new) }
@@ -60,7 +60,7 @@ impl<H: History, W: Window> World<H, W> {
         ensures mended { OnOk result ((place : ℕ) → IsClose (reverse self.old.log) → IsHonest (reverse self.old.log)
             → IsMarkedUpTo (highest_taken (reverse self.old.log)) (stand_of self.old).sender
             → IsMendable self.old.config (shift_of (reverse self.old.log)) (stand_of self.old) place now
-            → IsMended (shift_of (reverse self.new.log)) (stand_of self.new) place × IsClose (reverse self.new.log)) }
+            → IsMended self.old.config (reverse self.new.log) (stand_of self.new) place × IsClose (reverse self.new.log)) }
     {
         compound_is_determined();
         nack_is_determined();

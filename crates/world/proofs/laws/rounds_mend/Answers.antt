@@ -1,4 +1,5 @@
 use Rattle.world.proofs.Simulates.{Laws}
+use Rattle.world.proofs.OnlyMends.{only_mends}
 use Rattle.world.proofs.Rounds.{mends}
 use Rattle.world.proofs.laws.rounds_mend.Goals as goal
 
@@ -13,5 +14,9 @@ returns c =
       decided = c.compound_is_determined.ensures.decided;
       one_nack = c.nack_is_determined.ensures.one_nack;
     } in
-    λ config met before past old answers close honest marks now events added new round adds place m.
-    mends c.hearing_is_determined.ensures.any laws config met before past old answers close honest marks place now m events added new round adds
+    record {
+      mended = λ config met before past old answers close honest marks now events added new round adds place m.
+          mends c.hearing_is_determined.ensures.any laws config met before past old answers close honest marks place now m events added new round adds;
+      only = λ config met before past old answers close honest now events added new round adds after place awaited m.
+          only_mends c.hearing_is_determined.ensures.any laws config met before past old answers close honest now events added new round adds after place awaited m;
+    }
