@@ -18,6 +18,7 @@ fn marks_below_the_greatest_place(rt: HostRuntime) -> Result<(), Fail> {
          A 0 => ask 7 81cd0003333333331111111100020003\n\
          D 7 0 => marked 3\n\
          D 6 5 => taken 65543 0\n\
+         settled\n\
          settle 5\n\
          => ask 8 81cd0003333333331111111100060000\n\
          => marked 1\n\
@@ -185,7 +186,9 @@ fn a_mark_above_the_greatest_place(rt: HostRuntime) -> Result<(), Fail> {
          D 64002 0 => taken 129539 16000\n\
          D 65533 0 => taken 131070 1531\n\
          D 65535 5 => taken 131072 2\n\
+         settled\n\
          D 65542 5 => marked 1\n\
+         unsettled\n\
          settle 5\n\
          => ask 65543 81cd00033333333311111111ffff0000\n\
          => marked 1\n\
@@ -199,6 +202,27 @@ fn a_mark_above_the_greatest_place(rt: HostRuntime) -> Result<(), Fail> {
          D 65534 5 => refused 35\n\
          P 5 => play 131072 0 0 aa - -\n\
          P 5 => wait",
+    )
+}
+
+/// A mark at the greatest place taken, which feedback from elsewhere made, is no bar to a round, and one at the place above it is.
+/// Before anything was taken nothing is.
+#[test]
+fn a_mark_at_the_greatest_place(rt: HostRuntime) -> Result<(), Fail> {
+    goes(
+        rt.alloc(),
+        "config 1 5 8 8 100 20 3 2\n\
+         times 4 S 0 0 0 aa - -\n\
+         I s 81cd0003333333331111111100040000 0 => marked 1\n\
+         settled\n\
+         R => repair 65540 4 8061000500000000222222220004aa\n\
+         D 1 0 => taken 65538 0\n\
+         I s 81cd0003333333331111111100010001 0 => marked 2\n\
+         settled\n\
+         I s 81cd0003333333331111111100030000 0 => marked 1\n\
+         unsettled\n\
+         D 2 0 => taken 65539 0\n\
+         settled",
     )
 }
 

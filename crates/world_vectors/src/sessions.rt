@@ -4,7 +4,8 @@
 //! - `times 7 EVENT` is the event seven times, whatever the log tells of it;
 //! - `settle 5` is the round at the moment 5, and a line `=> LINE` behind it is each of its entries in turn;
 //! - `missing 1` says how many places are missing;
-//! - `close` says that `World::close` answers true, `open` that it answers false.
+//! - `close` says that `World::close` answers true, `open` that it answers false; `settled` and `unsettled` say so of
+//!   `World::is_settled`.
 //!
 //! Whatever meets a want of memory is done once more.
 
@@ -103,6 +104,8 @@ fn obeys<H: History, W: Window>(world: &mut World<H, W>, told: &mut usize, comma
         misses(world, count)
     } else if command == "close" || command == "open" {
         world.close() == (command == "close")
+    } else if command == "settled" || command == "unsettled" {
+        world.is_settled() == (command == "settled")
     } else {
         does_again(world, command)
     }
