@@ -1,8 +1,8 @@
 -- What a run of the place world asks for has its cause.
-use Rattle.std.proofs.Common.{◌≡◌, ◌≢◌, ◌⊎◌, ℕ, zero, suc, ◌+◌, ◌<◌, ◌≤◌, Bool, true, false, ◌==◌, ◌||◌, ◌&&◌, List, [], ◌∷◌, ◌++◌, length, take, Option, Some, None, if◌then◌else◌, IsSomeAnd, Result, Ok, Err, refl, sym, ap, subst, ◌∙◌, ⊎_elim, inl, inr, arith, append_assoc, eq-eqb}
-use Rattle.std.specs.Prelude.{◌↔◌, Contains, is_some, slice_get, nat_lt}
+use Rattle.std.proofs.Common.{◌≡◌, ◌≢◌, ◌⊎◌, ℕ, zero, suc, ◌+◌, ◌<◌, ◌≤◌, Bool, true, false, ◌==◌, ◌||◌, ◌&&◌, List, [], ◌∷◌, length, take, Option, Some, None, if◌then◌else◌, refl, sym, ap, subst, ◌∙◌, ⊎_elim, inl, inr, arith, eq-eqb}
+use Rattle.std.specs.Prelude.{◌↔◌, Contains, is_some, slice_get}
 use Rattle.std.specs.Option.{option_map}
-use Rattle.std.proofs.lemmas.Bool.{cases_eq, cases_lt, cases_Bool, or_cases, eqb-true}
+use Rattle.std.proofs.lemmas.Bool.{cases_eq, cases_lt, or_cases, eqb-true}
 use Rattle.std.proofs.lemmas.Bool.Decides.{nat_tests}
 use Rattle.std.proofs.lemmas.Option.{none-some, same_Some}
 use Rattle.places.specs.Among.{is_among}
@@ -11,16 +11,13 @@ use Rattle.rtpwire.specs.declared.content.Content.{Content}
 use Rattle.fbwire.specs.declared.nack.Pair.{Pair}
 use Rattle.fbwire.specs.Nack.{Names, numbers_of}
 use Rattle.receiver.specs.Window.{Missed, ReceiverState, new_missed, Starts, Takes, Passes}
-use Rattle.receiver.specs.Asks.{is_due, asked_once, Asks, AsksBy}
+use Rattle.receiver.specs.Asks.{is_due, asked_once, Asks}
 use Rattle.stores.specs.Asking.{longest_ask}
 use Rattle.world.specs.declared.event.Label.{Label}
-use Rattle.world.specs.declared.event.Label.TheVariants.{Feedback}
 use Rattle.world.specs.declared.event.Answer.TheVariants.{Taken, Refused, Marked, FeedbackRefused}
 use Rattle.world.specs.declared.event.Entry.{Entry}
 use Rattle.world.specs.declared.event.Entry.TheVariants.{Sent, SendRefused, Repaired, NoRepair, Asked, NoAsk, Nothing, Delivered, Injected, Played}
 use Rattle.world.specs.Config.{Config, IsConfig}
-use Rattle.world.specs.Reading.{cursor_of}
-use Rattle.world.specs.Reach.{shift_of}
 use Rattle.world.specs.Justified.{noticed_of, earlier_or}
 use Rattle.world.specs.JustifiedAsks.{pairs_under, is_named, asked_at, IsAhead, IsTimeToAsk, IsToAskFor, IsAskFor}
 use Rattle.world.specs.PlaceRun.{AsksDueBy}
@@ -47,7 +44,7 @@ among_contains (x ∷ xs) n e =
     (or_cases (x == n) (is_among xs n) e)
 
 -- tests that hold together are one
-same_tests : (a b : Bool) → (a ≡ true → b ≡ true) → (b ≡ true → a ≡ true) → a ≡ b
+pub same_tests : (a b : Bool) → (a ≡ true → b ≡ true) → (b ≡ true → a ≡ true) → a ≡ b
 same_tests true b f g = sym (f refl)
 same_tests false true f g = g refl
 same_tests false false f g = refl
@@ -192,7 +189,7 @@ module _ (c : Config) (labels : List Label) (past : List Entry) (w : ReceiverSta
       let missed = is_missed_at (w.missing k) wanted.noticed.0 (kept.noticed k from free ∙ wanted.noticed.1) in
       ap is_due_now missed.1
       ∙ says_due c.receiver.delay c.receiver.retry c.receiver.asks now missed.0 (asked_at labels past k) (counts.each k missed.0 missed.1) wanted.fewer
-          (subst (λ t. IsTimeToAsk c.receiver.delay c.receiver.retry t (asked_at labels past k) now) (sym missed.2) wanted.noticed.2)
+      (subst (λ t. IsTimeToAsk c.receiver.delay c.receiver.retry t (asked_at labels past k) now) (sym missed.2) wanted.noticed.2)
 
 -- An ask by the pairs under its label.
 module _ (names : NamesListed) (c : Config) (met : IsConfig c) (labels : List Label) (past : List Entry) (w : ReceiverState) (kept : KeptBy c past w) (counts : Counts c.window (λ k. asked_at labels past k) w) (now : ℕ) where

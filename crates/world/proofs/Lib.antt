@@ -31,3 +31,6 @@ mod Asking
 mod AskedRuns
 mod SameWires
 mod LeftOut
+mod OneAsk
+mod Refusals
+mod Recent

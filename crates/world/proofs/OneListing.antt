@@ -21,7 +21,7 @@ rising_take n xs rising k within =
     let less = rising k inside in
     omega arith
 
-first_among : (x : ℕ) (xs : List ℕ) → is_among (x ∷ xs) x ≡ true
+pub first_among : (x : ℕ) (xs : List ℕ) → is_among (x ∷ xs) x ≡ true
 first_among x xs = list_any_at (λ p. p == x) (x ∷ xs) 0 0 (omega arith) (eq-eqb _ _ refl)
 
 -- a rising list has no number below its first

@@ -1,11 +1,9 @@
 -- A round mends no place but those that were kept and below the limit.
-use Rattle.std.proofs.Common.{◌≡◌, ◌⊎◌, ℕ, ◌+◌, ◌<◌, ◌≤◌, List, [], ◌∷◌, ◌++◌, Option, Some, None, refl, sym, ap, subst, ◌∙◌, ⊎_elim, inl, inr, arith}
+use Rattle.std.proofs.Common.{◌≡◌, ℕ, ◌<◌, ◌≤◌, List, [], ◌∷◌, ◌++◌, Option, Some, sym, ap, subst, ◌∙◌, ⊎_elim, arith}
 use Rattle.std.proofs.lemmas.Bool.{cases_eq}
 use Rattle.std.proofs.lemmas.Bool.Decides.{nat_tests}
 use Rattle.std.proofs.lemmas.Option.{none-some, same_Some}
-use Rattle.arrayvec.specs.ArrayVec.{ArrayVec}
 use Rattle.stores.specs.declared.entry.HistoryEntry.{HistoryEntry}
-use Rattle.stores.specs.Past.{repeated}
 use Rattle.sender.specs.History.{SenderState, Repairs}
 use Rattle.receiver.specs.Window.{ReceiverState}
 use Rattle.world.specs.declared.event.Event.{Event}
@@ -13,7 +11,7 @@ use Rattle.world.specs.declared.event.Label.{Label}
 use Rattle.world.specs.declared.event.Label.TheVariants.{Media, Repair, Feedback}
 use Rattle.world.specs.declared.event.Answer.{Answer}
 use Rattle.world.specs.declared.event.Entry.{Entry}
-use Rattle.world.specs.declared.event.Entry.TheVariants.{Sent, SendRefused, Repaired, NoRepair, Asked, NoAsk, Nothing, Delivered, Injected, Played}
+use Rattle.world.specs.declared.event.Entry.TheVariants.{Repaired, NoRepair, Asked, NoAsk, Delivered}
 use Rattle.world.specs.Config.{Config, IsConfig, sending}
 use Rattle.world.specs.Labels.{place_of}
 use Rattle.world.specs.Answers.{Item, WorldState, DeliversAt, Answers}
@@ -28,10 +26,10 @@ use Rattle.world.proofs.Marked.{was_found}
 use Rattle.world.proofs.Repeats.{counted}
 use Rattle.world.proofs.Right.{goes}
 use Rattle.world.proofs.Simulates.{Laws, simulates}
-use Rattle.world.proofs.Spans.{Spans, SpansAny, spans_all}
+use Rattle.world.proofs.Spans.{SpansAny, spans_all}
 use Rattle.world.proofs.Ready.{due_missing}
 use Rattle.world.proofs.Rounds.{kept_after}
-use Rattle.world.proofs.Steps.{adds_answer, newest, none_added, asked_step, no_ask_step, repaired_step, no_repair_step, delivered_step, delivered_last}
+use Rattle.world.proofs.Steps.{adds_answer, newest, none_added, asked_step, no_ask_step, repaired_step, delivered_step, delivered_last}
 
 -- the history has an entry of the place
 abbrev Has : ℕ → WorldState → Type 0

@@ -1,5 +1,5 @@
 -- A log, the labels of its wire and the lengths of the datagrams determine each octet of a faithful wire.
-use Rattle.std.proofs.Common.{◌≡◌, ℕ, zero, suc, ◌+◌, ◌-◌, ◌%◌, ◌==◌, Bool, true, false, List, [], ◌∷◌, ◌++◌, length, map, replicate, Some, refl, sym, ap, subst, ◌∙◌, arith, length-append}
+use Rattle.std.proofs.Common.{◌≡◌, ℕ, ◌+◌, ◌-◌, ◌%◌, ◌==◌, Bool, true, false, List, [], ◌∷◌, ◌++◌, length, map, replicate, Some, refl, sym, ap, subst, ◌∙◌, arith, length-append}
 use Rattle.std.specs.Prelude.{count_by, if◌then◌else◌}
 use Rattle.std.proofs.lemmas.List.{map-append, length-replicate}
 use Rattle.std.proofs.lemmas.Bool.{eqb-true, eqb-false}
@@ -7,7 +7,7 @@ use Rattle.std.proofs.lemmas.List.Sums.{sum_by-append}
 use Rattle.arrayvec.specs.ArrayVec.{ArrayVec}
 use Rattle.places.specs.Place.{number}
 use Rattle.rtpwire.specs.declared.content.Content.{Content}
-use Rattle.rtpwire.specs.Rtp.{RtpPacket, unpadded, written, written_padding}
+use Rattle.rtpwire.specs.Rtp.{unpadded, written, written_padding}
 use Rattle.rtpwire.specs.Retransmission.{repair_packet, repair_of, RepairSpells}
 use Rattle.fbwire.specs.declared.nack.Pair.{Pair}
 use Rattle.fbwire.specs.Nack.{Nack, NackSpells}
@@ -18,10 +18,10 @@ use Rattle.world.specs.declared.event.Entry.{Entry}
 use Rattle.world.specs.declared.event.Entry.TheVariants.{Sent, SendRefused, Repaired, NoRepair, Asked, NoAsk, Nothing, Delivered, Injected, Played}
 use Rattle.world.specs.Config.{Config}
 use Rattle.world.specs.Answers.{Item, nack_of}
-use Rattle.world.specs.Reading.{contents, repairs_in, repairs_of}
+use Rattle.world.specs.Reading.{repairs_in, repairs_of}
 use Rattle.world.specs.JustifiedAsks.{pairs_under}
 use Rattle.world.specs.PlaceRun.{label_of}
-use Rattle.world.specs.Wire.{IsSentAs, IsRepairedAs, IsAskedAs, IsFaithful, size_of, is_repair_of}
+use Rattle.world.specs.Wire.{IsSentAs, IsRepairedAs, IsFaithful, size_of, is_repair_of}
 use Rattle.world.proofs.Played.{one_content}
 
 -- lists that end with one item are one where they are one with it

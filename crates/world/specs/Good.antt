@@ -1,7 +1,9 @@
 -- The headline: what a close and honest log promises.
-use Rattle.std.specs.Prelude.{◌≡◌, ℕ, ◌*◌, ◌≤◌, List, ◌∷◌, take, reverse}
+use Rattle.std.specs.Prelude.{◌≡◌, ℕ, ◌*◌, ◌≤◌, List, ◌∷◌, take, reverse, Option, Some, None}
+use Rattle.fbwire.specs.declared.nack.Pair.{Pair}
 use Rattle.receiver.specs.declared.answer.Played.{Played as Play_answer}
 use Rattle.world.specs.declared.event.Event.{Event}
+use Rattle.world.specs.declared.event.Label.{Label}
 use Rattle.world.specs.declared.event.Entry.{Entry}
 use Rattle.world.specs.declared.event.Entry.TheVariants.{Played}
 use Rattle.world.specs.Config.{Config}
@@ -12,7 +14,7 @@ use Rattle.world.specs.Reach.{shift_of}
 use Rattle.world.specs.Close.{IsClose, IsHonest}
 use Rattle.world.specs.Right.{IsRight}
 use Rattle.world.specs.Justified.{IsJustified}
-use Rattle.world.specs.JustifiedAsks.{IsAskedRightly}
+use Rattle.world.specs.JustifiedAsks.{IsToAskFor, IsAskFor, IsAskedRightly}
 use Rattle.world.specs.Lawful.{IsRefusedLawfully}
 use Rattle.world.specs.PlaceRun.{PlaceRun, places_of}
 use Rattle.world.specs.World.{IsLogged}
@@ -46,6 +48,11 @@ pub record KeepsPromises (c : Config) (log : List Entry) (end : WorldState) : Ty
   pub faithful : IsFaithful c (reverse log) end.wire  -- what lies on the wire was sent
   pub repeats : (place : ℕ) → repairs_of place (reverse log) ≤ c.repeats  -- no place is retransmitted more often than that
   pub good : PlaysRightly c log end  -- the headline
+
+-- what an ask may be for after this log, and the labels so far: the pairs of an ask, or none
+abbrev pub MayAsk : Config → List Label → List Entry → (now : ℕ) → Option (List Pair) → Type 0
+MayAsk c labels past now None = (place : ℕ) → IsToAskFor c labels past place now → ⊥
+MayAsk c labels past now (Some pairs) = IsAskFor c labels past now pairs
 
 -- what a play may answer after this log: its entry is in order, right and justified
 abbrev pub MayPlay : Config → List Entry → (now : ℕ) → Play_answer → Type 0

@@ -69,6 +69,13 @@ impl Closeness {
         self.holds
     }
 
+    /// The greatest of the sender's places of which a packet was taken.
+    pub(crate) fn highest(&self) -> Option<Place>
+        ensures { result ≡ self.now.highest }
+    {
+        self.highest
+    }
+
     /// Whether the log still is after a delivery of this label.
     fn stays(&self, label: &Label) -> bool
         ensures { IsTrue result ↔ (IsTrue self.now.holds × IsCloseTo self.now.highest (place_of label.now)) }

@@ -1,23 +1,30 @@
 //! Laws on logs. These functions compute nothing: their contracts are the laws.
-ghost use Rattle.std.specs.Prelude.{◌≡◌, ◌↔◌, ◌≤◌, ◌++◌, ℕ, List, Some, reverse, slice_get, map, count_by};
+ghost use Rattle.std.specs.Prelude.{◌≡◌, ◌↔◌, ◌⊎◌, ◌+◌, ◌<◌, ◌≤◌, ◌++◌, [], ◌∷◌, ℕ, true, List, Option, Some, reverse, length, slice_get, map, count_by};
+ghost use Rattle.places.specs.Among.{is_among};
+ghost use Rattle.fbwire.specs.declared.fault.FeedbackFault.{FeedbackFault};
+ghost use Rattle.fbwire.specs.declared.nack.Pair.{Pair};
+ghost use Rattle.receiver.specs.declared.fault.ReceiveFault.{ReceiveFault};
+ghost use Rattle.receiver.specs.Fault.{receive_number};
+ghost use Rattle.world.specs.declared.event.Label.{Label};
 ghost use Rattle.world.specs.declared.event.Event.{Event};
 ghost use Rattle.world.specs.declared.event.Entry.{Entry};
 ghost use Rattle.world.specs.Config.{Config, IsConfig};
 ghost use Rattle.world.specs.Answers.{Item, WorldState, Answers};
-ghost use Rattle.world.specs.Reading.{repairs_of, IsRising, IsFinal, IsStrictlyRising, IsGone, IsLeftOut};
+ghost use Rattle.world.specs.Reading.{contents, repairs_of, IsRising, IsFinal, IsStrictlyRising, IsGone, IsLeftOut};
 ghost use Rattle.world.specs.Wire.{IsFaithful, SpellsLabel, size_of, is_repair_of};
-ghost use Rattle.world.specs.Close.{IsClose, IsHonest, IsUninjected};
+ghost use Rattle.world.specs.Close.{IsCloseTo, IsClose, IsHonest, IsUninjected};
 ghost use Rattle.world.specs.PlaceRun.{PlaceWorld, PlaceRun, label_of};
 ghost use Rattle.world.specs.Reach.{highest_taken, shift_of};
-ghost use Rattle.world.specs.Good.{IsGood, KeepsPromises, PlaysRightly, MayPlay};
+ghost use Rattle.world.specs.Good.{IsGood, KeepsPromises, PlaysRightly, MayAsk, MayPlay};
 ghost use Rattle.receiver.specs.declared.answer.Played.{Played as Play_answer};
 ghost use Rattle.world.specs.World.{IsLogged, stand_of};
 ghost use Rattle.world.specs.Round.{Adds, IsRound, IsMarkedUpTo, IsAwaited, IsMendable, IsMended};
 
+use crate::event::{Answer, Entry};
 use crate::world::World;
 use fbwire::{compound_is_determined, nack_is_determined, packing_is_determined};
-use rtpwire::repair_is_determined;
 use receiver::{asking_is_determined, hearing_is_determined, playing_is_determined};
+use rtpwire::repair_is_determined;
 use sender::{feedback_is_determined, repairing_is_determined, sending_is_determined};
 use stores::{History, Window};
 
@@ -41,6 +48,10 @@ pub fn wires_are_faithful()
     // The same for one datagram: its octets spell what its label says.
     ensures spelled { (c : Config) (past : List Entry) (wire : List Item) (i : ℕ) (item : Item)
         → IsFaithful c past wire → slice_get wire i ≡ Some item → SpellsLabel c past item.0 item.1.items }
+    // What is retransmitted is among the last that were sent by then, so many as the history keeps.
+    ensures recent { (c : Config) → IsConfig c → (events : List Event) (past : List Entry) (end : WorldState) → Answers c events past end
+        → (later before : List Entry) (place index : ℕ) → past ≡ later ++ Entry.Repaired place index ∷ before
+        → let next = 65536 + c.first + length (contents before) in (place < next) × (next ≤ place + c.history) }
 {
     compound_is_determined();
     nack_is_determined();
@@ -143,6 +154,32 @@ pub fn stores_make_no_difference<H: History, W: Window, I: History, V: Window>(
 /// The log before a play determines what it answers: at most one answer is in order, right and justified.
 pub fn plays_are_determined()
     ensures { (c : Config) (past : List Entry) (now : ℕ) (one other : Play_answer) → MayPlay c past now one → MayPlay c past now other → one ≡ other }
+{}
+
+/// The log before an ask, and the labels on the wire, determine what it asks for: at most one list of pairs has its cause, or none has.
+pub fn asks_are_determined()
+    ensures { (c : Config) (labels : List Label) (past : List Entry) (now : ℕ) (one other : Option (List Pair))
+        → MayAsk c labels past now one → MayAsk c labels past now other → one ≡ other }
+{
+    packing_is_determined();
+}
+
+/// What a delivery in a close and honest log may be refused with, entry by entry.
+pub fn refusals_are_few()
+    // A packet: it came before the start (33), from too far (34), too late (35) or twice (36), or at a receiver that learns unasked (38).
+    ensures packets { (c : Config) → IsConfig c → (events : List Event) (past : List Entry) (end : WorldState) → Answers c events past end → IsClose past → IsHonest past
+        → (later before : List Entry) (index : ℕ) (label : Label) (now : ℕ) (fault : ReceiveFault) → past ≡ later ++ Entry.Delivered index label now (Answer.Refused fault) ∷ before
+        → (is_among (33 ∷ 34 ∷ 35 ∷ 36 ∷ []) (receive_number fault) ≡ true) ⊎ ((receive_number fault ≡ 38) × (c.receiver.learns ≡ true)) }
+    // Feedback: by nothing.
+    ensures feedback { (c : Config) → IsConfig c → (events : List Event) (past : List Entry) (end : WorldState) → Answers c events past end → IsClose past → IsHonest past
+        → (later before : List Entry) (index : ℕ) (label : Label) (now : ℕ) (fault : FeedbackFault) → past ≡ later ++ Entry.Delivered index label now (Answer.FeedbackRefused fault) ∷ before → ⊥ }
+{
+    logs_are_good();
+}
+
+/// A packet is close where it lies less than 49153 above or below the greatest place taken before it, and nowhere else.
+pub fn closeness_is_a_distance()
+    ensures { (highest place : ℕ) → IsCloseTo (Some highest) (Some place) ↔ ((place < highest + 49153) × (highest < place + 49153)) }
 {}
 
 /// Without injections a log determines what it leaves: it is a run over places to at most one end, which has one sender, one

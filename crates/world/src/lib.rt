@@ -7,6 +7,7 @@ mod config_laws;
 mod ends;
 mod event;
 mod laws;
+mod marks;
 mod scheduling;
 mod session;
 mod settling;

@@ -1,5 +1,5 @@
 //! One undisturbed round that settles a world.
-ghost use Rattle.std.specs.Prelude.{◌≡◌, ◌≤◌, ◌+◌, ◌*◌, ◌++◌, [], ◌∷◌, ℕ, length, reverse, IfOk, OnOk, OnErr, MatchOption};
+ghost use Rattle.std.specs.Prelude.{◌≡◌, ◌↔◌, ◌≤◌, ◌+◌, ◌*◌, ◌++◌, [], ◌∷◌, ℕ, length, reverse, IfOk, IsTrue, OnOk, OnErr, MatchOption};
 ghost use Rattle.world.specs.Answers.{Step};
 ghost use Rattle.world.specs.Good.{KeepsPromises};
 ghost use Rattle.world.specs.Reach.{highest_taken, shift_of};
@@ -9,6 +9,7 @@ ghost use Rattle.world.specs.World.{IsLogged, stand_of};
 
 use crate::event::{Entry, Event};
 use crate::laws::{logs_keep_promises, rounds_mend};
+use crate::marks::is_marked_up_to;
 use crate::world::World;
 use fbwire::{compound_is_determined, nack_is_determined};
 use receiver::hearing_is_determined;
@@ -48,6 +49,17 @@ impl<H: History, W: Window> World<H, W> {
         let done = self.ask_and_repair(now);
         self.keeps_log();
         done
+    }
+
+    /// Whether no place is marked above the greatest one taken. Where the log is close too, which [`close`](World::close) tells, a
+    /// round mends all that [`settle`](World::settle) speaks of. It looks at each sequence number, and takes no memory.
+    pub fn is_settled(&self) -> bool
+        ensures { IsTrue result ↔ IsMarkedUpTo (highest_taken (reverse self.now.log)) (stand_of self.now).sender }
+    {
+        match self.closeness().highest() {
+            None => true,
+            Some(highest) => is_marked_up_to(self.history(), highest),
+        }
     }
 
     /// The round.

@@ -5,7 +5,7 @@ ghost use Rattle.receiver.specs.Asks.{AsksWithin};
 ghost use Rattle.receiver.specs.Receiver.{state_of};
 ghost use Rattle.world.specs.Config.{IsConfig};
 ghost use Rattle.world.specs.Answers.{Step, Answers};
-ghost use Rattle.world.specs.Close.{IsClose, IsUninjected};
+ghost use Rattle.world.specs.Close.{IsClose, IsUninjected, TellsCloseness};
 ghost use Rattle.world.specs.Good.{IsGood, KeepsPromises};
 ghost use Rattle.world.specs.World.{IsLogged, stand_of, empty};
 
@@ -134,6 +134,13 @@ impl<H: History, W: Window> World<H, W> {
         logs_are_good();
         self.config.limits();
         self.closeness.holds()
+    }
+
+    /// What it keeps of its log.
+    pub(crate) fn closeness(&self) -> Closeness
+        ensures { TellsCloseness result.highest result.holds (reverse self.now.log) }
+    {
+        self.closeness
     }
 
     /// The sender's history. It has no more entries than the configuration says, and none that was retransmitted more often.

@@ -4,7 +4,6 @@ use Rattle.world.specs.declared.event.Entry.{Entry}
 use Rattle.world.specs.declared.event.Entry.TheVariants.{Asked, NoAsk, Repaired, NoRepair}
 use Rattle.world.specs.Answers.{Step}
 use Rattle.world.specs.Config.{Config}
-use Rattle.world.specs.Reach.{shift_of}
 use Rattle.world.specs.Close.{IsClose}
 use Rattle.world.specs.Round.{IsAsking, IsRepairing, IsRoundBegun, IsMended}
 use Rattle.world.specs.World.{Recorded, stand_of}
@@ -163,6 +162,6 @@ pub returns-clause-mended : goal.returns-clause-mended
 returns-clause-mended g c place close honest marks mendable =
     let on = returns-clause-round g c in
     let logged = c.keeps_log.ensures.logged in
-    subst (λ (xs : List Entry). IsMended (shift_of xs) (stand_of c.repair_once.new.self) place × IsClose xs)
+    subst (λ (xs : List Entry). IsMended c.args.self.now.config xs (stand_of c.repair_once.new.self) place × IsClose xs)
     (sym (back c.args.self.now.log c.repair_once.new.self.log on.added on.log_is))
-    (c.rounds_mend.ensures c.args.self.now.config c.keeps_log.ensures.limits (reverse logged.events) (reverse c.args.self.now.log) (stand_of c.args.self.now) logged.answers close honest marks c.args.now on.events on.added (stand_of c.repair_once.new.self) on.kind on.adds place mendable)
+    (c.rounds_mend.ensures.mended c.args.self.now.config c.keeps_log.ensures.limits (reverse logged.events) (reverse c.args.self.now.log) (stand_of c.args.self.now) logged.answers close honest marks c.args.now on.events on.added (stand_of c.repair_once.new.self) on.kind on.adds place mendable)
