@@ -44,6 +44,35 @@ fn a_distance_of_49153(rt: HostRuntime) -> Result<(), Fail> {
     )
 }
 
+/// What lies beyond: the last of 65538 packets, whose sequence number is that of the second one again, comes next to the first.
+/// So the receiver plays at its place 65538 what was sent at 131074, and `close` tells of it before the play. All else stays as
+/// promised: places are played in rising order, the second packet comes too late for the place that was played, and a place that
+/// was given up is not played later.
+#[test]
+fn a_distance_of_65537(rt: HostRuntime) -> Result<(), Fail> {
+    goes(
+        rt.alloc(),
+        "config 1 5 8 8 100 20 3 2\n\
+         times 65537 S 0 0 0 aa - -\n\
+         S 1 0 0 bb - - => sent 131074 65537 806000020000000111111111bb\n\
+         D 0 0 => taken 65537 0\n\
+         close\n\
+         D 65537 0 => taken 65538 0\n\
+         open\n\
+         P 0 => play 65537 0 0 aa - -\n\
+         P 0 => play 65538 1 0 bb - -\n\
+         P 0 => wait\n\
+         D 1 0 => refused 35\n\
+         D 3 10 => taken 65540 0\n\
+         P 109 => wait\n\
+         P 110 => gap 65539\n\
+         D 2 111 => refused 35\n\
+         P 112 => play 65540 0 0 aa - -\n\
+         P 113 => wait\n\
+         open",
+    )
+}
+
 #[test]
 fn an_injection(rt: HostRuntime) -> Result<(), Fail> {
     goes(
