@@ -418,8 +418,9 @@ int32_t gozdrit_feedback(gozdrit_sender *sender, const uint8_t *octets, size_t l
 int32_t gozdrit_retransmit(gozdrit_sender *sender, gozdrit_sent *sent, uint8_t *out, size_t room);
 
 /*
- * For a sender that falls silent: its newest packet is to be retransmitted, as if a NACK had named it, so that the receiver
- * notices all that it lacks below it. `marked` gets 1, or 0 where that was so already, where the packet was
+ * For a sender that falls silent: its newest packet is to be retransmitted, as if a NACK had named it, so that a receiver that
+ * takes it notices all that it lacks below it. One that took nothing and did not begin refuses it (33), and so does one that is
+ * still to learn the SSRC of the retransmissions (38). `marked` gets 1, or 0 where that was so already, where the packet was
  * retransmitted as often as it may be, or where nothing was sent.
  */
 int32_t gozdrit_mark_last(gozdrit_sender *sender, uint32_t *marked);
@@ -456,7 +457,7 @@ int32_t gozdrit_receiver_free(gozdrit_receiver *receiver);
  * A packet that is all padding is taken as one with an empty payload.
  *
  * A receiver that learns takes as a retransmission what a NACK of its named, under any SSRC but the media's and its own;
- * the SSRC of the first that it takes is the one of the retransmissions from then on, until the stream restarts.
+ * the SSRC of the first that it takes is the one of the retransmissions from then on, until the receiver restarts.
  *
  * heard->refusal, where heard->kind is GOZDRIT_NOT_TAKEN, is the first of:
  *
@@ -485,7 +486,7 @@ int32_t gozdrit_receive(gozdrit_receiver *receiver, const uint8_t *octets, size_
  *   GOZDRIT_WAIT    it is missing, and its patience has not passed, or nothing is held. All else of `played`, and
  *                   `payload`, is as it was.
  *
- * Packets are played or given up in their order, each once. Call it until it waits.
+ * Packets are played or given up in their order, each once, until the receiver restarts. Call it until it waits.
  *
  *   75  room is less than the payload has; GOZDRIT_MAX_PAYLOAD is enough for any
  */
@@ -503,9 +504,9 @@ int32_t gozdrit_play(gozdrit_receiver *receiver, uint64_t now, gozdrit_played *p
 int32_t gozdrit_nack(gozdrit_receiver *receiver, uint64_t now, size_t most, size_t *length, uint8_t *out, size_t room);
 
 /*
- * The least moment from which on gozdrit_play does not wait or gozdrit_nack makes a datagram, if nothing more comes: a
- * loop sleeps until then, or until a datagram comes. Where there is none, moment->known is 0, and moment->moment is as it
- * was. A moment in the past is one that has come.
+ * The least moment from which on gozdrit_play does not wait or gozdrit_nack, for one packet or more, makes a datagram, if
+ * nothing more comes and the times stay: a loop sleeps until then, or until a datagram comes. Where there is none,
+ * moment->known is 0, and moment->moment is as it was. A moment in the past is one that has come.
  */
 int32_t gozdrit_next_moment(const gozdrit_receiver *receiver, gozdrit_moment *moment);
 
@@ -521,7 +522,8 @@ int32_t gozdrit_begin(gozdrit_receiver *receiver, uint16_t first);
 int32_t gozdrit_restart(gozdrit_receiver *receiver);
 
 /*
- * Sets the three times, as a round-trip time changes. What was noticed, and what NACKs named, stays.
+ * Sets the three times, as a round-trip time changes. What was noticed, and what NACKs named, stays. Ask gozdrit_next_moment
+ * again.
  *
  *   53  retry is 0
  */

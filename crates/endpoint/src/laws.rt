@@ -29,8 +29,8 @@ pub fn counts_are_in_full()
 /// What an endpoint believes is all that its receiver knows.
 pub fn core_has_what_is_believed()
     // Whatever was called: the receiver is one that took exactly the packets which were believed since the last restart, those
-    // that were held back for it included, in the order in which they came, between the plays and asks since then. So what is
-    // promised of a receiver holds from there on.
+    // that were held back for it included, in the order in which they came, between the plays and asks since then. So what each
+    // call of a receiver promises holds from there on.
     ensures { (c : Config) (capacity : ℕ) (p : Probation) (events : List Event) (e : Endpoint)
         → RunsOver c capacity p events e → Reached capacity (ledger events).core e.ends.core }
 {}

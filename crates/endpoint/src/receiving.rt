@@ -22,7 +22,7 @@ use stores::{OutOfMemory, Window};
 
 /// The receiving end of a session as a network wants it: it is handed every datagram that comes from the far side, believes a
 /// jump of the sequence number only after a [`Probation`], restarts then, and counts. All that it hands the receiver below since
-/// the last restart is what was believed, so all that is promised of a [`Receiver`] holds from there on.
+/// the last restart is what was believed, so what each call of a [`Receiver`] promises holds from there on.
 ///
 /// It keeps two receivers over windows of one size. What is held back goes to the spare one, which takes the place of the other
 /// once it is believed; so nothing of it is lost, and no call takes memory.
@@ -64,8 +64,8 @@ impl<W: Window> ReceivingEndpoint<W> {
     ///
     /// RTCP is passed over (RFC 5761). A packet that is all padding is taken as one with an empty payload. A media packet whose
     /// sequence number has jumped is held back, until so many in sequence have come; one that is believed ends what was held
-    /// back. The refusals are those of [`Receiver::on_media`]; they change nothing but the counts, and a jumped packet that is
-    /// refused ends what was held back.
+    /// back. The refusals are those of [`Receiver::on_media`]; they change nothing but the counts, but that a media packet
+    /// of the session that is refused, jumped or not, ends what was held back.
     pub fn on_datagram(&mut self, octets: &[u8], now: u64) -> Result<Heard, ReceiveFault>
         ensures hears { HearsDatagram self.old.probation (ends_of self.old.core self.old.spare self.old.run) octets.now now result (ends_of self.new.core self.new.spare self.new.run) }
         ensures probation { self.new.probation ≡ self.old.probation }

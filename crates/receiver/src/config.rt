@@ -33,9 +33,9 @@ impl Model for ReceiverConfig {
 }
 
 impl ReceiverConfig {
-    /// A receiver of this session. A missing place is given up once `patience` milliseconds have passed
+    /// A receiver of this session. A missing place is given up by a play once `patience` milliseconds have passed
     /// since it was noticed, so 0 gives it up at once; until then it is asked for at most `asks` times,
-    /// `retry` milliseconds apart.
+    /// at least `retry` milliseconds apart.
     ///
     /// `BadLimit` (53), and no other: `retry` or `asks` is 0.
     pub fn new(

@@ -17,7 +17,7 @@ pub enum ReceiveFault {
     UnknownType,
     /// 37: no content holds what the packet carries: its payload or its extension is too long.
     Content(ContentFault),
-    /// 33: the packet is a retransmission, and the receiver has not started to take them.
+    /// 33: the packet is a retransmission, and the receiver took no media packet and did not begin.
     NotStarted,
     /// 34 or 39: the sequence number stands for no place near the highest one.
     Place(PlaceFault),

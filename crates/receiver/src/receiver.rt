@@ -66,13 +66,13 @@ impl<W: Window> Receiver<W> {
     /// octets, and moments need not rise. The answer is the place that was taken, and how many places
     /// the window passed unplayed for it.
     ///
-    /// The first media packet starts the receiver, one cycle of 65536 above its sequence number. A later
-    /// one has the place of its sequence number that is nearest to the highest place so far. A
+    /// The first media packet starts a receiver that did not [`begin`](Receiver::begin), one cycle of 65536 above its
+    /// sequence number. A later one has the place of its sequence number that is nearest to the highest place so far. A
     /// retransmission (RFC 4588, section 4) has that of its original sequence number, and is taken as the
     /// media packet of that place would have been; it starts no receiver.
     ///
     /// A receiver that learns takes as a retransmission what it asked for, under any SSRC but the media's
-    /// and its own, until it took one: that SSRC is then the one of the retransmissions for good.
+    /// and its own, until it took one: that SSRC is then the one of the retransmissions until it restarts.
     ///
     /// The refusals, in the order of the checks; after each the receiver is as it was:
     ///
@@ -83,7 +83,7 @@ impl<W: Window> Receiver<W> {
     /// - `Rtp` (6): the packet is a retransmission, and its payload has no original sequence number.
     /// - `Content` (37): the original payload has more than [`MAX_PAYLOAD`](rtpwire::MAX_PAYLOAD) octets, or the extension
     ///   more than [`MAX_WORDS`](rtpwire::MAX_WORDS) words.
-    /// - `NotStarted` (33): the packet is a retransmission, and the receiver has not started to take them.
+    /// - `NotStarted` (33): the packet is a retransmission, and the receiver took no media packet and did not begin.
     /// - `Place` (34, 39): the sequence number is too far from that of the highest place, or stands for
     ///   no place from 0 to 2^48 - 1.
     /// - `Unasked` (38): the SSRC is to be learnt, and the place is not one that is missing and was asked
@@ -152,8 +152,9 @@ impl<W: Window> Receiver<W> {
     /// moments need not rise. The answer is the datagram of a generic NACK (RFC 4585, section 6.2.1), from
     /// the session's receiver to its media source, and None where no place is due: nothing changes then.
     ///
-    /// A place is due that is missing, was asked for fewer times than the configured limit, and either
-    /// never or last at least `retry` milliseconds before `now`. The first
+    /// A place is due that is missing, was asked for fewer times than the configured limit, and either never, and was
+    /// noticed at least the configured delay before `now` (with a delay of 0 whenever it was), or last at least `retry`
+    /// milliseconds before `now`. The first
     /// [`LONGEST_ASK`](stores::LONGEST_ASK) of them, or all, are packed into at most 64 pairs. Each place that
     /// the pairs cover was then asked for once more, last at `now`; one that they do not cover stays due, so a
     /// caller asks again until the answer is None.
@@ -211,7 +212,8 @@ impl<W: Window> Receiver<W> {
     /// The moment to call again, in milliseconds, if nothing comes until then: the least from which on
     /// [`play`](Receiver::play) would not wait or [`ask`](Receiver::ask) would ask. At each moment one of the two does
     /// something exactly if that moment has come. It may lie in the past, or be 0: then one of them does something at once. None:
-    /// neither will ever do anything, until something is taken.
+    /// neither does anything at any moment, until something is taken or the times are set anew
+    /// ([`set_times`](Receiver::set_times)).
     pub fn next_moment(&self) -> Option<u64>
         ensures { (m : ℕ) → m < 2 ^ 64 → IsQuiet self.now.config (state_of self.now) m ↔ (has_come result m ≡ false) }
     {

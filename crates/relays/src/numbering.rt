@@ -5,7 +5,7 @@ ghost use Rattle.relays.specs.Numbering.{numbered, numbered_after, anew};
 use places::Place;
 
 /// The SSRC and the sequence numbers of what is played. The numbers are the places' own, shifted so that they go on where a stream
-/// restarts. So what a player sees has one SSRC, and holes where places were given up or overrun, and nowhere else.
+/// restarts. So what a player sees has one SSRC, and holes only where places were given up or overrun.
 #[derive(Clone, Copy, Debug, PartialEq, Eq)]
 pub struct Numbering {
     ssrc: u32,

@@ -28,7 +28,7 @@ use stores::{OutOfMemory, SlotRef, Window, sooner};
 const MOST: usize = 256;
 
 /// It takes a session from a network, asks the far side for what is lost, and hands what is played to a player as RTP of one SSRC,
-/// whose sequence numbers have holes where places were given up or overrun, and nowhere else. How long it waits before it asks,
+/// whose sequence numbers have holes only where places were given up or overrun. How long it waits before it asks,
 /// and asks again, follows the round-trip time.
 #[derive(Drop)]
 pub struct ReceiveRelay<W: Window> {

@@ -50,18 +50,19 @@ pub trait Window: Drop {
         ensures { meaning self.new ≡ empty_span (meaning self.old).capacity };
 
     /// The next place to play, as a number up to 2^48: past the last place there is no further one. None
-    /// before the first `put`.
+    /// where the window was not started, by a `put` or by `begin`, since it was made or cleared.
     fn cursor(&self) -> Option<u64>
         ensures { result ≡ (meaning self.now).cursor };
 
-    /// The highest place that was ever put, even where all was played since. None before the first `put`.
+    /// The highest place that was put, even where all was played since; after `begin`, until one was put, the place before
+    /// the first. None where the window was not started since it was made or cleared.
     fn highest(&self) -> Option<Place>
         ensures { result ≡ highest_of (meaning self.now) };
 
     /// Puts what is carried at its place, at the moment `now`, in milliseconds. Moments need not rise. Nothing of it
     /// is copied before the place is taken.
     ///
-    /// The first place starts the window there. A place above the highest makes those between missing,
+    /// The first place starts a window there that was not started. A place above the highest makes those between missing,
     /// noticed at `now`. If the window has no room for it, the lowest places are dropped for good until it
     /// has. The answer is how many places that were neither played nor given up it passed in doing so.
     ///
@@ -81,8 +82,8 @@ pub trait Window: Drop {
         self.put_from(place, &Carried::of_content(&content), now)
     }
 
-    /// The slot of the cursor's place. None before the first `put`, and where all places up to the highest
-    /// were taken out.
+    /// The slot of the cursor's place. None before the first `put`, also after `begin`, and where all places up to the
+    /// highest were taken out.
     fn front(&self) -> Option<SlotRef<'_>>
         ensures { option_map slot_of result ≡ front_of (meaning self.now) };
 
@@ -106,8 +107,8 @@ pub trait Window: Drop {
     /// The first [`LONGEST_ASK`] places, or all, if they are fewer, that are due to be asked for at the moment
     /// `now`, in rising order.
     ///
-    /// A place is due that is missing, was asked for fewer than `asks` times, and either was never asked for
-    /// or last at least `retry` milliseconds before `now`.
+    /// A place is due that is missing, was asked for fewer than `asks` times, and either was never asked for, whenever it
+    /// was noticed, or last at least `retry` milliseconds before `now`. A rule with a delay is for `due_into`.
     fn due(&self, now: u64, retry: u64, asks: u8) -> ArrayVec<Place, LONGEST_ASK>
         ensures { result.items ≡ take longest_ask (due_places (meaning self.now) now 0 retry asks) }
     {

@@ -32,8 +32,8 @@ impl Model for Config {
 impl Config {
     /// Two ends of this session. The first send has the sequence number `first`, the first retransmission
     /// `repair_first`. The sender keeps the latest `history` contents and sends each again at most `repeats`
-    /// times; the receiver keeps up to `window` places, gives a missing one up once `patience` milliseconds
-    /// have passed since it was noticed, and until then asks for it at most `asks` times, `retry`
+    /// times; the receiver keeps up to `window` places, gives a missing one up by a play once `patience` milliseconds
+    /// have passed since it was noticed, and until then asks for it at most `asks` times, at least `retry`
     /// milliseconds apart.
     ///
     /// `BadLimit` (53): `history` or `window` is not in 1 to 8192, or `retry`, `asks` or `repeats` is 0.

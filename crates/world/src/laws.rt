@@ -42,7 +42,8 @@ pub fn logs_are_in_order()
 
 /// Whatever events a log answers, and whatever octets a peer injected: each datagram on the wire has the label and the
 /// index that the log tells, and spells what its label says. A media packet is what was sent at its place, and so is
-/// each retransmission, of one of the last places; feedback asks for places that were due.
+/// each retransmission, of one of the last places; feedback is the fewest pairs for places in rising order, or for a
+/// beginning of them. (That these were due is said by the answers, not by this law.)
 pub fn wires_are_faithful()
     ensures faithful { (c : Config) → IsConfig c → (events : List Event) (past : List Entry) (end : WorldState) → Answers c events past end → IsFaithful c past end.wire }
     // The same for one datagram: its octets spell what its label says.
