@@ -19,7 +19,7 @@ pub struct ReceiveCounts {
     pub media: u64,
     /// Retransmissions that were taken.
     pub retransmissions: u64,
-    /// Media packets that were held back. The restart that follows takes them.
+    /// Media packets that were held back. A restart that follows takes those of its run.
     pub held_back: u64,
     /// Restarts of the stream, each with the packet that brought it.
     pub restarts: u64,
@@ -27,13 +27,13 @@ pub struct ReceiveCounts {
     pub control: u64,
     /// Packets of a place that was held already (36).
     pub duplicate: u64,
-    /// Packets of a place that was played or given up before (35).
+    /// Packets of a place below the next one to play (35).
     pub late: u64,
     /// Packets whose sequence number is too far from the highest one (34).
     pub far: u64,
     /// Datagrams that were refused for another reason.
     pub refused: u64,
-    /// Places that the window dropped for good to make room.
+    /// Places that the window dropped for good to make room, but for packets that were held back.
     pub overrun: u64,
     /// Places that a restart left behind, neither played nor given up.
     pub abandoned: u64,

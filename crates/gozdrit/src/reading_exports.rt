@@ -139,7 +139,8 @@ fn next_sequence_lent(
     (code, receiver, sequence)
 }
 
-/// `Window::highest` of the receiver: the highest place that was taken, once there is one.
+/// `Window::highest` of the receiver: the highest place that was taken, or the one before the first where it began and took none so
+/// far, once there is one.
 #[unsafe(no_mangle)]
 pub unsafe extern "C" fn gozdrit_highest_sequence(
     receiver: *mut ReceiverBlock,
