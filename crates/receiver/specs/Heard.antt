@@ -35,7 +35,7 @@ abbrev pub WasAsked : Option Missed → Type 0
 WasAsked m = IsSomeAnd m (λ missed. 1 ≤ missed.asks)
 
 -- What a started receiver answers to a retransmission under an SSRC that may be learnt. It takes what it asked
--- for, and has learnt the SSRC for good. (A place that is missing is neither passed nor held, so 35 and 36 don't
+-- for, and has learnt the SSRC until it restarts. (A place that is missing is neither passed nor held, so 35 and 36 don't
 -- occur.)
 abbrev pub AnswersCandidate : (ssrc room : ℕ) → ReceiverState → (place : ℕ) → Content → (now : ℕ) → Result Taken ReceiveFault → Option ReceiverState → Type 0
 AnswersCandidate ssrc room old place content now (Ok taken) new =

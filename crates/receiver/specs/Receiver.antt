@@ -23,7 +23,7 @@ pub record IsReceiving (r : Receiving) : Type 0 where
   pub unlearnt : IsUnlearnt r.span r.learnt
   pub limit : AsksWithin r.config.asks (state_of r)
 
--- what no call changes: how it is configured, how many places its window keeps, and that it is a window
+-- what no call changes but one that sets the times: how it is configured, how many places its window keeps, and that it is a window
 pub record Stays (old new : Receiving) : Type 0 where
   pub config : new.config ≡ old.config
   pub capacity : new.span.capacity ≡ old.span.capacity

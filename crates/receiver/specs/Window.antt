@@ -19,10 +19,10 @@ pub record Missed : Type 0 where
   pub asks : ℕ
   pub last : ℕ
 
--- A receiver that took a place. One that took none so far is no window.
+-- A receiver that took a place, or began at one. One that did neither so far is no window.
 pub record ReceiverState : Type 0 where
   pub cursor : ℕ  -- the next place to play
-  pub highest : ℕ  -- the highest place that was taken
+  pub highest : ℕ  -- the highest place that was taken, or the one before the first
   pub held : ℕ → Option Content
   pub missing : ℕ → Option Missed
   pub learnt : Option ℕ  -- the SSRC of the retransmissions, where it was learnt
@@ -116,7 +116,7 @@ AnswersPlace room old place content now (Err (refused.Put Duplicate)) new =
     (old.cursor ≤ place) × IsSome (old.held place) × (new ≡ Some old)
 AnswersPlace room old place content now (Err fault) new = ⊥
 
--- A receiver that took nothing takes any place.
+-- A receiver that took nothing, and did not begin, takes any place.
 abbrev pub StartsAt : (place : ℕ) → Content → Result Taken ReceiveFault → Option ReceiverState → Type 0
 StartsAt place content (Ok taken) new = (taken.place ≡ place) × (taken.overrun ≡ 0) × IsSomeAnd new (Starts place content)
 StartsAt place content (Err fault) new = ⊥
@@ -140,7 +140,7 @@ Plays patience old now Wait new =
     × ((m : Missed) → old.missing old.cursor ≡ Some m → HasPassed patience m.noticed now → ⊥)
     × (new ≡ Some old)
 
--- A receiver that took nothing only waits.
+-- A receiver that took nothing, and did not begin, only waits.
 abbrev pub PlaysAny : (patience : ℕ) → Option ReceiverState → (now : ℕ) → Played → Option ReceiverState → Type 0
 PlaysAny patience None now Wait new = new ≡ None
 PlaysAny patience None now (Packet place content) new = ⊥

@@ -4,7 +4,7 @@ use Rattle.std.specs.Option.{ForSome, ForNone, option_map}
 use Rattle.stores.specs.declared.slot.Slot.{Slot}
 
 pub record Span : Type 0 where
-  pub cursor : Option ℕ  -- the next place to play; none before the first place was taken
+  pub cursor : Option ℕ  -- the next place to play; none before a window was started, by its first place or by beginning
   pub slots : List Slot  -- that of the cursor first
   pub capacity : ℕ  -- how many slots there may be
 
@@ -17,7 +17,7 @@ pub record IsSpan (s : Span) : Type 0 where
   pub unstarted : ForNone s.cursor (length s.slots ≡ 0)
   pub started : ForSome s.cursor (λ k. (0 < k + length s.slots) × (k + length s.slots ≤ 2 ^ 48))
 
--- a window before its first place
+-- a window that was not started
 abbrev pub empty_span : ℕ → Span
 empty_span capacity = record { cursor = None; slots = []; capacity = capacity }
 
@@ -25,7 +25,8 @@ empty_span capacity = record { cursor = None; slots = []; capacity = capacity }
 abbrev pub begun_span : (p capacity : ℕ) → Span
 begun_span p capacity = record { cursor = Some p; slots = []; capacity = capacity }
 
--- the highest place that was taken: the one before the place that follows the slots
+-- the highest place that was taken, and the one before the first in a window that began and took none: the one before the place
+-- that follows the slots
 abbrev pub highest_of : Span → Option ℕ
 highest_of s = option_map (λ k. k + length s.slots - 1) s.cursor
 

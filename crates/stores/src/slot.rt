@@ -122,7 +122,7 @@ impl<'a> SlotRef<'a> {
 /// Why a window does not take a place.
 #[derive(Clone, Copy, Debug, PartialEq, Eq, Hash)]
 pub enum PutFault {
-    /// Refusal 35: the place lies below the cursor, so it was played, given up or overrun.
+    /// Refusal 35: the place lies below the cursor, so it was played, given up or overrun, or lies before the first.
     Late,
     /// Refusal 36: the place is held already.
     Duplicate,
