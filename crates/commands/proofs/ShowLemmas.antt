@@ -12,8 +12,13 @@ use Rattle.commands.specs.declared.show.ShowFault.{ShowFault}
 use Rattle.commands.specs.declared.show.ShowFault.TheVariants.{Frame, Read, Write}
 use Rattle.commands.specs.Reading.{IfBoth}
 use Rattle.commands.specs.Show.{StopsIn, counted}
-use Rattle.commands.specs.Showing.{GoesOn, ShownOfRead, SoFar, StopsWithin, StopsAt, ShowedSome}
+use Rattle.commands.specs.Showing.{GoesOn, SoFar, StopsWithin, StopsAt, ShowedSome}
 use Rattle.commands.proofs.KnownLemmas.{Appends-kept, Appends-trans}
+
+-- What was read of an input lies before what is left of it; it is frames and this rest, and the frames' lines were written.
+abbrev pub ShownOfRead : (remaining left : Option (List ℕ)) → (start now : Option (List ℕ)) → (rest : List ℕ) → (count : ℕ) → Type 0
+ShownOfRead remaining left start now rest count =
+    IfBoth remaining left (λ trace left. (read : List ℕ) × (trace ≡ read ++ left) × SoFar start now read rest count)
 
 -- one more line
 pub shows_more : (ds : List (List ℕ)) (d text line : List ℕ) → ShowsAll ds text → Shows d line → ShowsAll (ds ++ d ∷ []) (text ++ line)

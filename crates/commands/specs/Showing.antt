@@ -5,7 +5,6 @@ use Rattle.rtpwire.specs.declared.fault.FrameFault.TheVariants.{Truncated, Frame
 use Rattle.rtpwire.specs.Framing.{IsDatagram, Splits, frame}
 use Rattle.commands.specs.declared.show.ShowFault.{ShowFault}
 use Rattle.commands.specs.declared.show.ShowFault.TheVariants.{Frame, Read, Write}
-use Rattle.commands.specs.Reading.{IfBoth}
 use Rattle.commands.specs.Show.{IsTooLong, Wrote, WroteFront, counted}
 
 -- What was read so far is frames and this rest; the frames are counted, and their lines were written since the start.
@@ -14,11 +13,6 @@ pub record SoFar (start now : Option (List ℕ)) (read rest : List ℕ) (count :
   pub splits : Splits datagrams rest read
   pub counts : count ≡ counted (length datagrams)
   pub wrote : Wrote datagrams start now
-
--- the same of what was read of an input, which lies before what is left
-abbrev pub ShownOfRead : (remaining left : Option (List ℕ)) → (start now : Option (List ℕ)) → (rest : List ℕ) → (count : ℕ) → Type 0
-ShownOfRead remaining left start now rest count =
-    IfBoth remaining left (λ trace left. (read : List ℕ) × (trace ≡ read ++ left) × SoFar start now read rest count)
 
 -- Whatever was done before, more was done with this piece.
 abbrev pub GoesOn : (old new : Option (List ℕ)) → (rest rest' : List ℕ) → (count count' : ℕ) → (piece : List ℕ) → Type 0

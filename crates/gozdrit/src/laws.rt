@@ -10,7 +10,8 @@ ghost use Rattle.gozdrit.specs.Receiving.{new_receiver};
 /// Each field of a struct of C's is the one of the configuration that it is named after.
 pub fn fields_say_configurations()
     ensures session { (s : SessionFields) → let t = streams_of s in
-        (t.media_ssrc ≡ s.media_ssrc) × (t.media_type ≡ s.media_type) × (t.repair_ssrc ≡ s.rtx_ssrc) × (t.repair_type ≡ s.rtx_type) × (t.receiver_ssrc ≡ s.receiver_ssrc) }
+        (t.media_ssrc ≡ s.media_ssrc) × (t.media_type ≡ s.media_type) × (t.repair_ssrc ≡ s.rtx_ssrc)
+        × (t.repair_type ≡ s.rtx_type) × (t.receiver_ssrc ≡ s.receiver_ssrc) }
     ensures sender { (f : SenderFields) → let c = sender_config f in
         (c.session ≡ streams_of f.session) × (c.first ≡ f.first) × (c.repair_first ≡ f.rtx_first) × (c.repeats ≡ f.repeats) }
     ensures receiver { (f : ReceiverFields) → let c = receiver_config f in

@@ -33,7 +33,8 @@ pub fn configurations_keep_their_fields()
 pub fn receivers_keep_the_rest()
     // Other times change neither what it holds and misses nor what it learnt.
     ensures timed { (r : Receiving) (patience delay retry : ℕ) → let s = with_times r patience delay retry in
-        (s.span ≡ r.span) × (s.learnt ≡ r.learnt) × (s.config.session ≡ r.config.session) × (s.config.asks ≡ r.config.asks) × (s.config.learns ≡ r.config.learns) }
+        (s.span ≡ r.span) × (s.learnt ≡ r.learnt)
+        × (s.config.session ≡ r.config.session) × (s.config.asks ≡ r.config.asks) × (s.config.learns ≡ r.config.learns) }
     // One that begins at a place, or anew, is configured as it was and keeps as many places.
     ensures begun { (r : Receiving) (first : ℕ) → let s = begun r first in
         (s.config ≡ r.config) × (s.span.capacity ≡ r.span.capacity) × (s.span.cursor ≡ Some first) × (s.learnt ≡ None) }
@@ -50,13 +51,13 @@ pub fn set_times_are_followed()
         → PlaysAny s.config.patience (state_of s) now answer new
         → (answer ≡ Played.Gap w.cursor) ↔ (m.noticed + patience ≤ now) }
     // A place that was not asked for is due exactly where the new delay is over since it was noticed,
-    ensures first { (r : Receiving) (patience delay retry now k : ℕ) (w : ReceiverState) (m : Missed) (answer : Option (ArrayVec ℕ)) (new : Option ReceiverState)
-        → let s = with_times r patience delay retry in
+    ensures first { (r : Receiving) (patience delay retry now k : ℕ) (w : ReceiverState) (m : Missed) (answer : Option (ArrayVec ℕ))
+        (new : Option ReceiverState) → let s = with_times r patience delay retry in
         0 < delay → 0 < r.config.asks → w.missing k ≡ Some m → m.asks ≡ 0 → (asked : AsksAny s.config (Some w) now answer new)
         → IsTrue (is_among asked.due k) ↔ (m.noticed + delay ≤ now) }
-    // and one that was, and may be again, where the new time between two asks is since the last one.
-    ensures again { (r : Receiving) (patience delay retry now k : ℕ) (w : ReceiverState) (m : Missed) (answer : Option (ArrayVec ℕ)) (new : Option ReceiverState)
-        → let s = with_times r patience delay retry in
+    // and one that was, and may be again, where the new time between two asks is over since the last one.
+    ensures again { (r : Receiving) (patience delay retry now k : ℕ) (w : ReceiverState) (m : Missed) (answer : Option (ArrayVec ℕ))
+        (new : Option ReceiverState) → let s = with_times r patience delay retry in
         0 < m.asks → m.asks < r.config.asks → w.missing k ≡ Some m → (asked : AsksAny s.config (Some w) now answer new)
         → IsTrue (is_among asked.due k) ↔ (m.last + retry ≤ now) }
 {}

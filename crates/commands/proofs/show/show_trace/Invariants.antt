@@ -1,6 +1,6 @@
 use Rattle.std.proofs.Common.{◌≡◌, ◌<◌, length, false}
 use Rattle.rtpwire.specs.Framing.{IsRest}
-use Rattle.commands.specs.Showing.{ShownOfRead}
+use Rattle.commands.proofs.ShowLemmas.{ShownOfRead}
 use Rattle.commands.proofs.show.show_trace.Given as goal
 
 -- what was read so far was shown
