@@ -76,6 +76,7 @@ TellsRepair (Err short) sent code sent' = code ≡ no_room
 -- what the endpoint's own call promises of its last packet
 pub record MarksAs (before : Sender) (marked : Marked) (after : Sender) : Type 0 where
   pub marks : MarksLast before.core.config.repeats (state_of before.core) marked (state_of after.core)
+  pub none : marked.places ≡ 0 → after.core ≡ before.core
   pub stays : Stays before.core after.core
   pub counts : after.counts ≡ before.counts
 

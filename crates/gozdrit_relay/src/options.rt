@@ -130,7 +130,7 @@ fn of_run<'a>(alloc: Global, command: Command<'a>) -> Result<Command<'a>, AllocE
             alloc,
             "packets",
             "N",
-            "Ends two seconds after so many packets",
+            "Ends once there were so many packets, and none for two seconds",
         ))?
         .arg(option(alloc, "seconds", "N", "Ends after so many seconds"))?
         .arg(option(
