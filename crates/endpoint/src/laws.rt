@@ -1,10 +1,11 @@
 //! Laws on what an endpoint is over all its calls. These functions compute nothing: their contracts are the laws.
-ghost use Rattle.std.specs.Prelude.{◌≡◌, ℕ, ◌-◌, ◌^◌, ◌<◌, ◌≤◌, List};
+ghost use Rattle.std.specs.Prelude.{◌≡◌, ℕ, List};
+ghost use Rattle.std.specs.List.{sum_by};
 ghost use Rattle.receiver.specs.Config.{Config};
 ghost use Rattle.endpoint.specs.declared.probation.Probation.{Probation};
-ghost use Rattle.endpoint.specs.Counts.{count_in_64};
+ghost use Rattle.endpoint.specs.Counts.{IsInFull};
 ghost use Rattle.endpoint.specs.Events.{Event, Endpoint, RunsOver};
-ghost use Rattle.endpoint.specs.Tally.{tally};
+ghost use Rattle.endpoint.specs.Tally.{tally, media_in, repairs_in, held_in, restarts_in, control_in, refused_as, refused_else, overrun_in, abandoned_in, played_in, gaps_in, asks_in, places_in};
 ghost use Rattle.endpoint.specs.Ledger.{Reached, ledger};
 ghost use Rattle.endpoint.specs.declared.send_counts.SendCounts.{SendCounts};
 ghost use Rattle.endpoint.specs.SendTally as sending;
@@ -22,8 +23,22 @@ pub fn sending_counts_are_exact()
 
 /// No count of an endpoint is cut off below 2^64, and none goes on from there.
 pub fn counts_are_in_full()
-    ensures below { (n : ℕ) → n < 2 ^ 64 → count_in_64 n ≡ n }
-    ensures above { (n : ℕ) → 2 ^ 64 ≤ n → count_in_64 n ≡ 2 ^ 64 - 1 }
+    ensures receiving { (events : List Event) → let t = tally events in
+        IsInFull t.media (sum_by media_in events) × IsInFull t.retransmissions (sum_by repairs_in events)
+        × IsInFull t.held_back (sum_by held_in events) × IsInFull t.restarts (sum_by restarts_in events)
+        × IsInFull t.control (sum_by control_in events) × IsInFull t.duplicate (sum_by (refused_as 36) events)
+        × IsInFull t.late (sum_by (refused_as 35) events) × IsInFull t.far (sum_by (refused_as 34) events)
+        × IsInFull t.refused (sum_by refused_else events) × IsInFull t.overrun (sum_by overrun_in events)
+        × IsInFull t.abandoned (sum_by abandoned_in events) × IsInFull t.played (sum_by played_in events)
+        × IsInFull t.gaps (sum_by gaps_in events) × IsInFull t.asks (sum_by asks_in events)
+        × IsInFull t.places_asked (sum_by places_in events) }
+    ensures sending { (events : List sending.Event) → let t = sending.tally events in
+        IsInFull t.sent (sum_by sending.sent_in events) × IsInFull t.octets (sum_by sending.octets_in events)
+        × IsInFull t.retransmissions (sum_by sending.repairs_in events) × IsInFull t.nacks (sum_by sending.nacks_in events)
+        × IsInFull t.others (sum_by sending.others_in events) × IsInFull t.numbers (sum_by sending.numbers_in events)
+        × IsInFull t.unknown (sum_by sending.unknown_in events) × IsInFull t.exhausted (sum_by sending.exhausted_in events)
+        × IsInFull t.media (sum_by sending.media_in events) × IsInFull t.reports (sum_by sending.reports_in events)
+        × IsInFull t.refused (sum_by sending.refused_in events) }
 {}
 
 /// What an endpoint believes is all that its receiver knows.
