@@ -1,10 +1,12 @@
 -- An ask for as many places as one ask looks at, or more, is an ask.
-use Rattle.std.proofs.Common.{◌≡◌, ◌↔◌, ℕ, zero, suc, ◌≤◌, ◌<◌, List, [], ◌∷◌, take, Option, Some, None, refl, sym, subst, arith}
+use Rattle.std.proofs.Common.{◌≡◌, ◌↔◌, ℕ, zero, suc, ◌≤◌, ◌<◌, List, [], ◌∷◌, take, Option, Some, None, refl, sym, subst, arith, false, ap, ◌∙◌}
+use Rattle.std.proofs.lemmas.Bool.Decides.{nat_tests}
+use Rattle.places.specs.Among.{is_among}
 use Rattle.arrayvec.specs.ArrayVec.{ArrayVec}
 use Rattle.stores.specs.Asking.{longest_ask}
 use Rattle.receiver.specs.Config.{Config}
 use Rattle.receiver.specs.Window.{ReceiverState}
-use Rattle.receiver.specs.Asks.{looked_at, AnswersAsk, AsksAny, AsksMost}
+use Rattle.receiver.specs.Asks.{is_due, looked_at, AnswersAsk, AsksAny, AsksMost}
 
 -- the first so many of some places are none only where all are
 pub none_of_few : (most : ℕ) (due : List ℕ) → 0 < most → take most due ≡ [] → due ≡ []
@@ -23,3 +25,21 @@ pub many_is_any : (c : Config) (old : Option ReceiverState) (now most : ℕ) (an
 many_is_any c old now most answer new l =
     let same : looked_at most ≡ longest_ask = omega arith in
     (as_many c now most longest_ask answer new same old, as_many c now longest_ask most answer new (sym same) old)
+
+-- places of which none is among them are none
+nobody : (places : List ℕ) → ((k : ℕ) → is_among places k ≡ false) → places ≡ []
+nobody [] none = refl
+nobody (x ∷ xs) none = let here = none x in absurd (grind (arith, nat_tests, here))
+
+no_few : (most : ℕ) (places : List ℕ) → places ≡ [] → take most places ≡ []
+no_few zero places e = refl
+no_few (suc most) places e = rw e refl
+
+-- an ask for a place or more asks for nothing exactly where none is due
+pub asks_where_due : (c : Config) (old : ReceiverState) (now most : ℕ) (answer : Option (ArrayVec ℕ)) (new : Option ReceiverState) → 0 < most →
+    AsksMost c (Some old) now most answer new → (answer ≡ None) ↔ ((k : ℕ) → is_due now c.delay c.retry c.asks (old.missing k) ≡ false)
+asks_where_due c old now most None new some a = (
+  λ _ k. sym (a.each.each k) ∙ ap (λ (due : List ℕ). is_among due k) (none_of_few (looked_at most) a.due (omega arith) a.answers.0),
+  λ _. refl,
+)
+asks_where_due c old now most (Some datagram) new some a = (λ e. absurd (cc), λ none. absurd (a.answers.0 (no_few (looked_at most) a.due (nobody a.due (λ k. a.each.each k ∙ none k)))))

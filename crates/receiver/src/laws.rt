@@ -1,6 +1,6 @@
 //! Laws on what a receiver answers. These functions compute nothing: their contracts are the laws, for callers that
 //! speak of places and contents alone.
-ghost use Rattle.std.specs.Prelude.{◌≡◌, ◌↔◌, ℕ, ◌+◌, ◌-◌, ◌^◌, ◌<◌, ◌≤◌, ◌==◌, ◌||◌, ◌&&◌, nat_lt, nat_le, List, Option, Some, None, Result, Ok};
+ghost use Rattle.std.specs.Prelude.{◌≡◌, ◌↔◌, ℕ, ◌+◌, ◌-◌, ◌^◌, ◌<◌, ◌≤◌, ◌==◌, ◌||◌, ◌&&◌, false, nat_lt, nat_le, List, Option, Some, None, Result, Ok};
 ghost use Rattle.std.specs.Option.{option_map};
 ghost use Rattle.std.specs.Result.{result_err};
 ghost use Rattle.arrayvec.specs.ArrayVec.{ArrayVec};
@@ -92,6 +92,9 @@ pub fn asking_most_is_asking()
     // For as many places as one ask looks at, or more, it is that ask.
     ensures all { (c : Config) (now most : ℕ) (old : Option ReceiverState) (answer : Option (ArrayVec ℕ)) (new : Option ReceiverState)
         → longest_ask ≤ most → AsksMost c old now most answer new ↔ AsksAny c old now answer new }
+    // For one place or more it asks for nothing exactly where no place is due.
+    ensures none { (c : Config) (now most : ℕ) (old : ReceiverState) (answer : Option (ArrayVec ℕ)) (new : Option ReceiverState)
+        → 0 < most → AsksMost c (Some old) now most answer new → (answer ≡ None) ↔ ((k : ℕ) → is_due now c.delay c.retry c.asks (old.missing k) ≡ false) }
 {
     packing_is_determined();
 }

@@ -1,9 +1,10 @@
 -- A receiver at which nothing is to be done plays nothing and asks for nothing.
-use Rattle.std.proofs.Common.{◌≡◌, ◌∙◌, ◌≤◌, ◌-◌, ℕ, List, Option, Some, None, refl, ap, subst, slice_get, take, arith}
+use Rattle.std.proofs.Common.{◌≡◌, ◌∙◌, ◌≤◌, ◌<◌, ◌-◌, ℕ, zero, suc, List, [], ◌∷◌, Option, Some, None, refl, ap, subst, slice_get, take, arith}
 use Rattle.stores.specs.declared.slot.Slot.{Slot}
 use Rattle.stores.specs.declared.slot.Slot.TheVariants.{Held, Missing}
 use Rattle.stores.specs.Span.{Span, front_of}
 use Rattle.stores.specs.ByPlace.{slot_at, slot_at_cursor, slot_from}
+use Rattle.stores.specs.Asking.{longest_ask}
 use Rattle.receiver.specs.declared.answer.Played.TheVariants.{Wait}
 use Rattle.receiver.specs.Config.{Config}
 use Rattle.receiver.specs.Asks.{AsksAny, AsksMost}
@@ -32,7 +33,14 @@ waits_at patience now learnt (Some k) s is plays =
 pub waits : (patience now : ℕ) (learnt : Option ℕ) (s : Span) → PlaysAny patience (window_of learnt s) now Wait (window_of learnt s) → play_of patience now s ≡ Wait
 waits patience now learnt s plays = waits_at patience now learnt s.cursor s refl plays
 
+-- where the first so many of some places are none, so are the first few
+none_too : (many few : ℕ) (places : List ℕ) → 0 < many → take many places ≡ [] → take few places ≡ []
+none_too zero few places some none = absurd (omega arith)
+none_too (suc many) zero [] some none = refl
+none_too (suc many) (suc few) [] some none = refl
+none_too (suc many) few (x ∷ xs) some none = absurd (cc)
+
 pub asks_nothing : (c : Config) (state : Option ReceiverState) (now : ℕ) → AsksAny c state now None state → AsksMost c state now 256 None state
 asks_nothing c None now asks = asks
 asks_nothing c (Some old) now asks =
-    record { due = asks.due; each = asks.each; answers = (ap (take 256) asks.answers.0, asks.answers.1) }
+    record { due = asks.due; each = asks.each; answers = (none_too longest_ask 256 asks.due (omega arith) asks.answers.0, asks.answers.1) }
