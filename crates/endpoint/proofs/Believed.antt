@@ -5,13 +5,15 @@ use Rattle.std.proofs.Math.Numerals.{add-one}
 use Rattle.receiver.specs.declared.answer.Taken.{Taken}
 use Rattle.receiver.specs.declared.fault.ReceiveFault.{ReceiveFault}
 use Rattle.receiver.specs.Config.{Config}
+use Rattle.stores.specs.Span.{highest_of}
 use Rattle.receiver.specs.Receiver.{Receiving, restarted, with_times}
 use Rattle.endpoint.specs.declared.probation.Probation.{Probation}
 use Rattle.endpoint.specs.declared.holding.Run.{Run}
 use Rattle.endpoint.specs.declared.heard.Heard.{Heard}
 use Rattle.endpoint.specs.declared.heard.Heard.TheVariants.{HeldBack, Restarted}
 use Rattle.endpoint.specs.Demultiplex.{is_control}
-use Rattle.endpoint.specs.Receiving.{Ends, Handed, AfterHeld, Believes, HearsWanted, HoldsBack, HearsPacket, HearsKind, follows, spare_before, run_before, run_after, wants_more, as_heard, held_answer, held_ends, kept_in}
+use Rattle.endpoint.specs.Probation.{goes_on as near, wanted_of_run}
+use Rattle.endpoint.specs.Receiving.{Ends, Handed, AfterHeld, Believes, HearsWanted, HoldsBack, HearsPacket, HearsKind, follows, spare_before, run_before, run_after, run_refused, wants_more, as_heard, held_answer, held_ends, kept_in}
 use Rattle.endpoint.specs.Events.{Event, Endpoint, Steps, RunsOver, heard, played, asked, begun_at, restarted_by_call, timed}
 use Rattle.endpoint.specs.Ledger.{Deed, takes, plays, asks, begins, sets, IsPlain, Does, Reached, Ledger, at_core, noted, held_before, ledger}
 
@@ -49,19 +51,20 @@ module _ (capacity : ℕ) (octets : List ℕ) (now : ℕ) where
   not_first more deeds = ap (λ (b : Bool). if b then [] else deeds) (ne_eqb (suc more + 1) 1 (omega arith))
 
   -- what is held back with this packet, where it goes on with others, and where it is the first
-  goes_on : (count next seq : ℕ) (deeds : List Deed) (plain : List ℕ) (taken : Taken) (spare mid : Receiving)
-      → (nat_lt 0 count && (next == seq)) ≡ true → HeldSo capacity deeds count spare → IsPlain octets plain → Handed spare plain now (Ok taken) mid
+  goes_on : (count : ℕ) (near : Bool) (deeds : List Deed) (plain : List ℕ) (taken : Taken) (spare mid : Receiving)
+      → (nat_lt 0 count && near) ≡ true → HeldSo capacity deeds count spare → IsPlain octets plain → Handed spare plain now (Ok taken) mid
       → Reached capacity (takes octets now ∷ held_before (count + 1) deeds) mid
-  goes_on zero next seq deeds plain taken spare mid follow held is_plain handed = absurd cc
-  goes_on (suc more) next seq deeds plain taken spare mid follow held is_plain handed =
+  goes_on zero near deeds plain taken spare mid follow held is_plain handed = absurd cc
+  goes_on (suc more) near deeds plain taken spare mid follow held is_plain handed =
       subst (λ (ds : List Deed). Reached capacity (takes octets now ∷ ds) mid) (sym (not_first more deeds)) (one_more deeds plain taken spare mid is_plain held handed)
 
-  held_so : (old : Ends) (wanted seq : ℕ) (l : Ledger) (plain : List ℕ) (taken : Taken) (mid : Receiving) (follow : Bool)
-      → follows old.run seq ≡ follow → IsPlain octets plain → Agrees capacity l old
+  held_so : (p : Probation) (old : Ends) (wanted seq : ℕ) (l : Ledger) (plain : List ℕ) (taken : Taken) (mid : Receiving) (follow : Bool)
+      → follows p old.run (highest_of old.spare.span) seq ≡ follow → IsPlain octets plain → Agrees capacity l old
       → Handed (if follow then old.spare else restarted old.spare) plain now (Ok taken) mid
-      → Reached capacity (takes octets now ∷ held_before ((if follow then old.run else record { count = 0; wanted = wanted; next = seq }).count + 1) l.held) mid
-  held_so old wanted seq l plain taken mid true so is_plain agrees handed = goes_on old.run.count old.run.next seq l.held plain taken old.spare mid so agrees.held is_plain handed
-  held_so old wanted seq l plain taken mid false so is_plain agrees handed = one_more [] plain taken (restarted old.spare) mid is_plain (anew old.spare agrees.spare_room) handed
+      → Reached capacity (takes octets now ∷ held_before ((if follow then old.run else record { count = 0; wanted = wanted_of_run p.silence p wanted; next = seq; last = old.run.last }).count + 1) l.held) mid
+  held_so p old wanted seq l plain taken mid true so is_plain agrees handed =
+      goes_on old.run.count (near p.silence p (highest_of old.spare.span) old.run.next seq) l.held plain taken old.spare mid so agrees.held is_plain handed
+  held_so p old wanted seq l plain taken mid false so is_plain agrees handed = one_more [] plain taken (restarted old.spare) mid is_plain (anew old.spare agrees.spare_room) handed
 
   spare_kept : (old : Ends) (seq : ℕ) (follow : Bool) → old.spare.span.capacity ≡ capacity → (if follow then old.spare else restarted old.spare).span.capacity ≡ capacity
   spare_kept old seq true room = room
@@ -71,7 +74,7 @@ module _ (capacity : ℕ) (octets : List ℕ) (now : ℕ) where
   counted_so : (more : Bool) (old : Ends) (run : Run) (seq : ℕ) (l : Ledger) (taken : Taken) (mid : Receiving) (answer : Result Heard ReceiveFault) (new : Ends)
       → Agrees capacity l old → mid.span.capacity ≡ capacity
       → Reached capacity (takes octets now ∷ held_before (run.count + 1) l.held) mid
-      → answer ≡ Ok (held_answer more taken (run.count + 1) (kept_in old.core.span)) → new ≡ held_ends more old mid run seq
+      → answer ≡ Ok (held_answer more taken (run.count + 1) (kept_in old.core.span)) → new ≡ held_ends more old mid run seq now
       → Agrees capacity (noted (heard octets now answer) l) new
   counted_so true old run seq l taken mid answer new agrees room reached answered is =
       subst (λ (a : Result Heard ReceiveFault). Agrees capacity (noted (heard octets now a) l) new) (sym answered)
@@ -82,61 +85,81 @@ module _ (capacity : ℕ) (octets : List ℕ) (now : ℕ) where
       (subst (Agrees capacity (noted (heard octets now (Ok (Restarted (record { taken = taken; held = run.count + 1; abandoned = kept_in old.core.span })))) l)) (sym is)
       (record { core = reached; held = tt; core_room = room; spare_room = agrees.core_room }))
 
-  -- a packet that is not believed
-  holds_so : (old : Ends) (wanted seq : ℕ) (plain : List ℕ) (l : Ledger) (answer : Result Heard ReceiveFault) (new : Ends)
-      → IsPlain octets plain → Agrees capacity l old → HoldsBack old wanted seq plain now answer new → Agrees capacity (noted (heard octets now answer) l) new
-  holds_so old wanted seq plain l answer new is_plain agrees held = by_taken held.taken held.handed held.after
-    where
-      room : (taken : Result Taken ReceiveFault) → Handed (spare_before old.spare old.run seq) plain now taken held.mid → held.mid.span.capacity ≡ capacity
-      room taken handed = handed.stays.capacity ∙ spare_kept old seq (follows old.run seq) agrees.spare_room
+  -- what a refusal leaves of what is held back
+  left_so : (silence : Option ℕ) (deeds : List Deed) (run : Run) (r : Receiving) → HeldSo capacity deeds run.count r → HeldSo capacity deeds (run_refused silence run).count r
+  left_so None deeds run r held = tt
+  left_so (Some span) deeds run r held = held
 
-      by_taken : (taken : Result Taken ReceiveFault) → Handed (spare_before old.spare old.run seq) plain now taken held.mid
-          → AfterHeld old held.mid (run_before old.run wanted seq) seq taken answer new → Agrees capacity (noted (heard octets now answer) l) new
+  refused_so : (p : Probation) (old : Ends) (wanted seq : ℕ) (deeds : List Deed) (mid : Receiving) (follow : Bool) → HeldSo capacity deeds old.run.count old.spare
+      → mid ≡ (if follow then old.spare else restarted old.spare)
+      → HeldSo capacity deeds (if follow then old.run else record { count = 0; wanted = wanted_of_run p.silence p wanted; next = seq; last = old.run.last }).count mid
+  refused_so p old wanted seq deeds mid true held same = subst (HeldSo capacity deeds old.run.count) (sym same) held
+  refused_so p old wanted seq deeds mid false held same = tt
+
+  -- a packet that is not believed
+  holds_so : (p : Probation) (old : Ends) (wanted seq : ℕ) (plain : List ℕ) (l : Ledger) (answer : Result Heard ReceiveFault) (new : Ends)
+      → IsPlain octets plain → Agrees capacity l old → HoldsBack p old wanted seq plain now answer new → Agrees capacity (noted (heard octets now answer) l) new
+  holds_so p old wanted seq plain l answer new is_plain agrees held = by_taken held.taken held.handed held.after
+    where
+      room : (taken : Result Taken ReceiveFault) → Handed (spare_before p old.spare old.run seq) plain now taken held.mid → held.mid.span.capacity ≡ capacity
+      room taken handed = handed.stays.capacity ∙ spare_kept old seq (follows p old.run (highest_of old.spare.span) seq) agrees.spare_room
+
+      by_taken : (taken : Result Taken ReceiveFault) → Handed (spare_before p old.spare old.run seq) plain now taken held.mid
+          → AfterHeld p old held.mid (run_before p old.run (highest_of old.spare.span) wanted seq) seq now taken answer new → Agrees capacity (noted (heard octets now answer) l) new
       by_taken (Ok taken) handed after =
-          counted_so (wants_more (run_before old.run wanted seq)) old (run_before old.run wanted seq) seq l taken held.mid answer new agrees (room (Ok taken) handed)
-          (held_so old wanted seq l plain taken held.mid (follows old.run seq) refl is_plain agrees handed) after.0 after.1
+          counted_so (wants_more p (run_before p old.run (highest_of old.spare.span) wanted seq) now) old (run_before p old.run (highest_of old.spare.span) wanted seq) seq l taken held.mid answer new agrees (room (Ok taken) handed)
+          (held_so p old wanted seq l plain taken held.mid (follows p old.run (highest_of old.spare.span) seq) refl is_plain agrees handed) after.0 after.1
       by_taken (Err fault) handed after =
+          let kept = refused_so p old wanted seq l.held held.mid (follows p old.run (highest_of old.spare.span) seq) agrees.held handed.refused in
           subst (λ (a : Result Heard ReceiveFault). Agrees capacity (noted (heard octets now a) l) new) (sym after.0)
-          (subst (Agrees capacity l) (sym after.1) (record { core = agrees.core; held = tt; core_room = agrees.core_room; spare_room = room (Err fault) handed }))
+          (subst (Agrees capacity l) (sym after.1)
+          (record {
+            core = agrees.core;
+            held = left_so p.silence l.held (run_before p old.run (highest_of old.spare.span) wanted seq) held.mid kept;
+            core_room = agrees.core_room;
+            spare_room = room (Err fault) handed;
+          }))
 
   -- a packet that is believed
-  held_after : (number : Option ℕ) (run : Run) (deeds : List Deed) (spare : Receiving) → HeldSo capacity deeds run.count spare → HeldSo capacity deeds (run_after number run).count spare
-  held_after None run deeds spare held = held
-  held_after (Some seq) run deeds spare held = tt
+  held_after : (silence number : Option ℕ) (taken : Result Taken ReceiveFault) (run : Run) (deeds : List Deed) (spare : Receiving) → HeldSo capacity deeds run.count spare →
+      HeldSo capacity deeds (run_after silence number taken now run).count spare
+  held_after silence None taken run deeds spare held = held
+  held_after silence (Some seq) (Ok taken) run deeds spare held = tt
+  held_after silence (Some seq) (Err fault) run deeds spare held = left_so silence deeds run spare held
 
-  believed_so : (number : Option ℕ) (old : Ends) (plain : List ℕ) (l : Ledger) (answer : Result Heard ReceiveFault) (new : Ends)
-      → IsPlain octets plain → Agrees capacity l old → Believes old number plain now answer new → Agrees capacity (noted (heard octets now answer) l) new
-  believed_so number old plain l answer new is_plain agrees believes = by_taken number believes.taken believes.handed believes.answered believes.run
+  believed_so : (p : Probation) (number : Option ℕ) (old : Ends) (plain : List ℕ) (l : Ledger) (answer : Result Heard ReceiveFault) (new : Ends)
+      → IsPlain octets plain → Agrees capacity l old → Believes p old number plain now answer new → Agrees capacity (noted (heard octets now answer) l) new
+  believed_so p number old plain l answer new is_plain agrees believes = by_taken number believes.taken believes.handed believes.answered believes.run
     where
-      held : (n : Option ℕ) → new.run ≡ run_after n old.run → HeldSo capacity l.held new.run.count new.spare
-      held n run =
+      held : (n : Option ℕ) (taken : Result Taken ReceiveFault) → new.run ≡ run_after p.silence n taken now old.run → HeldSo capacity l.held new.run.count new.spare
+      held n taken run =
           subst (λ (r : Run). HeldSo capacity l.held r.count new.spare) (sym run)
-          (subst (HeldSo capacity l.held (run_after n old.run).count) (sym believes.spare) (held_after n old.run l.held old.spare agrees.held))
+          (subst (HeldSo capacity l.held (run_after p.silence n taken now old.run).count) (sym believes.spare) (held_after p.silence n taken old.run l.held old.spare agrees.held))
 
       spare_room : new.spare.span.capacity ≡ capacity
       spare_room = ap (λ (r : Receiving). r.span.capacity) believes.spare ∙ agrees.spare_room
 
-      took : (n : Option ℕ) (taken : Taken) → Handed old.core plain now (Ok taken) new.core → new.run ≡ run_after n old.run → Agrees capacity (at_core (takes octets now) l) new
+      took : (n : Option ℕ) (taken : Taken) → Handed old.core plain now (Ok taken) new.core → new.run ≡ run_after p.silence n (Ok taken) now old.run → Agrees capacity (at_core (takes octets now) l) new
       took n taken handed run =
-          record { core = one_more l.core plain taken old.core new.core is_plain agrees.core handed; held = held n run; core_room = handed.stays.capacity ∙ agrees.core_room; spare_room = spare_room }
+          record { core = one_more l.core plain taken old.core new.core is_plain agrees.core handed; held = held n (Ok taken) run; core_room = handed.stays.capacity ∙ agrees.core_room; spare_room = spare_room }
 
-      by_taken : (n : Option ℕ) (taken : Result Taken ReceiveFault) → Handed old.core plain now taken new.core → answer ≡ as_heard n taken → new.run ≡ run_after n old.run
+      by_taken : (n : Option ℕ) (taken : Result Taken ReceiveFault) → Handed old.core plain now taken new.core → answer ≡ as_heard n taken → new.run ≡ run_after p.silence n taken now old.run
           → Agrees capacity (noted (heard octets now answer) l) new
       by_taken None (Ok taken) handed answered run = subst (λ (a : Result Heard ReceiveFault). Agrees capacity (noted (heard octets now a) l) new) (sym answered) (took None taken handed run)
       by_taken (Some seq) (Ok taken) handed answered run = subst (λ (a : Result Heard ReceiveFault). Agrees capacity (noted (heard octets now a) l) new) (sym answered) (took (Some seq) taken handed run)
       by_taken n (Err fault) handed answered run =
           subst (λ (a : Result Heard ReceiveFault). Agrees capacity (noted (heard octets now a) l) new) (sym (answered ∙ err_heard n fault))
-          (record { core = subst (Reached capacity l.core) (sym handed.refused) agrees.core; held = held n run; core_room = handed.stays.capacity ∙ agrees.core_room; spare_room = spare_room })
+          (record { core = subst (Reached capacity l.core) (sym handed.refused) agrees.core; held = held n (Err fault) run; core_room = handed.stays.capacity ∙ agrees.core_room; spare_room = spare_room })
 
-  wanted_so : (wanted : ℕ) (number : Option ℕ) (old : Ends) (plain : List ℕ) (l : Ledger) (answer : Result Heard ReceiveFault) (new : Ends)
-      → IsPlain octets plain → Agrees capacity l old → HearsWanted old wanted number plain now answer new → Agrees capacity (noted (heard octets now answer) l) new
-  wanted_so wanted None old plain l answer new is_plain agrees hears = believed_so None old plain l answer new is_plain agrees hears
-  wanted_so zero (Some seq) old plain l answer new is_plain agrees hears = believed_so (Some seq) old plain l answer new is_plain agrees hears
-  wanted_so (suc more) (Some seq) old plain l answer new is_plain agrees hears = holds_so old (suc more) seq plain l answer new is_plain agrees hears
+  wanted_so : (p : Probation) (wanted : ℕ) (number : Option ℕ) (old : Ends) (plain : List ℕ) (l : Ledger) (answer : Result Heard ReceiveFault) (new : Ends)
+      → IsPlain octets plain → Agrees capacity l old → HearsWanted p old wanted number plain now answer new → Agrees capacity (noted (heard octets now answer) l) new
+  wanted_so p wanted None old plain l answer new is_plain agrees hears = believed_so p None old plain l answer new is_plain agrees hears
+  wanted_so p zero (Some seq) old plain l answer new is_plain agrees hears = believed_so p (Some seq) old plain l answer new is_plain agrees hears
+  wanted_so p (suc more) (Some seq) old plain l answer new is_plain agrees hears = holds_so p old (suc more) seq plain l answer new is_plain agrees hears
 
   packet_so : (p : Probation) (old : Ends) (plain : List ℕ) (l : Ledger) (answer : Result Heard ReceiveFault) (new : Ends)
       → IsPlain octets plain → Agrees capacity l old → HearsPacket p old plain now answer new → Agrees capacity (noted (heard octets now answer) l) new
-  packet_so p old plain l answer new is_plain agrees hears = wanted_so _ hears.number old plain l answer new is_plain agrees hears.heard
+  packet_so p old plain l answer new is_plain agrees hears = wanted_so p _ hears.number old plain l answer new is_plain agrees hears.heard
 
   kind_so : (control : Bool) (p : Probation) (old : Ends) (plain : Option (List ℕ)) (l : Ledger) (answer : Result Heard ReceiveFault) (new : Ends)
       → Agrees capacity l old → HearsKind control p old plain octets now answer new → Agrees capacity (noted (heard octets now answer) l) new

@@ -2,3 +2,4 @@ pub mod Adding
 pub mod Tallied
 pub mod SendTallied
 pub mod Believed
+mod Silences

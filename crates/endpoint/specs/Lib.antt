@@ -2,6 +2,7 @@ pub mod Counts
 pub mod Demultiplex
 pub mod Events
 pub mod Ledger
+pub mod Silence
 pub mod Padding
 pub mod Probation
 pub mod ReceiveCounts

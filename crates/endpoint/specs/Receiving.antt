@@ -13,7 +13,7 @@ use Rattle.endpoint.specs.declared.probation.Probation.{Probation}
 use Rattle.endpoint.specs.declared.holding.Run.{Run}
 use Rattle.endpoint.specs.declared.heard.Heard.{Heard}
 use Rattle.endpoint.specs.declared.heard.Heard.TheVariants as heard
-use Rattle.endpoint.specs.Probation.{wanted_for}
+use Rattle.endpoint.specs.Probation.{wanted_for, goes_on, wanted_of_run, wanted_now}
 use Rattle.endpoint.specs.Demultiplex.{is_control}
 use Rattle.endpoint.specs.Padding.{IsStripped}
 
@@ -41,20 +41,24 @@ pub record Handed (old : Receiving) (octets : List ℕ) (now : ℕ) (answer : Re
   pub refused : OnErr answer (new ≡ old)
   pub stays : Stays old new
 
--- a run of which there is nothing
-abbrev pub no_run : Run
-no_run = record { count = 0; wanted = 0; next = 0 }
+-- Nothing is held back; media was last taken at this moment.
+abbrev pub none_held : (last : ℕ) → Run
+none_held last = record { count = 0; wanted = 0; next = 0; last = last }
 
--- the packet with this number goes on with what is held back
-abbrev pub follows : Run → (seq : ℕ) → Bool
-follows run seq = nat_lt 0 run.count && (run.next == seq)
+abbrev pub no_run : Run
+no_run = none_held 0
+
+-- the packet with this number goes on with what is held back, of which this is the highest place
+abbrev pub follows : Probation → Run → (highest : Option ℕ) → (seq : ℕ) → Bool
+follows p run highest seq = nat_lt 0 run.count && goes_on p.silence p highest run.next seq
 
 -- what is held back before this packet: the same, or nothing, by a receiver that took nothing
-abbrev pub run_before : Run → (wanted seq : ℕ) → Run
-run_before run wanted seq = if follows run seq then run else record { count = 0; wanted = wanted; next = seq }
+abbrev pub run_before : Probation → Run → (highest : Option ℕ) → (wanted seq : ℕ) → Run
+run_before p run highest wanted seq =
+    if follows p run highest seq then run else record { count = 0; wanted = wanted_of_run p.silence p wanted; next = seq; last = run.last }
 
-abbrev pub spare_before : Receiving → Run → (seq : ℕ) → Receiving
-spare_before spare run seq = if follows run seq then spare else restarted spare
+abbrev pub spare_before : Probation → Receiving → Run → (seq : ℕ) → Receiving
+spare_before p spare run seq = if follows p run (highest_of spare.span) seq then spare else restarted spare
 
 -- both receivers of an endpoint, and what is held back
 pub record Ends : Type 0 where
@@ -84,26 +88,32 @@ abbrev pub held_answer : Bool → Taken → (held abandoned : ℕ) → Heard
 held_answer more taken held abandoned =
     if more then heard.HeldBack held else heard.Restarted (record { taken = taken; held = held; abandoned = abandoned })
 
-abbrev pub held_ends : Bool → Ends → (mid : Receiving) → Run → (seq : ℕ) → Ends
-held_ends more old mid run seq =
+abbrev pub held_ends : Bool → Ends → (mid : Receiving) → Run → (seq now : ℕ) → Ends
+held_ends more old mid run seq now =
     if more
-    then record { core = old.core; spare = mid; run = record { count = run.count + 1; wanted = run.wanted; next = (seq + 1) % 65536 } }
-    else record { core = mid; spare = old.core; run = no_run }
+    then record { core = old.core; spare = mid; run = record { count = run.count + 1; wanted = run.wanted; next = (seq + 1) % 65536; last = run.last } }
+    else record { core = mid; spare = old.core; run = none_held now }
 
 -- more are wanted after this one
-abbrev pub wants_more : Run → Bool
-wants_more run = nat_lt (run.count + 1) run.wanted
+abbrev pub wants_more : Probation → Run → (now : ℕ) → Bool
+wants_more p run now = nat_lt (run.count + 1) (wanted_now p run.wanted run.last now)
 
-abbrev pub AfterHeld : Ends → (mid : Receiving) → Run → (seq : ℕ) → Result Taken ReceiveFault → Result Heard ReceiveFault → Ends → Type 0
-AfterHeld old mid run seq (Err fault) answer new = (answer ≡ Err fault) × (new ≡ record { core = old.core; spare = mid; run = no_run })
-AfterHeld old mid run seq (Ok taken) answer new = (answer ≡ Ok (held_answer (wants_more run) taken (run.count + 1) (kept_in old.core.span))) × (new ≡ held_ends (wants_more run) old mid run seq)
+-- what a refusal leaves of a run: in sequence nothing, by the stream all
+abbrev pub run_refused : (silence : Option ℕ) → Run → Run
+run_refused None run = none_held run.last
+run_refused (Some span) run = run
+
+abbrev pub AfterHeld : Probation → Ends → (mid : Receiving) → Run → (seq now : ℕ) → Result Taken ReceiveFault → Result Heard ReceiveFault → Ends → Type 0
+AfterHeld p old mid run seq now (Err fault) answer new = (answer ≡ Err fault) × (new ≡ record { core = old.core; spare = mid; run = run_refused p.silence run })
+AfterHeld p old mid run seq now (Ok taken) answer new =
+    (answer ≡ Ok (held_answer (wants_more p run now) taken (run.count + 1) (kept_in old.core.span))) × (new ≡ held_ends (wants_more p run now) old mid run seq now)
 
 -- a packet that is not believed
-pub record HoldsBack (old : Ends) (wanted seq : ℕ) (octets : List ℕ) (now : ℕ) (answer : Result Heard ReceiveFault) (new : Ends) : Type 0 where
+pub record HoldsBack (p : Probation) (old : Ends) (wanted seq : ℕ) (octets : List ℕ) (now : ℕ) (answer : Result Heard ReceiveFault) (new : Ends) : Type 0 where
   pub mid : Receiving
   pub taken : Result Taken ReceiveFault
-  pub handed : Handed (spare_before old.spare old.run seq) octets now taken mid
-  pub after : AfterHeld old mid (run_before old.run wanted seq) seq taken answer new
+  pub handed : Handed (spare_before p old.spare old.run seq) octets now taken mid
+  pub after : AfterHeld p old mid (run_before p old.run (highest_of old.spare.span) wanted seq) seq now taken answer new
 
 -- the answer of a receiver as the endpoint's: what it took is media, or else a retransmission
 abbrev pub as_heard : (number : Option ℕ) → Result Taken ReceiveFault → Result Heard ReceiveFault
@@ -111,31 +121,32 @@ as_heard (Some seq) (Ok taken) = Ok (heard.Media taken)
 as_heard None (Ok taken) = Ok (heard.Repair taken)
 as_heard number (Err fault) = Err fault
 
--- media that is believed ends what is held back, and no other packet does
-abbrev pub run_after : (number : Option ℕ) → Run → Run
-run_after (Some seq) run = no_run
-run_after None run = run
+-- Media that is taken ends what is held back; where it is refused, it does so in sequence, and by the stream not. No other packet does.
+abbrev pub run_after : (silence : Option ℕ) → (number : Option ℕ) → Result Taken ReceiveFault → (now : ℕ) → Run → Run
+run_after silence None taken now run = run
+run_after silence (Some seq) (Ok taken) now run = none_held now
+run_after silence (Some seq) (Err fault) now run = run_refused silence run
 
 -- a packet that is believed
-pub record Believes (old : Ends) (number : Option ℕ) (octets : List ℕ) (now : ℕ) (answer : Result Heard ReceiveFault) (new : Ends) : Type 0 where
+pub record Believes (p : Probation) (old : Ends) (number : Option ℕ) (octets : List ℕ) (now : ℕ) (answer : Result Heard ReceiveFault) (new : Ends) : Type 0 where
   pub taken : Result Taken ReceiveFault
   pub handed : Handed old.core octets now taken new.core
   pub answered : answer ≡ as_heard number taken
   pub spare : new.spare ≡ old.spare
-  pub run : new.run ≡ run_after number old.run
+  pub run : new.run ≡ run_after p.silence number taken now old.run
 
 -- What is heard of a packet, by how many in sequence are wanted and its number.
-abbrev pub HearsWanted : Ends → (wanted : ℕ) → (number : Option ℕ) → (octets : List ℕ) → (now : ℕ) → Result Heard ReceiveFault → Ends → Type 0
-HearsWanted old wanted None octets now answer new = Believes old None octets now answer new
-HearsWanted old zero (Some seq) octets now answer new = Believes old (Some seq) octets now answer new
-HearsWanted old (suc more) (Some seq) octets now answer new = HoldsBack old (suc more) seq octets now answer new
+abbrev pub HearsWanted : Probation → Ends → (wanted : ℕ) → (number : Option ℕ) → (octets : List ℕ) → (now : ℕ) → Result Heard ReceiveFault → Ends → Type 0
+HearsWanted p old wanted None octets now answer new = Believes p old None octets now answer new
+HearsWanted p old zero (Some seq) octets now answer new = Believes p old (Some seq) octets now answer new
+HearsWanted p old (suc more) (Some seq) octets now answer new = HoldsBack p old (suc more) seq octets now answer new
 
 -- a packet, by the number that it has, if it is media
 pub record HearsPacket (p : Probation) (old : Ends) (octets : List ℕ) (now : ℕ) (answer : Result Heard ReceiveFault) (new : Ends) : Type 0 where
   pub number : Option ℕ
   pub is_number : IsMediaNumber old.core.config.session octets number
   pub spelled : IsSpelledWhere octets number
-  pub heard : HearsWanted old (wanted_at p (highest_of old.core.span) number) number octets now answer new
+  pub heard : HearsWanted p old (wanted_at p (highest_of old.core.span) number) number octets now answer new
 
 -- a packet that is all padding is heard without it
 abbrev pub HearsStripped : Probation → Ends → (plain : Option (List ℕ)) → (octets : List ℕ) → (now : ℕ) → Result Heard ReceiveFault → Ends → Type 0

@@ -2,7 +2,7 @@
 ghost use Rattle.std.specs.Prelude.{◌≡◌, Ok};
 ghost use Rattle.stores.specs.Span.{highest_of};
 ghost use Rattle.receiver.specs.Receiver.{Receiving};
-ghost use Rattle.endpoint.specs.Receiving.{ends_of, Handed, AfterHeld, Believes, HearsWanted, HoldsBack, follows, kept_in, wanted_at};
+ghost use Rattle.endpoint.specs.Receiving.{ends_of, Handed, AfterHeld, Believes, HearsWanted, HoldsBack, follows, kept_in, none_held, run_refused, wanted_at};
 
 use crate::heard::{Heard, Restart};
 use crate::probation::Probation;
@@ -11,27 +11,48 @@ use receiver::{ReceiveFault, Receiver, Taken};
 use std::mem;
 use stores::Window;
 
-/// Packets in sequence that are held back: how many, how many are wanted, and which number is the next.
+/// Packets that are held back: how many, how many are wanted, and which number is the next in sequence; and the moment at which
+/// a media packet was last taken.
 #[derive(Clone, Copy, Debug, PartialEq, Eq)]
 pub struct Run {
     pub count: u16,
     pub wanted: u16,
     pub next: u16,
+    pub last: u64,
 }
 
 impl Run {
-    /// Nothing is held back.
+    /// Nothing is held back, and no media was taken.
     pub(crate) const NONE: Run = Run {
         count: 0,
         wanted: 0,
         next: 0,
+        last: 0,
     };
 
-    /// Whether the packet with this number goes on with what is held back.
-    fn is_followed_by(&self, seq: u16) -> bool
-        ensures { result ≡ follows self.now seq }
+    /// Nothing is held back, and media was last taken at this moment.
+    fn none_held(last: u64) -> Run
+        ensures { result ≡ none_held last }
     {
-        self.count > 0 && self.next == seq
+        Run { last, ..Run::NONE }
+    }
+
+    /// What a refusal leaves of it.
+    fn refused(self, probation: &Probation) -> Run
+        ensures { result ≡ run_refused probation.now.silence self }
+    {
+        if probation.is_in_sequence() {
+            Run::none_held(self.last)
+        } else {
+            self
+        }
+    }
+
+    /// Whether the packet with this number goes on with what is held back, of which this is the highest place.
+    fn is_followed_by(&self, probation: &Probation, highest: Option<Place>, seq: u16) -> bool
+        ensures { result ≡ follows probation.now self.now highest seq }
+    {
+        self.count > 0 && probation.goes_on(highest, self.next, seq)
     }
 }
 
@@ -54,33 +75,41 @@ pub(crate) fn hear_wanted<W: Window>(
     core: &mut Receiver<W>,
     spare: &mut Receiver<W>,
     run: &mut Run,
+    probation: &Probation,
     wanted: u16,
     number: Option<u16>,
     octets: &[u8],
     now: u64,
 ) -> Result<Heard, ReceiveFault>
-    ensures { HearsWanted (ends_of core.old spare.old run.old) wanted number octets.now now result (ends_of core.new spare.new run.new) }
+    ensures { HearsWanted probation.now (ends_of core.old spare.old run.old) wanted number octets.now now result (ends_of core.new spare.new run.new) }
 {
     match number {
-        Some(seq) if wanted > 0 => hold_back(core, spare, run, wanted, seq, octets, now),
-        _ => believe(core, run, number, octets, now),
+        Some(seq) if wanted > 0 => {
+            hold_back(core, spare, run, probation, wanted, seq, octets, now)
+        }
+        _ => believe(core, run, probation, number, octets, now),
     }
 }
 
-/// Hears a packet that is believed. If it is media, what is held back is not.
+/// Hears a packet that is believed. If it is media that is taken, what is held back is not.
 fn believe<W: Window>(
     core: &mut Receiver<W>,
     run: &mut Run,
+    probation: &Probation,
     number: Option<u16>,
     octets: &[u8],
     now: u64,
 ) -> Result<Heard, ReceiveFault>
-    ensures { (spare : Receiving) → Believes (ends_of core.old spare run.old) number octets.now now result (ends_of core.new spare run.new) }
+    ensures { (spare : Receiving) → Believes probation.now (ends_of core.old spare run.old) number octets.now now result (ends_of core.new spare run.new) }
 {
+    let taken = hand(core, octets, now);
     if number.is_some() {
-        *run = Run::NONE;
+        *run = match &taken {
+            Ok(_) => Run::none_held(now),
+            Err(_) => run.refused(probation),
+        };
     }
-    match hand(core, octets, now) {
+    match taken {
         Ok(taken) if number.is_some() => Ok(Heard::Media(taken)),
         Ok(taken) => Ok(Heard::Repair(taken)),
         Err(fault) => Err(fault),
@@ -103,27 +132,29 @@ fn hold_back<W: Window>(
     core: &mut Receiver<W>,
     spare: &mut Receiver<W>,
     run: &mut Run,
+    probation: &Probation,
     wanted: u16,
     seq: u16,
     octets: &[u8],
     now: u64,
 ) -> Result<Heard, ReceiveFault>
-    ensures { HoldsBack (ends_of core.old spare.old run.old) wanted seq octets.now now result (ends_of core.new spare.new run.new) }
+    ensures { HoldsBack probation.now (ends_of core.old spare.old run.old) wanted seq octets.now now result (ends_of core.new spare.new run.new) }
 {
-    if !run.is_followed_by(seq) {
+    if !run.is_followed_by(probation, spare.window().highest(), seq) {
         spare.restart();
         *run = Run {
             count: 0,
-            wanted,
+            wanted: probation.wanted_of_run(wanted),
             next: seq,
+            last: run.last,
         };
     }
     match hand(spare, octets, now) {
         Err(fault) => {
-            *run = Run::NONE;
+            *run = run.refused(probation);
             Err(fault)
         }
-        Ok(taken) => Ok(count_held(core, spare, run, seq, taken)),
+        Ok(taken) => Ok(count_held(core, spare, run, probation, seq, taken, now)),
     }
 }
 
@@ -132,20 +163,22 @@ fn count_held<W: Window>(
     core: &mut Receiver<W>,
     spare: &mut Receiver<W>,
     run: &mut Run,
+    probation: &Probation,
     seq: u16,
     taken: Taken,
+    now: u64,
 ) -> Heard
-    ensures { AfterHeld (ends_of core.old spare.old run.old) spare.old run.old seq (Ok taken) (Ok result) (ends_of core.new spare.new run.new) }
+    ensures { AfterHeld probation.now (ends_of core.old spare.old run.old) spare.old run.old seq now (Ok taken) (Ok result) (ends_of core.new spare.new run.new) }
 {
     let held = u32::from(run.count) + 1;
-    if held < u32::from(run.wanted) {
+    if held < u32::from(probation.wanted_now(run.wanted, run.last, now)) {
         run.count += 1;
         run.next = seq.wrapping_add(1);
         return Heard::HeldBack(held);
     }
     let abandoned = kept_in(core);
     mem::swap(core, spare);
-    *run = Run::NONE;
+    *run = Run::none_held(now);
     Heard::Restarted(Restart {
         taken,
         held,

@@ -1,10 +1,13 @@
 //! Laws on what an endpoint is over all its calls. These functions compute nothing: their contracts are the laws.
-ghost use Rattle.std.specs.Prelude.{◌≡◌, ℕ, List};
+ghost use Rattle.std.specs.Prelude.{◌≡◌, ◌∷◌, ℕ, List, Some, Result};
 ghost use Rattle.std.specs.List.{sum_by};
 ghost use Rattle.receiver.specs.Config.{Config};
 ghost use Rattle.endpoint.specs.declared.probation.Probation.{Probation};
 ghost use Rattle.endpoint.specs.Counts.{IsInFull};
-ghost use Rattle.endpoint.specs.Events.{Event, Endpoint, RunsOver};
+ghost use Rattle.receiver.specs.declared.fault.ReceiveFault.{ReceiveFault};
+ghost use Rattle.endpoint.specs.declared.heard.Heard.{Heard};
+ghost use Rattle.endpoint.specs.Events.{Event, Endpoint, RunsOver, heard};
+ghost use Rattle.endpoint.specs.Silence.{IsFounded};
 ghost use Rattle.endpoint.specs.Tally.{tally, media_in, repairs_in, held_in, restarts_in, control_in, refused_as, refused_else, overrun_in, abandoned_in, played_in, gaps_in, asks_in, places_in};
 ghost use Rattle.endpoint.specs.Ledger.{Reached, ledger};
 ghost use Rattle.endpoint.specs.declared.send_counts.SendCounts.{SendCounts};
@@ -48,4 +51,13 @@ pub fn core_has_what_is_believed()
     // call of a receiver promises holds from there on.
     ensures { (c : Config) (capacity : ℕ) (p : Probation) (events : List Event) (e : Endpoint)
         → RunsOver c capacity p events e → Reached capacity (ledger events).core e.ends.core }
+{}
+
+/// When a stream restarts, by a probation with a silence.
+pub fn restarts_are_founded()
+    // Whatever was called: a stream that had jumped restarts with `behind` packets, or with `ahead` of them where for that long no
+    // media packet was taken, of which the answers tell; and it is held back for no longer.
+    ensures { (c : Config) (capacity : ℕ) (p : Probation) (span : ℕ) → p.silence ≡ Some span
+        → (before : List Event) (octets : List ℕ) (now : ℕ) (answer : Result Heard ReceiveFault) (e : Endpoint)
+        → RunsOver c capacity p (heard octets now answer ∷ before) e → IsFounded p span before now answer }
 {}

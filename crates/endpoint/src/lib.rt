@@ -21,7 +21,8 @@ pub use config_laws::new_receivers_are_as_configured;
 pub use demultiplex::is_control;
 pub use heard::{Heard, Restart};
 pub use laws::{
-    core_has_what_is_believed, counts_are_exact, counts_are_in_full, sending_counts_are_exact,
+    core_has_what_is_believed, counts_are_exact, counts_are_in_full, restarts_are_founded,
+    sending_counts_are_exact,
 };
 pub use padding::without_padding;
 pub use probation::Probation;

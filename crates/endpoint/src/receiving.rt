@@ -104,6 +104,7 @@ impl<W: Window> ReceivingEndpoint<W> {
             &mut self.core,
             &mut self.spare,
             &mut self.run,
+            &self.probation,
             wanted,
             number,
             octets,

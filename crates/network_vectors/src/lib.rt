@@ -22,6 +22,8 @@ mod restarts;
 #[cfg(test)]
 mod sharing;
 #[cfg(test)]
+mod silences;
+#[cfg(test)]
 mod tails;
 #[cfg(test)]
 mod times;

@@ -1,0 +1,239 @@
+//! A stream that restarts, by a probation with a silence: what is held back goes on with whatever lies near it, and is believed
+//! sooner where the stream before is silent. Each row was worked by hand.
+use crate::ends::{config, media};
+use endpoint::{Heard, Probation, ReceivingEndpoint};
+use receiver::{Played, ReceiveFault};
+use std::alloc::Global;
+use std::test::Fail;
+use stores::RingWindow;
+
+/// What a packet was.
+#[derive(Clone, Copy, Debug, PartialEq, Eq)]
+enum Was {
+    Media,
+    /// So many are held back.
+    Held(u32),
+    /// The stream restarts with so many, and so many places of the one before are gone.
+    Restarted(u32, u64),
+    Refused(u8),
+    Else,
+}
+
+use Was::{Held, Media, Refused, Restarted};
+
+fn told(heard: Result<Heard, ReceiveFault>) -> Was {
+    match heard {
+        Ok(Heard::Media(_)) => Media,
+        Ok(Heard::HeldBack(held)) => Held(held),
+        Ok(Heard::Restarted(restart)) => Restarted(restart.held, restart.abandoned),
+        Ok(Heard::Repair(_) | Heard::Control) => Was::Else,
+        Err(fault) => Refused(fault.number()),
+    }
+}
+
+/// An endpoint that believes what lies up to 9 ahead and 4 behind, 2 packets after a silence, and else 4.
+fn start(alloc: Global, silence: Option<u64>) -> Result<ReceivingEndpoint<RingWindow>, Fail> {
+    let probation = match (Probation::new(10, 5, 2, 4), silence) {
+        (Ok(probation), None) => probation,
+        (Ok(probation), Some(silence)) => probation.with_silence(silence),
+        (Err(_), _) => return Err(Fail::from("a good probation")),
+    };
+    match ReceivingEndpoint::new(alloc, config(1000, 0, 20, 3)?, probation, 64) {
+        Ok(endpoint) => Ok(endpoint),
+        Err(_) => Err(Fail::from("memory is ample")),
+    }
+}
+
+/// Whether each packet, by its number and moment, is what stands beside it.
+fn goes(
+    endpoint: &mut ReceivingEndpoint<RingWindow>,
+    rows: &[(u16, u64, Was)],
+) -> Result<(), Fail> {
+    for (seq, now, was) in rows {
+        if told(endpoint.on_datagram(media(*seq, 0).as_slice(), *now)) != *was {
+            return Err(Fail::from("a packet was something else"));
+        }
+    }
+    Ok(())
+}
+
+/// Whether plays give these places, and then none.
+fn plays(
+    endpoint: &mut ReceivingEndpoint<RingWindow>,
+    now: u64,
+    places: &[u64],
+) -> Result<(), Fail> {
+    for place in places {
+        match endpoint.play(now) {
+            Played::Packet(played, _) if played.value() == *place => {}
+            _ => return Err(Fail::from("another place")),
+        }
+    }
+    match endpoint.play(now) {
+        Played::Wait => Ok(()),
+        _ => Err(Fail::from("one more")),
+    }
+}
+
+/// Losses and reordering don't end what is held back, and a packet of the living stream does. Once nothing of that one was taken
+/// for 200 milliseconds, two packets are enough.
+#[test]
+fn a_silence(rt: HostRuntime) -> Result<(), Fail> {
+    let mut endpoint = start(rt.alloc(), Some(200))?;
+    goes(
+        &mut endpoint,
+        &[
+            (100, 1000, Media),
+            (50000, 1010, Held(1)),
+            (50002, 1020, Held(2)),
+            (101, 1030, Media),
+            (50003, 1040, Held(1)),
+            (50005, 1229, Held(2)),
+            (50004, 1230, Restarted(3, 2)),
+            (50006, 1231, Media),
+        ],
+    )?;
+    plays(&mut endpoint, 1231, &[115539, 115540, 115541, 115542])
+}
+
+/// The same packets by the rule in sequence: two are enough at any moment, and only if nothing comes between them.
+#[test]
+fn in_sequence(rt: HostRuntime) -> Result<(), Fail> {
+    let mut endpoint = start(rt.alloc(), None)?;
+    goes(
+        &mut endpoint,
+        &[
+            (100, 1000, Media),
+            (20000, 1010, Held(1)),
+            (20002, 1020, Held(1)),
+            (101, 1030, Media),
+            (20003, 1040, Held(1)),
+            (20005, 1229, Held(1)),
+            (20004, 5000, Held(1)),
+            (20005, 5000, Restarted(2, 2)),
+        ],
+    )
+}
+
+/// Without a silence four are wanted, ahead and behind alike, and the two that are missing among them are asked for.
+#[test]
+fn no_silence(rt: HostRuntime) -> Result<(), Fail> {
+    for far in [20000u16, 60000] {
+        let mut endpoint = start(rt.alloc(), Some(200))?;
+        goes(
+            &mut endpoint,
+            &[
+                (100, 1000, Media),
+                (far, 1001, Held(1)),
+                (far.wrapping_add(2), 1002, Held(2)),
+                (far.wrapping_add(3), 1003, Held(3)),
+                (far.wrapping_add(5), 1004, Restarted(4, 1)),
+            ],
+        )?;
+        assert_eq!(rt; endpoint.core().missing(), 2);
+    }
+    Ok(())
+}
+
+/// Old packets that come once more, however many: each packet of the living stream ends what they began. Two of them in
+/// sequence, which restart a stream by the other rule where they lie more than half a cycle behind, restart nothing.
+#[test]
+fn a_living_stream(rt: HostRuntime) -> Result<(), Fail> {
+    let mut endpoint = start(rt.alloc(), Some(200))?;
+    let old = 40_000u16.wrapping_neg();
+    goes(&mut endpoint, &[(0, 1000, Media)])?;
+    for index in 1..1000u16 {
+        let now = 1000 + u64::from(index);
+        let _ = endpoint.play(now);
+        goes(
+            &mut endpoint,
+            &[
+                (old.wrapping_add(index), now, Held(1)),
+                (old.wrapping_add(index).wrapping_add(1), now, Held(2)),
+                (index, now, Media),
+            ],
+        )?;
+    }
+    assert_eq!(rt; endpoint.counts().restarts, 0);
+    let mut other = start(rt.alloc(), None)?;
+    goes(
+        &mut other,
+        &[
+            (0, 1000, Media),
+            (old, 1001, Held(1)),
+            (old.wrapping_add(1), 1001, Restarted(2, 1)),
+        ],
+    )
+}
+
+/// What is refused, by either receiver, ends nothing: a packet of the stream before that comes twice, and one of what is held back.
+/// It is no sign of life either.
+#[test]
+fn refusals(rt: HostRuntime) -> Result<(), Fail> {
+    let mut endpoint = start(rt.alloc(), Some(200))?;
+    goes(
+        &mut endpoint,
+        &[
+            (100, 1000, Media),
+            (101, 1000, Media),
+            (500, 1001, Held(1)),
+            (101, 1150, Refused(36)),
+            (502, 1151, Held(2)),
+            (502, 1152, Refused(36)),
+            (503, 1200, Restarted(3, 2)),
+        ],
+    )
+}
+
+/// What lies far from what is held back begins anew, and does so again.
+#[test]
+fn another_jump(rt: HostRuntime) -> Result<(), Fail> {
+    let mut endpoint = start(rt.alloc(), Some(200))?;
+    goes(
+        &mut endpoint,
+        &[
+            (100, 1000, Media),
+            (500, 1001, Held(1)),
+            (502, 1002, Held(2)),
+            (9000, 1003, Held(1)),
+            (503, 1004, Held(1)),
+            (504, 1200, Restarted(2, 1)),
+        ],
+    )
+}
+
+/// How many packets are held back, and after how many milliseconds the stream is heard again: 50 packets a second, of which every so
+/// many are lost, and which start again so far from their old numbers.
+fn heard_again(alloc: Global, jump: u16, lost: u32) -> Result<(u32, u64), Fail> {
+    let probation = Probation::usual().with_silence(Probation::SILENCE);
+    let made = ReceivingEndpoint::<RingWindow>::new(alloc, config(200, 0, 20, 3)?, probation, 512);
+    let Ok(mut endpoint) = made else {
+        return Err(Fail::from("memory is ample"));
+    };
+    for index in 0..600u32 {
+        let jumped = if index < 500 { 0 } else { jump };
+        let seq = ((index % 65536) as u16).wrapping_add(jumped);
+        let now = u64::from(index) * 20;
+        let is_lost = lost > 0 && index % lost == 0;
+        if !is_lost {
+            let was = told(endpoint.on_datagram(media(seq, index).as_slice(), now));
+            if let Restarted(held, _) = was {
+                return Ok((held, now.saturating_sub(499 * 20)));
+            }
+        }
+        let _ = endpoint.play(now);
+    }
+    Err(Fail::from("not heard again"))
+}
+
+/// Ten packets and 200 milliseconds, ahead or behind; where one in five is lost eight packets, and where one in two is five, counted
+/// from the last packet of the old numbers.
+#[test]
+fn a_stream_is_heard_again(rt: HostRuntime) -> Result<(), Fail> {
+    for jump in [5000u16, 20000, 40000, 60000, 1000u16.wrapping_neg()] {
+        assert_eq!(rt; heard_again(rt.alloc(), jump, 0)?, (10, 200));
+        assert_eq!(rt; heard_again(rt.alloc(), jump, 5)?, (8, 200));
+        assert_eq!(rt; heard_again(rt.alloc(), jump, 2)?, (5, 200));
+    }
+    Ok(())
+}
