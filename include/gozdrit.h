@@ -231,14 +231,18 @@ typedef struct gozdrit_receiver_config {
     uint8_t nacks;         /* how often a NACK names one packet at most: 1 to 255 */
     gozdrit_bool learns;   /* the SSRC of the retransmissions is learnt; rtx_ssrc is then not used */
     /* When a media packet is believed whose sequence number has jumped (RFC 3550, appendix A.1): one that lies
-     * max_dropout or more ahead of the highest one, or max_misorder or more behind it, is held back until so many in
-     * sequence came, and then the stream restarts with them. 0 is the usual number: 3000, 100, 2 and 256. */
+     * max_dropout or more ahead of the highest one, or max_misorder or more behind it, is held back until so many
+     * came, and then the stream restarts with them: by `silence`, below. 0 is the usual number: 3000, 100, 2 and 256. */
     uint16_t max_dropout;
     uint16_t max_misorder;
     uint16_t min_ahead;
     uint16_t min_behind;
     uint64_t delay;        /* the reorder delay: milliseconds from the notice of a missing packet to the first NACK; 0: none */
-    uint64_t reserved;     /* 0 */
+    /* What is held back goes on with whatever has not jumped from its own highest number, in any order and with losses.
+     * min_behind of it are believed, ahead and behind alike, or min_ahead where no media packet was taken for so many
+     * milliseconds. 0: only the next number in sequence goes on with it, and min_ahead are believed where the first
+     * lies less than half a cycle ahead, min_behind else. The defaults have 200. */
+    uint64_t silence;
 } gozdrit_receiver_config;
 
 /* What a packet carries beside its payload (RFC 3550, sections 5.1 and 5.3.1). */
@@ -441,7 +445,7 @@ int32_t gozdrit_receiver_defaults(gozdrit_receiver_config *config);
  * some 200 octets more than GOZDRIT_MAX_PAYLOAD each, of which it touches what follows the most packets that it held.
  *
  *   51, 52  the session, as gozdrit_session says
- *   53      window is not in 1 to GOZDRIT_MAX_STORE, retry or nacks is 0, or reserved is not
+ *   53      window is not in 1 to GOZDRIT_MAX_STORE, or retry or nacks is 0
  *   73      there is no memory for it
  */
 int32_t gozdrit_receiver_new(const gozdrit_receiver_config *config, gozdrit_receiver *receiver);

@@ -1,6 +1,6 @@
 -- The configurations that C says, and which of their checks fails first: the types (51), the SSRCs (52), and the limits
 -- of the end and of its store (53).
-use Rattle.std.specs.Prelude.{◌≡◌, ℕ, zero, suc, ◌<◌, ◌≤◌, ◌==◌, not}
+use Rattle.std.specs.Prelude.{◌≡◌, ℕ, zero, suc, ◌<◌, ◌≤◌, ◌==◌, not, Option, Some, None}
 use Rattle.rtpwire.specs.declared.fault.ConfigFault.{ConfigFault}
 use Rattle.rtpwire.specs.declared.fault.ConfigFault.TheVariants.{BadType, SameSsrc, BadLimit}
 use Rattle.rtpwire.specs.Session.{Streams, HasTypes, HasAnyMediaType, HasSsrcs, streams}
@@ -43,12 +43,16 @@ receiver_config f = receiving.config_with (streams_of f.session) f.patience f.de
 pub record HasReceiverLimits (f : ReceiverFields) : Type 0 where
   pub config : receiving.IsConfig (receiver_config f)
   pub window : IsCapacity f.window
-  pub reserved : f.reserved ≡ 0
 
 -- a number, or the usual one in the place of 0
 abbrev pub or_usual : (number usual : ℕ) → ℕ
 or_usual zero usual = usual
 or_usual (suc n) usual = suc n
+
+-- how long nothing is taken of a stream that is silent; 0: the rule in sequence
+abbrev pub silence_of : ℕ → Option ℕ
+silence_of zero = None
+silence_of (suc n) = Some (suc n)
 
 -- the probation of a sequence number that has jumped (RFC 3550, appendix A.1)
 abbrev pub probation_of : ReceiverFields → Probation
@@ -58,6 +62,7 @@ probation_of f =
       misorder = or_usual f.max_misorder 100;
       ahead = or_usual f.min_ahead 2;
       behind = or_usual f.min_behind 256;
+      silence = silence_of f.silence;
     }
 
 -- The first check that a configuration fails, of streams and limits.

@@ -21,7 +21,7 @@ usual_receiver =
       min_ahead = 2;
       min_behind = 256;
       delay = 20;
-      reserved = 0;
+      silence = 200;
     }
 
 abbrev pub usual_sender : SenderFields

@@ -55,8 +55,8 @@ pub struct ReceiverFields {
     pub min_ahead: u16,
     pub min_behind: u16,
     pub delay: u64,
-    /// For what is to come: 0.
-    pub reserved: u64,
+    /// For how long a stream is silent of which nothing is taken; 0: what has jumped is believed in sequence.
+    pub silence: u64,
 }
 
 impl SessionFields {
@@ -113,7 +113,7 @@ impl ReceiverFields {
             (λ fault. Fails self.now.session (HasReceiverLimits self.now) fault) }
     {
         let session = self.session.session()?;
-        if self.window == 0 || self.window > MAX_STORE || self.reserved != 0 {
+        if self.window == 0 || self.window > MAX_STORE {
             return Err(ConfigFault::BadLimit);
         }
         let made = if self.learns == 0 {
@@ -128,12 +128,17 @@ impl ReceiverFields {
     pub(crate) fn probation(&self) -> Result<Probation, ConfigFault>
         ensures { MatchResult result (λ made. made ≡ probation_of self.now) (λ fault. ⊥) }
     {
-        Probation::new(
+        let made = Probation::new(
             or_usual(self.max_dropout, Probation::DROPOUT),
             or_usual(self.max_misorder, Probation::MISORDER),
             or_usual(self.min_ahead, Probation::AHEAD),
             or_usual(self.min_behind, Probation::BEHIND),
-        )
+        )?;
+        Ok(if self.silence == 0 {
+            made
+        } else {
+            made.with_silence(self.silence)
+        })
     }
 }
 

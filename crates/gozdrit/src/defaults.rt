@@ -17,7 +17,8 @@ const NO_SESSION: SessionFields = SessionFields {
     any_media_type: 0,
 };
 
-/// It waits 200 ms for a missing packet, asks for it first after 20 ms, and then each 40 ms, four times.
+/// It waits 200 ms for a missing packet, asks for it first after 20 ms, and then each 40 ms, four times. A stream is silent after
+/// 200 ms.
 pub(crate) fn receiver_defaults(config: &mut ReceiverFields) -> i32
     ensures { (result ≡ ok) × (config.new ≡ usual_receiver) }
 {
@@ -33,7 +34,7 @@ pub(crate) fn receiver_defaults(config: &mut ReceiverFields) -> i32
         min_ahead: Probation::AHEAD,
         min_behind: Probation::BEHIND,
         delay: 20,
-        reserved: 0,
+        silence: Probation::SILENCE,
     };
     OK
 }

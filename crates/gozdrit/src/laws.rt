@@ -1,5 +1,5 @@
 //! Laws on the configurations that C says, field by field. These functions compute nothing: their contracts are the laws.
-ghost use Rattle.std.specs.Prelude.{◌≡◌, ◌↔◌, ℕ, ◌<◌, true, false};
+ghost use Rattle.std.specs.Prelude.{◌≡◌, ◌↔◌, ℕ, ◌<◌, true, false, Some, None};
 ghost use Rattle.gozdrit.specs.declared.config.SessionFields.{SessionFields};
 ghost use Rattle.gozdrit.specs.declared.config.SenderFields.{SenderFields};
 ghost use Rattle.gozdrit.specs.declared.config.ReceiverFields.{ReceiverFields};
@@ -26,6 +26,8 @@ pub fn fields_say_configurations()
     ensures usual_misorder { (f : ReceiverFields) → f.max_misorder ≡ 0 → (probation_of f).misorder ≡ 100 }
     ensures usual_ahead { (f : ReceiverFields) → f.min_ahead ≡ 0 → (probation_of f).ahead ≡ 2 }
     ensures usual_behind { (f : ReceiverFields) → f.min_behind ≡ 0 → (probation_of f).behind ≡ 256 }
+    ensures silence { (f : ReceiverFields) → 0 < f.silence → (probation_of f).silence ≡ Some f.silence }
+    ensures in_sequence { (f : ReceiverFields) → f.silence ≡ 0 → (probation_of f).silence ≡ None }
 {}
 
 /// A new end is configured so, and keeps as many packets or places as the struct says.

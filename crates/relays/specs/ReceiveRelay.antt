@@ -55,7 +55,7 @@ new_receive_side config capacity far player numbering bounds =
       core = fresh config capacity;
       spare = fresh config capacity;
       run = no_run;
-      probation = record { dropout = 3000; misorder = 100; ahead = 2; behind = 256 };
+      probation = record { dropout = 3000; misorder = 100; ahead = 2; behind = 256; silence = Some 200 };
       counts = no_counts;
       far = far;
       player = player;

@@ -71,7 +71,12 @@ impl<W: Window> ReceiveRelay<W> {
         ensures { IfOk result (λ made. made ≡ new_receive_side config capacity far player numbering bounds) }
     {
         Ok(ReceiveRelay {
-            endpoint: ReceivingEndpoint::new(alloc, config, Probation::usual(), capacity)?,
+            endpoint: ReceivingEndpoint::new(
+                alloc,
+                config,
+                Probation::usual().with_silence(Probation::SILENCE),
+                capacity,
+            )?,
             far,
             player,
             numbering,

@@ -61,15 +61,33 @@ static int32_t take_carried(const struct window *of, struct window *window, cons
     return take_packet(window, heard->sequence, carried->digest, carried->length, now, &heard->overrun);
 }
 
-/* How many media packets in sequence are wanted before this number is believed; 0 where it has not jumped. */
+static unsigned or_usual(unsigned number, unsigned usual) { return number ? number : usual; }
+
+/* Whether a number has jumped from the highest one of a window. */
+static bool has_jumped(const struct receiver *it, const struct window *window, uint16_t number) {
+    unsigned ahead = (uint16_t)(number - (uint16_t)window->highest);
+    return window->has_started && ahead >= or_usual(it->config.max_dropout, 3000)
+           && 65536 - ahead >= or_usual(it->config.max_misorder, 100);
+}
+
+/* How many media packets are wanted before this number is believed; 0 where it has not jumped. */
 static unsigned wanted_for(const struct receiver *it, uint16_t number) {
-    const gozdrit_receiver_config *config = &it->config;
-    unsigned dropout = config->max_dropout ? config->max_dropout : 3000;
-    unsigned misorder = config->max_misorder ? config->max_misorder : 100;
-    unsigned ahead = (uint16_t)(number - (uint16_t)it->window.highest);
-    if (!it->window.has_started || ahead < dropout || 65536 - ahead < misorder) return 0;
-    if (ahead < 32768) return config->min_ahead ? config->min_ahead : 2;
-    return config->min_behind ? config->min_behind : 256;
+    bool is_ahead = (uint16_t)(number - (uint16_t)it->window.highest) < 32768;
+    if (!has_jumped(it, &it->window, number)) return 0;
+    return is_ahead && it->config.silence == 0 ? or_usual(it->config.min_ahead, 2) : or_usual(it->config.min_behind, 256);
+}
+
+/* Whether a number goes on with what is held back. */
+static bool goes_on(const struct receiver *it, uint16_t number) {
+    if (it->held_back == 0) return false;
+    return it->config.silence == 0 ? number == it->follows : !has_jumped(it, &it->spare, number);
+}
+
+/* Whether what is held back is enough. */
+static bool is_enough(const struct receiver *it, uint64_t now) {
+    uint64_t silence = it->config.silence;
+    bool is_silent = silence != 0 && now >= it->heard_at && now - it->heard_at >= silence;
+    return it->held_back >= it->wanted || (is_silent && it->held_back >= or_usual(it->config.min_ahead, 2));
 }
 
 /* The stream restarts with what was held back. */
@@ -87,20 +105,20 @@ static void restart_stream(struct receiver *it, gozdrit_heard *heard) {
 /* Holds back a media packet that has jumped. */
 static int32_t hold_back(struct receiver *it, int32_t fault, const struct carried *carried, unsigned wanted, uint64_t now,
                          gozdrit_heard *heard) {
-    if (it->held_back == 0 || carried->number != it->follows) {
+    if (!goes_on(it, carried->number)) {
         clear_window(&it->spare);
         it->held_back = 0;
         it->wanted = wanted;
     }
+    if (fault == 0) fault = take_carried(&it->spare, &it->spare, carried, now, heard);
     if (fault != 0) {
-        it->held_back = 0;
+        if (it->config.silence == 0) it->held_back = 0;
         return fault;
     }
-    fault = take_carried(&it->spare, &it->spare, carried, now, heard);
-    holds(fault == 0, "the model takes what it holds back");
     it->follows = (uint16_t)(carried->number + 1);
     heard->held = ++it->held_back;
-    if (it->held_back >= it->wanted) {
+    if (is_enough(it, now)) {
+        it->heard_at = now;
         restart_stream(it, heard);
     } else {
         heard->kind = GOZDRIT_HELD_BACK;
@@ -130,10 +148,14 @@ static int32_t hear_packet(struct receiver *it, const struct datagram *datagram,
             carried.number = packet->sequence;
             return hold_back(it, fault, &carried, wanted, now, heard);
         }
-        it->held_back = 0;
+        if (it->config.silence == 0) it->held_back = 0;
     }
     if (fault == 0) fault = take_carried(&it->window, &it->window, &carried, now, heard);
     if (fault != 0) return fault;
+    if (is_media) {
+        it->held_back = 0;
+        it->heard_at = now;
+    }
     heard->kind = is_media ? GOZDRIT_MEDIA : GOZDRIT_RETRANSMISSION;
     if (carried.stream == CANDIDATE) {
         it->has_learnt = true;

@@ -44,8 +44,9 @@ struct receiver {
     struct window window, spare; /* the spare one has what is held back */
     bool has_learnt;
     uint32_t learnt;
-    unsigned held_back, wanted; /* packets in sequence */
-    uint16_t follows;           /* the number of the next of them */
+    unsigned held_back, wanted; /* packets that have jumped */
+    uint16_t follows;           /* the number of the next of them in sequence */
+    uint64_t heard_at;          /* when a media packet was last taken */
     bool has_played;            /* since it restarted */
     uint64_t played;            /* the last sequence that was played or given up */
     uint64_t fed;

@@ -47,7 +47,7 @@ static int32_t check_config(const gozdrit_receiver_config *config) {
     int32_t fault = check_session(&config->session);
     if (fault != GOZDRIT_OK) return fault;
     if (config->window == 0 || config->window > GOZDRIT_MAX_STORE) return GOZDRIT_BAD_LIMIT;
-    if (config->retry == 0 || config->nacks == 0 || config->reserved != 0) return GOZDRIT_BAD_LIMIT;
+    if (config->retry == 0 || config->nacks == 0) return GOZDRIT_BAD_LIMIT;
     return GOZDRIT_OK;
 }
 
@@ -78,7 +78,7 @@ static void draw_config(struct receiver *it, gozdrit_receiver_config *config) {
     config->min_ahead = draw_number(6);
     config->min_behind = draw_number(6);
     config->delay = draw_span(40);
-    config->reserved = one_in(40) ? random_bits() : 0;
+    config->silence = one_in(2) ? 0 : 1 + draw_span(400);
 }
 
 static void call_new(struct receiver *it) {
@@ -138,7 +138,8 @@ static void call_defaults(void) {
     holds(config->max_misorder == 0 || config->max_misorder == 100, "max_misorder is the usual number");
     holds(config->min_ahead == 0 || config->min_ahead == 2, "min_ahead is the usual number");
     holds(config->min_behind == 0 || config->min_behind == 256, "min_behind is the usual number");
-    holds(config->learns == 0 && config->reserved == 0, "all else is 0");
+    same(200, config->silence, "silence");
+    holds(config->learns == 0, "all else is 0");
     holds(config->session.media_ssrc == 0 && config->session.rtx_ssrc == 0 && config->session.receiver_ssrc == 0
               && config->session.media_type == 0 && config->session.rtx_type == 0 && config->session.any_media_type == 0,
           "the session is 0");
