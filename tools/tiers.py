@@ -1,0 +1,69 @@
+"""What the tiers of edits and of pairs share: the toolchain's own functions, a copy of the tree, and notes of what was refused."""
+import glob
+import hashlib
+import importlib.util
+import os
+import shutil
+import subprocess
+from importlib.machinery import SourceFileLoader
+
+ONE_JOB = ["--jobs", "1"]
+NOTES = f"{os.environ.get('XDG_CACHE_HOME') or os.path.expanduser('~/.cache')}/gozdrit/refused"
+
+
+def kit():
+    """The functions of the toolchain's `rt`, by which `rt ci` tries edits."""
+    start = subprocess.run(["rt", "doc"], stdout=subprocess.PIPE, check=True, text=True).stdout.strip()
+    loader = SourceFileLoader("rt", f"{os.path.dirname(start)}/bin/rt")
+    made = importlib.util.module_from_spec(importlib.util.spec_from_loader("rt", loader))
+    loader.exec_module(made)
+    made.rtlib.guarded()  # (it has to be called by the main thread once)
+    return made
+
+
+def copy(room, proved):
+    """Copies the tree as it stands, with the libraries that runs left in out/ and nothing else of theirs."""
+    os.makedirs(room, exist_ok=True)
+    listed = subprocess.run(["git", "ls-files", "-co", "--exclude-standard", "-z", "crates", "crates.txt", "HANDLES"], stdout=subprocess.PIPE, check=True)
+    subprocess.run(["xargs", "-0", "cp", "--parents", "-t", room], input=listed.stdout, check=True)
+    for library in glob.glob("crates/*/out/rlib"):
+        if proved or os.path.isfile(f"{library}/stamp"):
+            shutil.copytree(library, f"{room}/{library}")
+
+
+def builds(crates, proved):
+    """Whether these libraries are proved, the lowest first. What there is of them is taken as it is, and with `proved` it is `rt ci`'s."""
+    for crate in crates:
+        # `rt ci` leaves what it proved without the mark by which rt knows that it is up to date.
+        if proved and os.path.isdir(crate.rlib):
+            with open(f"{os.path.dirname(crate.rlib)}/stamp", "w", encoding="utf-8") as it:
+                it.write(crate.stamp())
+        if crate.build_rlib(ONE_JOB, anew=False):
+            return False
+    return True
+
+
+def note(*read):
+    """The file whose being there says that what was read so was refused."""
+    os.makedirs(NOTES, exist_ok=True)
+    return f"{NOTES}/{hashlib.sha256(repr(read).encode()).hexdigest()}"
+
+
+def write(name, text):
+    """Writes a text to a file in the place of the one that is there, which may be another tree's too."""
+    if os.path.lexists(name):
+        os.unlink(name)
+    with open(name, "w", encoding="utf-8") as it:
+        it.write(text)
+
+
+def link(here, there):
+    """Puts a folder there too, without copying what its files hold where that can be had: no tool writes into a file that is there."""
+
+    def one(name, to):
+        try:
+            os.link(name, to)
+        except OSError:
+            shutil.copy2(name, to)
+
+    shutil.copytree(here, there, copy_function=one, dirs_exist_ok=True)
