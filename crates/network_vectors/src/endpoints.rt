@@ -97,6 +97,15 @@ fn what_is_no_media(rt: HostRuntime) -> Result<(), Fail> {
     Ok(())
 }
 
+/// RTCP is what has a packet type of 192 to 223; a datagram of one octet is none.
+#[test]
+fn the_bounds_of_control(rt: HostRuntime) {
+    for (second, is_rtcp) in [(191, false), (192, true), (223, true), (224, false)] {
+        assert_eq!(rt; is_control(&[0x80, second, 0, 0]), is_rtcp);
+    }
+    assert!(rt; !is_control(&[200]));
+}
+
 /// Between two packets that jumped comes what is no media of the session: another stream's packet, a retransmission, RTCP, and what
 /// is cut. The two are still in sequence. Behind media that is believed they are not.
 #[test]
