@@ -43,6 +43,16 @@ def builds(crates, proved):
     return True
 
 
+def is_settled(rt, told):
+    """Whether what `rt` told of an edit stands as it is: some kits tell it by a name, and others only whether it is refused."""
+    return told in rt.SETTLED if hasattr(rt, "SETTLED") else told
+
+
+def is_refused(rt, told):
+    """Whether `rt` told that the prover refuses an edit."""
+    return told in (rt.REFUSED, rt.AT_LIMIT) if hasattr(rt, "REFUSED") else told
+
+
 def note(*read):
     """The file whose being there says that what was read so was refused."""
     os.makedirs(NOTES, exist_ok=True)

@@ -40,7 +40,7 @@ get_front (x ∷ xs) ys zero p e = e
 get_front (x ∷ xs) ys (suc k) p e = get_front xs ys k p e
 
 -- an item of a longer wire is one of the old ones, or the new one
-get_push : (xs : List Item) (x y : Item) (i : ℕ) → slice_get (xs ++ x ∷ []) i ≡ Some y → (slice_get xs i ≡ Some y) ⊎ (x ≡ y)
+pub get_push : (xs : List Item) (x y : Item) (i : ℕ) → slice_get (xs ++ x ∷ []) i ≡ Some y → (slice_get xs i ≡ Some y) ⊎ (x ≡ y)
 get_push [] x y zero e = inr (same_Some x y e)
 get_push [] x y (suc i) e = absurd cc
 get_push (z ∷ xs) x y zero e = inl e

@@ -34,3 +34,4 @@ mod LeftOut
 mod OneAsk
 mod Refusals
 mod Recent
+mod Packed

@@ -1,6 +1,9 @@
 //! Laws on logs. These functions compute nothing: their contracts are the laws.
 ghost use Rattle.std.specs.Prelude.{◌≡◌, ◌↔◌, ◌⊎◌, ◌+◌, ◌<◌, ◌≤◌, ◌++◌, [], ◌∷◌, ℕ, true, List, Option, Some, reverse, length, slice_get, map, count_by};
+ghost use Rattle.std.specs.List.Sorted.{IsStrictlyIncreasing};
+ghost use Rattle.arrayvec.specs.ArrayVec.{ArrayVec};
 ghost use Rattle.places.specs.Among.{is_among};
+ghost use Rattle.fbwire.specs.Packing.{IsPacking, IsNarrow};
 ghost use Rattle.fbwire.specs.declared.fault.FeedbackFault.{FeedbackFault};
 ghost use Rattle.fbwire.specs.declared.nack.Pair.{Pair};
 ghost use Rattle.receiver.specs.declared.fault.ReceiveFault.{ReceiveFault};
@@ -20,7 +23,7 @@ ghost use Rattle.receiver.specs.declared.answer.Played.{Played as Play_answer};
 ghost use Rattle.world.specs.World.{IsLogged, stand_of};
 ghost use Rattle.world.specs.Round.{Adds, IsRound, IsMarkedUpTo, IsAwaited, IsMendable, IsMended};
 
-use crate::event::{Answer, Entry};
+use crate::event::{Answer, Entry, Label};
 use crate::world::World;
 use fbwire::{compound_is_determined, nack_is_determined, packing_is_determined};
 use receiver::{asking_is_determined, hearing_is_determined, playing_is_determined};
@@ -49,6 +52,10 @@ pub fn wires_are_faithful()
     // The same for one datagram: its octets spell what its label says.
     ensures spelled { (c : Config) (past : List Entry) (wire : List Item) (i : ℕ) (item : Item)
         → IsFaithful c past wire → slice_get wire i ≡ Some item → SpellsLabel c past item.0 item.1.items }
+    // An ask is the packing of places in rising order, 1088 at most.
+    ensures packed { (c : Config) (past : List Entry) (wire : List Item) (i : ℕ) (pairs : ArrayVec Pair) (datagram : ArrayVec ℕ)
+        → IsFaithful c past wire → slice_get wire i ≡ Some (Label.Feedback pairs, datagram)
+        → (places : List ℕ) × (covered : ℕ) × IsStrictlyIncreasing places × (length places ≤ 1088) × IsNarrow places × IsPacking places pairs.items covered }
     // What is retransmitted is among the last that were sent by then, so many as the history keeps.
     ensures recent { (c : Config) → IsConfig c → (events : List Event) (past : List Entry) (end : WorldState) → Answers c events past end
         → (later before : List Entry) (place index : ℕ) → past ≡ later ++ Entry.Repaired place index ∷ before

@@ -1,4 +1,5 @@
 use Rattle.world.proofs.Faithful.{wired, spelled}
+use Rattle.world.proofs.Packed.{packed}
 use Rattle.world.proofs.Recent.{recent}
 use Rattle.world.proofs.laws.wires_are_faithful.Goals as goal
 
@@ -8,6 +9,7 @@ returns c =
     record {
       faithful = λ config met events past end answers. (wire config met events past end answers).faithful;
       spelled = spelled;
+      packed = packed;
       recent = λ config met events past end answers later before place index is.
           recent config past later before place index end.wire is (wire config met events past end answers).faithful;
     }
