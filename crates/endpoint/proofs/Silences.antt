@@ -14,7 +14,7 @@ use Rattle.endpoint.specs.declared.heard.Heard.{Heard}
 use Rattle.endpoint.specs.declared.heard.Heard.TheVariants.{Control, Media, Repair, HeldBack, Restarted}
 use Rattle.endpoint.specs.Demultiplex.{is_control}
 use Rattle.endpoint.specs.Probation.{goes_on, wanted_of_run, wanted_now, is_silent}
-use Rattle.endpoint.specs.Receiving.{Ends, AfterHeld, Believes, HoldsBack, HearsWanted, HearsPacket, HearsKind, follows, run_before, run_after, run_refused, wants_more, as_heard, held_answer, held_ends, none_held, kept_in}
+use Rattle.endpoint.specs.Receiving.{Ends, AfterHeld, HoldsBack, HearsWanted, HearsKind, follows, run_before, run_after, run_refused, wants_more, as_heard, held_answer, held_ends, none_held, kept_in}
 use Rattle.endpoint.specs.Events.{Event, Endpoint, RunsOver, heard, played, asked, begun_at, restarted_by_call, timed}
 use Rattle.endpoint.specs.Silence.{last_taken, IsFounded}
 
