@@ -204,6 +204,29 @@ static void test_counts(void) {
     ANSWERS(GOZDRIT_OK, gozdrit_receiver_free(&r));
 }
 
+/* With a silence neither losses nor reordering end what is held back, a packet of the living stream does, and two are enough once
+ * none of it was taken for so long. Else four are, ahead and behind alike. */
+static void test_silence(void) {
+    gozdrit_receiver_config config = CONFIG;
+    config.max_dropout = 10, config.max_misorder = 5, config.min_ahead = 2, config.min_behind = 4, config.silence = 200;
+    gozdrit_receiver r = started(&config, 100);
+    HEARS_MEDIA(&r, 50000, 10, HELD_BACK(1));
+    HEARS_MEDIA(&r, 50002, 20, HELD_BACK(2));
+    HEARS_MEDIA(&r, 101, 30, MEDIA(65637));
+    HEARS_MEDIA(&r, 50003, 40, HELD_BACK(1));
+    HEARS_MEDIA(&r, 101, 50, NOT_HEARD(GOZDRIT_DUPLICATE)); /* it ends nothing, and is no sign of life */
+    HEARS_MEDIA(&r, 50005, 229, HELD_BACK(2));
+    HEARS_MEDIA(&r, 50005, 229, NOT_HEARD(GOZDRIT_DUPLICATE));
+    HEARS_MEDIA(&r, 50004, 230, RESTARTED(115540, 3, 2));
+    TELLS(&r, 115539, 115541, 0);
+    HEARS_MEDIA(&r, 100, 231, HELD_BACK(1));
+    HEARS_MEDIA(&r, 102, 231, HELD_BACK(2));
+    HEARS_MEDIA(&r, 103, 231, HELD_BACK(3));
+    HEARS_MEDIA(&r, 105, 231, RESTARTED(65641, 4, 3));
+    TELLS(&r, 65636, 65641, 2);
+    ANSWERS(GOZDRIT_OK, gozdrit_receiver_free(&r));
+}
+
 void test_jumps(void) {
     test_ahead();
     test_behind();
@@ -215,4 +238,5 @@ void test_jumps(void) {
     test_rtcp();
     test_all_padding();
     test_counts();
+    test_silence();
 }
