@@ -4,10 +4,11 @@ ghost use Rattle.std.specs.Prelude.{◌≤◌};
 use crate::counter::Counter;
 use rand_core::SeedableRng;
 use rand_pcg::Lcg64Xsh32;
-use runs::{Tally, soak, soak_seed};
+use runs::{Tally, run_config, soak, soak_seed, soak_world};
 use std::alloc::Global;
 use std::test::Fail;
 use stores::{ListHistory, ListWindow, RingHistory, RingWindow};
+use world::{Event, World, schedule};
 
 /// Whether a run of 300 packets over lists, and one over rings, come to this.
 fn comes_to(alloc: Global, loss: u32, expected: &Tally) -> Result<bool, Fail>
@@ -98,6 +99,37 @@ fn a_run_that_shows_its_blocks(rt: HostRuntime) -> Result<(), Fail> {
     };
     let mut rng = Counter(999);
     let tally = soak::<Counter, RingHistory, RingWindow>(rt.alloc(), &mut rng, 2048, 900);
+    assert!(rt; tally == Ok(expected));
+    Ok(())
+}
+
+/// Three packets, of which the second is lost and given up once its patience has passed: a run of no packets tells what the
+/// world's log came to before it.
+#[test]
+fn a_place_that_is_given_up(rt: HostRuntime) -> Result<(), Fail> {
+    let expected = Tally {
+        sent: 3,
+        dropped: 0,
+        repaired: 0,
+        played: 2,
+        gaps: 1,
+    };
+    let alloc = rt.alloc();
+    let mut world = World::<RingHistory, RingWindow>::new(alloc, &run_config(1)).map_err(
+        |_| "memory is ample",
+    )?;
+    let mut rng = Counter(999);
+    let mut events = Vec::new(alloc);
+    schedule(&mut rng, 0, 0, 3, 1, &mut events).map_err(|_| "memory is ample")?;
+    for event in &events {
+        let _ = world.step(event).map_err(|_| "memory is ample")?;
+    }
+    for _ in 0..3 {
+        let _ = world
+            .step(&Event::Play(1_000_002))
+            .map_err(|_| "memory is ample")?;
+    }
+    let tally = soak_world(alloc, &mut world, &mut rng, 0, 0);
     assert!(rt; tally == Ok(expected));
     Ok(())
 }
