@@ -25,7 +25,8 @@ def copy(room, proved):
     """Copies the tree as it stands, with the libraries that runs left in out/ and nothing else of theirs."""
     os.makedirs(room, exist_ok=True)
     listed = subprocess.run(["git", "ls-files", "-co", "--exclude-standard", "-z", "crates", "crates.txt", "HANDLES"], stdout=subprocess.PIPE, check=True)
-    subprocess.run(["xargs", "-0", "cp", "--parents", "-t", room], input=listed.stdout, check=True)
+    there = b"".join(it + b"\0" for it in listed.stdout.split(b"\0") if os.path.isfile(it))
+    subprocess.run(["xargs", "-0", "cp", "--parents", "-t", room], input=there, check=True)
     for library in glob.glob("crates/*/out/rlib"):
         if proved or os.path.isfile(f"{library}/stamp"):
             shutil.copytree(library, f"{room}/{library}")
