@@ -1,5 +1,5 @@
 -- The law of a round, put together.
-use Rattle.std.proofs.Common.{◌≡◌, ℕ, ◌+◌, List, ◌∷◌, ◌++◌, Option, Some, None, IsSome, ap, refl, subst, ◌∙◌, inl, inr}
+use Rattle.std.proofs.Common.{◌≡◌, ℕ, ◌+◌, ◌-◌, List, ◌∷◌, ◌++◌, Option, Some, None, IsSome, IsSomeAnd, arith, sym, ap, refl, subst, ◌∙◌, inl, inr}
 use Rattle.rtpwire.specs.declared.content.Content.{Content}
 use Rattle.receiver.specs.Window.{ReceiverState}
 use Rattle.world.specs.declared.event.Event.{Event}
@@ -79,3 +79,10 @@ module _ (any : AnyHearing) (laws : Laws) (c : Config) (met : IsConfig c) (befor
       let held = held_some (done.0.0.held m.awaited.own) done.0.2 in
       let sent = subst (λ n. WasSent c (added ++ past) n held.0) at (kept.sent m.awaited.own held.0 held.1) in
       (record { window = done.0.0; started = done.0.1; own = m.awaited.own; at = at; content = held.0; held = held.1; sent = sent }, done.1.2)
+
+-- what is mended is held at the receiver's own place
+pub mended_held : (c : Config) (past : List Entry) (new : WorldState) (place : ℕ) → IsMended c past new place → IsSomeAnd new.receiver (λ w. (content : Content) × (w.held (place - shift_of past) ≡ Some content) × WasSent c past place content)
+mended_held c past new place m =
+    let own : m.own ≡ place - shift_of past = let at = m.at in omega (arith, at) in
+    subst (λ (r : Option ReceiverState). IsSomeAnd r (λ w. (content : Content) × (w.held (place - shift_of past) ≡ Some content) × WasSent c past place content)) (sym m.started)
+    (m.content, ap m.window.held (sym own) ∙ m.held, m.sent)

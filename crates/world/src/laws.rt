@@ -1,9 +1,10 @@
 //! Laws on logs. These functions compute nothing: their contracts are the laws.
-ghost use Rattle.std.specs.Prelude.{◌≡◌, ◌↔◌, ◌⊎◌, ◌+◌, ◌<◌, ◌≤◌, ◌++◌, [], ◌∷◌, ℕ, true, List, Option, Some, reverse, length, slice_get, map, count_by};
+ghost use Rattle.std.specs.Prelude.{◌≡◌, ◌↔◌, ◌⊎◌, ◌+◌, ◌-◌, ◌<◌, ◌≤◌, ◌++◌, [], ◌∷◌, ℕ, true, List, Option, Some, IsSomeAnd, reverse, length, slice_get, map, count_by};
 ghost use Rattle.std.specs.List.Sorted.{IsStrictlyIncreasing};
 ghost use Rattle.arrayvec.specs.ArrayVec.{ArrayVec};
 ghost use Rattle.places.specs.Among.{is_among};
 ghost use Rattle.fbwire.specs.Packing.{IsPacking, IsNarrow};
+ghost use Rattle.rtpwire.specs.declared.content.Content.{Content};
 ghost use Rattle.fbwire.specs.declared.fault.FeedbackFault.{FeedbackFault};
 ghost use Rattle.fbwire.specs.declared.nack.Pair.{Pair};
 ghost use Rattle.receiver.specs.declared.fault.ReceiveFault.{ReceiveFault};
@@ -13,7 +14,7 @@ ghost use Rattle.world.specs.declared.event.Event.{Event};
 ghost use Rattle.world.specs.declared.event.Entry.{Entry};
 ghost use Rattle.world.specs.Config.{Config, IsConfig};
 ghost use Rattle.world.specs.Answers.{Item, WorldState, Answers};
-ghost use Rattle.world.specs.Reading.{contents, repairs_of, IsRising, IsFinal, IsStrictlyRising, IsGone, IsLeftOut};
+ghost use Rattle.world.specs.Reading.{contents, WasSent, repairs_of, IsRising, IsFinal, IsStrictlyRising, IsGone, IsLeftOut};
 ghost use Rattle.world.specs.Wire.{IsFaithful, SpellsLabel, size_of, is_repair_of};
 ghost use Rattle.world.specs.Close.{IsCloseTo, IsClose, IsHonest, IsUninjected};
 ghost use Rattle.world.specs.PlaceRun.{PlaceWorld, PlaceRun, label_of};
@@ -120,6 +121,11 @@ pub fn rounds_mend()
     ensures mended { (c : Config) → IsConfig c → (before : List Event) (past : List Entry) (old : WorldState) → Answers c before past old → IsClose past → IsHonest past
         → IsMarkedUpTo (highest_taken past) old.sender → (now : ℕ) (events : List Event) (added : List Entry) (new : WorldState) → IsRound now added → Adds c old events added new
         → (place : ℕ) → IsMendable c (shift_of past) old place now → IsMended c (added ++ past) new place × IsClose (added ++ past) }
+    // So the receiver has it: the content that was sent at such a place, where its own place lies the shift below.
+    ensures held { (c : Config) → IsConfig c → (before : List Event) (past : List Entry) (old : WorldState) → Answers c before past old → IsClose past → IsHonest past
+        → IsMarkedUpTo (highest_taken past) old.sender → (now : ℕ) (events : List Event) (added : List Entry) (new : WorldState) → IsRound now added → Adds c old events added new
+        → (place : ℕ) → IsMendable c (shift_of past) old place now → IsSomeAnd new.receiver (λ window. (content : Content)
+        × (window.held (place - shift_of (added ++ past)) ≡ Some content) × WasSent c (added ++ past) place content) }
     // No other place that was missing and due is mended by a round that leaves the log close.
     ensures only { (c : Config) → IsConfig c → (before : List Event) (past : List Entry) (old : WorldState) → Answers c before past old → IsClose past → IsHonest past
         → (now : ℕ) (events : List Event) (added : List Entry) (new : WorldState) → IsRound now added → Adds c old events added new → IsClose (added ++ past)
