@@ -96,6 +96,7 @@ fn a_place_that_is_given_up_is_a_hole(rt: HostRuntime) -> Result<(), Fail> {
     }
 }
 
+/// Two packets of new numbers are enough 200 milliseconds after the last one of the old numbers, and no sooner.
 #[test]
 fn numbers_go_on_where_a_stream_restarts(rt: HostRuntime) -> Result<(), Fail> {
     let mut relay = relay(rt.alloc(), 4)?;
@@ -103,12 +104,13 @@ fn numbers_go_on_where_a_stream_restarts(rt: HostRuntime) -> Result<(), Fail> {
     script.comes(1, Side::Far, FAR, &media(10, 1))?;
     script.comes(2, Side::Far, FAR, &media(11, 2))?;
     script.comes(3, Side::Far, FAR, &media(30000, 3))?;
-    script.comes(4, Side::Far, FAR, &media(30001, 4))?;
+    script.comes(201, Side::Far, FAR, &media(30001, 4))?;
+    script.comes(202, Side::Far, FAR, &media(30002, 5))?;
     if run(&mut script, &mut relay).is_err() {
         return Err(Fail::from("it ends by its bounds"));
     }
-    if script.went(2, 4, Side::Near, PLAYER, &media(12, 3))
-        && script.went(3, 4, Side::Near, PLAYER, &media(13, 4))
+    if script.went(2, 202, Side::Near, PLAYER, &media(12, 3))
+        && script.went(3, 202, Side::Near, PLAYER, &media(13, 4))
     {
         Ok(())
     } else {
