@@ -90,6 +90,7 @@ static void configure(GstGozdritRecv *self, guint8 type, guint32 ssrc, gozdrit_r
     config->delay = settings->delay;
     config->nacks = (guint8)settings->nacks;
     config->window = settings->window;
+    config->silence = 0; /* two in sequence after a jump ahead are enough */
 }
 
 /* Begins a session with a packet. FALSE where it is none of a session that could be. */
