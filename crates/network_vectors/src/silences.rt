@@ -57,6 +57,14 @@ fn goes(
     Ok(())
 }
 
+/// The place of the packet that a play gave, if it gave one.
+fn place_of(played: Played) -> Option<u64> {
+    match played {
+        Played::Packet(place, _) => Some(place.value()),
+        Played::Gap(_) | Played::Wait => None,
+    }
+}
+
 /// Whether plays give these places, and then none.
 fn plays(
     endpoint: &mut ReceivingEndpoint<RingWindow>,
@@ -64,15 +72,14 @@ fn plays(
     places: &[u64],
 ) -> Result<(), Fail> {
     for place in places {
-        match endpoint.play(now) {
-            Played::Packet(played, _) if played.value() == *place => {}
-            _ => return Err(Fail::from("another place")),
+        if place_of(endpoint.play(now)) != Some(*place) {
+            return Err(Fail::from("another place"));
         }
     }
-    match endpoint.play(now) {
-        Played::Wait => Ok(()),
-        _ => Err(Fail::from("one more")),
+    if place_of(endpoint.play(now)).is_some() {
+        return Err(Fail::from("one more"));
     }
+    Ok(())
 }
 
 /// Losses and reordering don't end what is held back, and a packet of the living stream does. Once nothing of that one was taken
