@@ -268,8 +268,8 @@ typedef struct gozdrit_sent {
 #define GOZDRIT_MEDIA 1          /* a media packet that a receiver took; RTP, which a sender passes over */
 #define GOZDRIT_RETRANSMISSION 2 /* a retransmission that was taken */
 #define GOZDRIT_RTCP 3           /* RTCP, which a receiver passes over */
-#define GOZDRIT_HELD_BACK 4      /* a media packet whose number has jumped: the `held`-th in sequence that is held back */
-#define GOZDRIT_RESTARTED 5      /* the last one that was wanted in sequence: the stream restarted with `held` of them */
+#define GOZDRIT_HELD_BACK 4      /* a media packet whose number has jumped: the `held`-th that is held back */
+#define GOZDRIT_RESTARTED 5      /* the last one that was wanted: the stream restarted with `held` of them */
 #define GOZDRIT_REPORTS 6        /* RTCP without a generic NACK, which a sender passes over */
 #define GOZDRIT_FEEDBACK 7       /* RTCP with a generic NACK of this session */
 
@@ -278,7 +278,7 @@ typedef struct gozdrit_heard {
     uint64_t sequence;  /* MEDIA, RETRANSMISSION, RESTARTED: of the packet that was taken */
     uint64_t overrun;   /* the same: how many packets the window dropped for good to make room for this one; mostly 0 */
     uint64_t abandoned; /* RESTARTED: how many packets of the stream before were left that were neither played nor given up */
-    uint32_t held;      /* HELD_BACK, RESTARTED: how many in sequence */
+    uint32_t held;      /* HELD_BACK, RESTARTED: how many packets */
     uint8_t kind;
     uint8_t refusal; /* NOT_TAKEN: the reason, 1 to 6 or 31 to 39; GOZDRIT_LATE and GOZDRIT_DUPLICATE are part of any session */
 } gozdrit_heard;

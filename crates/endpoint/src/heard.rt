@@ -10,18 +10,18 @@ pub enum Heard {
     Media(Taken),
     /// A retransmission that was taken.
     Repair(Taken),
-    /// A media packet whose sequence number jumped: it is the last of so many in sequence that are held back.
+    /// A media packet whose sequence number jumped: it is the last of so many that are held back.
     HeldBack(u32),
-    /// The last media packet that was wanted in sequence: the stream has restarted.
+    /// The last media packet that was wanted: the stream has restarted.
     Restarted(Restart),
 }
 
 /// A restart of the stream (RFC 3550, appendix A.1).
 #[derive(Clone, Copy, Debug, PartialEq, Eq)]
 pub struct Restart {
-    /// What the last packet was taken as. The others that were held back lie right below it.
+    /// What the last packet was taken as. In sequence, the others that were held back lie right below it.
     pub taken: Taken,
-    /// How many packets in sequence the stream restarted with, this one included.
+    /// How many packets the stream restarted with, this one included.
     pub held: u32,
     /// How many places of the stream before were left that were neither played nor given up. They are gone.
     pub abandoned: u64,

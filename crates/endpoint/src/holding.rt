@@ -56,7 +56,7 @@ impl Run {
     }
 }
 
-/// How many in sequence are wanted before a media packet with this number is believed.
+/// How many are wanted before a media packet with this number is believed.
 pub(crate) fn wanted_at<W: Window>(
     core: &Receiver<W>,
     probation: &Probation,
@@ -70,7 +70,7 @@ pub(crate) fn wanted_at<W: Window>(
     }
 }
 
-/// Hears a packet of which so many in sequence are wanted. `number` is its sequence number if it is media.
+/// Hears a packet of which so many are wanted. `number` is its sequence number if it is media.
 pub(crate) fn hear_wanted<W: Window>(
     core: &mut Receiver<W>,
     spare: &mut Receiver<W>,

@@ -63,9 +63,9 @@ impl<W: Window> ReceivingEndpoint<W> {
     /// Takes any datagram of the far side at the moment `now`, in milliseconds.
     ///
     /// RTCP is passed over (RFC 5761). A packet that is all padding is taken as one with an empty payload. A media packet whose
-    /// sequence number has jumped is held back, until so many in sequence have come; one that is believed ends what was held
-    /// back. The refusals are those of [`Receiver::on_media`]; they change nothing but the counts, but that a media packet
-    /// of the session that is refused, jumped or not, ends what was held back.
+    /// sequence number has jumped is held back, until as many have come as its [`Probation`] wants; one that is believed, and taken,
+    /// ends what was held back. The refusals are those of [`Receiver::on_media`]; they change nothing but the counts and what is held
+    /// back: in sequence a media packet of the session that is refused ends it, and by the stream only one that lies far from it.
     pub fn on_datagram(&mut self, octets: &[u8], now: u64) -> Result<Heard, ReceiveFault>
         ensures hears { HearsDatagram self.old.probation (ends_of self.old.core self.old.spare self.old.run) octets.now now result (ends_of self.new.core self.new.spare self.new.run) }
         ensures probation { self.new.probation ≡ self.old.probation }

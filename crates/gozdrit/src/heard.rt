@@ -16,7 +16,7 @@ pub struct HeardFields {
     pub overrun: u64,
     /// How many places a restart left behind.
     pub abandoned: u64,
-    /// How many packets in sequence are held back, or the stream restarted with.
+    /// How many packets are held back, or the stream restarted with.
     pub held: u32,
     /// 0 where it was not taken, for the reason `refusal`; 1 for media, 2 for a retransmission, 3 for RTCP, 4 for media that is
     /// held back, 5 for a restart.
