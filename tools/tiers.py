@@ -11,14 +11,26 @@ ONE_JOB = ["--jobs", "1"]
 NOTES = f"{os.environ.get('XDG_CACHE_HOME') or os.path.expanduser('~/.cache')}/gozdrit/refused"
 
 
+def loaded(path):
+    """The functions of a script of the toolchain."""
+    name = os.path.basename(path)
+    loader = SourceFileLoader(name, path)
+    made = importlib.util.module_from_spec(importlib.util.spec_from_loader(name, loader))
+    loader.exec_module(made)
+    return made
+
+
 def kit():
     """The functions of the toolchain's `rt`, by which `rt ci` tries edits."""
     start = subprocess.run(["rt", "doc"], stdout=subprocess.PIPE, check=True, text=True).stdout.strip()
-    loader = SourceFileLoader("rt", f"{os.path.dirname(start)}/bin/rt")
-    made = importlib.util.module_from_spec(importlib.util.spec_from_loader("rt", loader))
-    loader.exec_module(made)
+    made = loaded(f"{os.path.dirname(start)}/bin/rt")
     made.rtlib.guarded()  # (it has to be called by the main thread once)
     return made
+
+
+def part(rt, name):
+    """The functions of another script beside it."""
+    return loaded(f"{rt.rtlib.KIT}/bin/{name}")
 
 
 def copy(room, proved):
@@ -66,6 +78,36 @@ def write(name, text):
         os.unlink(name)
     with open(name, "w", encoding="utf-8") as it:
         it.write(text)
+
+
+def begun(rt, crate, to):
+    """Puts to a crate's proofs what a check on this machine kept of it, in this tree or in another copy: `rt check` begins with that too."""
+    there = rt.work_for(crate)
+    try:
+        if there:
+            rt.linked(there, to)
+    except (OSError, shutil.Error):
+        shutil.rmtree(to, ignore_errors=True)  # (another command may write what this one copies)
+    os.makedirs(to, exist_ok=True)
+
+
+def leave(rt, kept, crate):
+    """Leaves what proofs of a crate kept in its out/, as `rt check` does, for checks here and in other copies to begin with."""
+    there = f"{crate.folder}/out/incremental"
+    shutil.rmtree(there, ignore_errors=True)
+    os.makedirs(os.path.dirname(there), exist_ok=True)
+    rt.linked(kept, there)
+    rt.offer(crate, crate.stamp())
+
+
+def lanes_of(words):
+    """Takes `--lanes N` out of a command line, and answers N: so many at a time; else one for each processor."""
+    if "--lanes" not in words:
+        return os.cpu_count()
+    at = words.index("--lanes")
+    count = int(words[at + 1])
+    del words[at : at + 2]
+    return count
 
 
 def link(here, there):
