@@ -3,3 +3,9 @@ pub mod Tallied
 pub mod SendTallied
 pub mod Believed
 mod Silences
+pub mod Passes
+pub mod Cells
+pub mod InTime
+pub mod TimelyKept
+pub mod TimelyRun
+pub mod Always

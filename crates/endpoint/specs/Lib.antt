@@ -11,3 +11,8 @@ pub mod SendCounts
 pub mod SendTally
 pub mod Sending
 pub mod Tally
+pub mod Resending
+pub mod ResendCounts
+pub mod Moments
+pub mod Passing
+pub mod TimelyRuns

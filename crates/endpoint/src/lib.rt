@@ -9,12 +9,17 @@ mod heard;
 mod holding;
 mod judging;
 mod laws;
+mod moments;
 mod padding;
 mod probation;
 mod receive_counts;
 mod receiving;
+mod resend_counts;
+mod resend_rule;
 mod send_counts;
 mod sending;
+mod timely;
+mod timely_laws;
 mod told;
 
 pub use config_laws::new_receivers_are_as_configured;
@@ -24,10 +29,15 @@ pub use laws::{
     core_has_what_is_believed, counts_are_exact, counts_are_in_full, restarts_are_founded,
     sending_counts_are_exact,
 };
+pub use moments::Moments;
 pub use padding::without_padding;
 pub use probation::Probation;
 pub use receive_counts::ReceiveCounts;
 pub use receiving::ReceivingEndpoint;
+pub use resend_counts::ResendCounts;
+pub use resend_rule::{ResendRule, Times, Verdict};
 pub use send_counts::SendCounts;
 pub use sending::SendingEndpoint;
+pub use timely::TimelyEndpoint;
+pub use timely_laws::retransmissions_are_in_time;
 pub use told::Told;

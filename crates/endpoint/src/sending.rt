@@ -3,6 +3,7 @@ ghost use Rattle.std.specs.Prelude.{◌≡◌, ◌≤◌, None, Ok, IsOk, IfOk, 
 ghost use Rattle.rtpwire.specs.declared.limits.TheConstants.{MAX_DATAGRAM};
 ghost use Rattle.sender.specs.Sender.{Stays, new_sending, state_of};
 ghost use Rattle.sender.specs.Sending.{SendsInto};
+ghost use Rattle.sender.specs.Passing.{IsNextAny, PassesAny};
 ghost use Rattle.sender.specs.Repairing.{RepairsInto};
 ghost use Rattle.sender.specs.Tail.{MarksLast};
 ghost use Rattle.endpoint.specs.Demultiplex.{is_control};
@@ -94,6 +95,23 @@ impl<H: History> SendingEndpoint<H> {
             self.counts.repair();
         }
         answer
+    }
+
+    /// [`Sender::next_marked`]: the place that [`next_repair_into`](SendingEndpoint::next_repair_into) would retransmit.
+    pub fn next_marked(&self) -> Option<Place>
+        ensures { IsNextAny (state_of self.now.core) result }
+    {
+        self.core.next_marked()
+    }
+
+    /// [`Sender::pass_repair`]: passes over what it would retransmit. Nothing is counted.
+    pub fn pass_repair(&mut self) -> Option<Place>
+        ensures passes { PassesAny (state_of self.old.core) result (state_of self.new.core) }
+        ensures none { result ≡ None → self.new.core ≡ self.old.core }
+        ensures stays { Stays self.old.core self.new.core }
+        ensures counts { self.new.counts ≡ self.old.counts }
+    {
+        self.core.pass_repair()
     }
 
     /// [`Sender::mark_last`]: for a sender that falls silent.

@@ -18,6 +18,8 @@ mod no_delay;
 #[cfg(test)]
 mod outages;
 #[cfg(test)]
+mod resending;
+#[cfg(test)]
 mod restarts;
 #[cfg(test)]
 mod sharing;

@@ -6,7 +6,7 @@ use Rattle.std.proofs.lemmas.Bool.{eqb-true, ltb-true}
 use Rattle.places.specs.Among.{is_among}
 use Rattle.rtpwire.specs.declared.content.Content.{Content}
 use Rattle.stores.specs.declared.entry.HistoryEntry.{HistoryEntry}
-use Rattle.stores.specs.Past.{Past, IsPast, entry_at, fresh, repeated}
+use Rattle.stores.specs.Past.{Past, IsPast, entry_at, fresh, unmarked, repeated}
 use Rattle.stores.specs.PastByPlace.{Pushes, Changes, is_marked}
 use Rattle.sender.specs.Sender.{Sending, Stays, IsBounded, RepeatsWithin}
 use Rattle.sender.specs.Marking.{marked_below, marked_if, MarksNumbers}
@@ -31,6 +31,16 @@ module _ (repeats : ℕ) (old new : Past) where
           let below : before.repeats < repeats = (keeps q before at).below marked in
           subst (IsBounded repeats) (same_Some _ _ is) (record { limit = omega arith; below = λ never. absurd (cc) })
       by false there o at is = keeps q entry (at ∙ is)
+
+  pub unmark_keeps : (p : ℕ) → Changes unmarked old new p → RepeatsWithin repeats old → RepeatsWithin repeats new
+  unmark_keeps p changes keeps q entry e = by (q == p) (entry_at old q) refl (sym (changes.entries q) ∙ e)
+    where
+      by : (a : Bool) (o : Option HistoryEntry) → entry_at old q ≡ o → cond a (option_map unmarked o) o ≡ Some entry → IsBounded repeats entry
+      by true None at is = absurd (none-some entry is)
+      by true (Some before) at is =
+          let limit = (keeps q before at).limit in
+          subst (IsBounded repeats) (same_Some _ _ is) (record { limit = limit; below = λ never. absurd (cc) })
+      by false o at is = keeps q entry (at ∙ is)
 
   pub marks_keep : (numbers : List ℕ) (count : ℕ) → MarksNumbers repeats numbers old count new → RepeatsWithin repeats old → RepeatsWithin repeats new
   marks_keep numbers count marks keeps q entry e = by (is_among numbers (number q)) (entry_at old q) refl (sym (marks.entries q) ∙ e)

@@ -12,3 +12,4 @@ pub mod SameMarks
 pub mod SameShared
 pub mod InOrder
 pub mod InFull
+pub mod Passes

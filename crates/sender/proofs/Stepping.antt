@@ -5,9 +5,9 @@ use Rattle.std.proofs.lemmas.Bool.{eqb-true, lt-ltb, le-ltb, cases_Bool}
 use mir.Val.{bool_byte}
 use Rattle.rtpwire.specs.declared.content.Content.{Content}
 use Rattle.stores.specs.declared.entry.HistoryEntry.{HistoryEntry}
-use Rattle.stores.specs.Past.{Past, entry_at, repeated}
+use Rattle.stores.specs.Past.{Past, entry_at, unmarked, repeated}
 use Rattle.stores.specs.PastByPlace.{Pushes, Changes, is_marked}
-use Rattle.sender.specs.History.{Sends, Repairs}
+use Rattle.sender.specs.History.{Sends, Repairs, PassesOver, IsLeastMarked}
 use Rattle.sender.specs.Sender.{history_of}
 
 -- a test as a number
@@ -50,5 +50,16 @@ module _ (old new : Past) (next repair : ℕ) where
         marked = ap is_marked (sym was) ∙ marked;
         least = least;
         counted = changes.entries p ∙ at_place p _ _ ∙ ap (option_map repeated) was;
+        others = λ q other. changes.entries q ∙ elsewhere q p _ _ other;
+      }
+
+  pub passes : (p : ℕ) (entry : HistoryEntry) → IsLeastMarked (history_of next repair old) p entry → Changes unmarked old new p →
+      PassesOver (history_of next repair old) p entry (history_of next repair new)
+  passes p entry least changes =
+      record {
+        next = refl;
+        repair = refl;
+        least = least;
+        passed = changes.entries p ∙ at_place p _ _ ∙ ap (option_map unmarked) least.was;
         others = λ q other. changes.entries q ∙ elsewhere q p _ _ other;
       }

@@ -75,6 +75,19 @@ pub record IsLeastMarked (old : SenderState) (place : ℕ) (entry : HistoryEntry
   pub marked : entry.marked ≡ true
   pub least : (q : ℕ) → q < place → is_marked (old.entries q) ≡ false
 
+-- an entry that is not to be retransmitted, as often as it was before
+abbrev pub not_to_repeat : HistoryEntry → HistoryEntry
+not_to_repeat entry = record entry { marked = false }
+
+-- The least marked place is passed over: its entry's mark goes, and nothing else changes, neither how often it was
+-- retransmitted nor the number of the next retransmission.
+pub record PassesOver (old : SenderState) (place : ℕ) (entry : HistoryEntry) (new : SenderState) : Type 0 where
+  pub next : new.next ≡ old.next
+  pub repair : new.repair ≡ old.repair
+  pub least : IsLeastMarked old place entry
+  pub passed : new.entries place ≡ Some (not_to_repeat entry)
+  pub others : (q : ℕ) → q ≢ place → new.entries q ≡ old.entries q
+
 -- no place is marked
 abbrev pub NoneMarked : SenderState → Type 0
 NoneMarked h = (q : ℕ) → is_marked (h.entries q) ≡ false

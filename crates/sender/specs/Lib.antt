@@ -9,5 +9,6 @@ pub mod Tail
 pub mod Marking
 pub mod Counting
 pub mod Repairing
+pub mod Passing
 pub mod Order
 pub mod InFull

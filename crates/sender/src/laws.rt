@@ -1,6 +1,6 @@
 //! Laws on what a sender answers. These functions compute nothing: their contracts are the laws, for callers that
 //! speak of places and contents alone.
-ghost use Rattle.std.specs.Prelude.{◌≡◌, ◌≢◌, ◌↔◌, ◌-◌, ◌^◌, ◌<◌, ℕ, IsTrue, List, [], ◌∷◌, slice_index, All, Option, Result, Ok, Err, length, true};
+ghost use Rattle.std.specs.Prelude.{◌≡◌, ◌≢◌, ◌↔◌, ◌-◌, ◌^◌, ◌<◌, ℕ, IsTrue, IsSome, List, [], ◌∷◌, slice_index, All, Option, Result, Ok, Err, length, true};
 ghost use Rattle.std.specs.Option.{option_map};
 ghost use Rattle.std.specs.Result.{result_err};
 ghost use Rattle.arrayvec.specs.ArrayVec.{ArrayVec};
@@ -8,6 +8,8 @@ ghost use Rattle.places.specs.Place.{number};
 ghost use Rattle.rtpwire.specs.declared.content.Content.{Content};
 ghost use Rattle.rtpwire.specs.FirstOf.{FirstOf};
 ghost use Rattle.rtpwire.specs.Session.{Streams};
+ghost use Rattle.stores.specs.declared.entry.HistoryEntry.{HistoryEntry};
+ghost use Rattle.stores.specs.PastByPlace.{is_marked};
 ghost use Rattle.fbwire.specs.declared.fault.FeedbackFault.{FeedbackFault};
 ghost use Rattle.fbwire.specs.declared.fault.FeedbackFault.TheVariants.{WrongReporter};
 ghost use Rattle.fbwire.specs.Fault.{feedback_number};
@@ -19,13 +21,14 @@ ghost use Rattle.sender.specs.declared.fault.SendFault.{SendFault};
 ghost use Rattle.sender.specs.Config.{Config};
 ghost use Rattle.sender.specs.Fault.{send_number};
 ghost use Rattle.sender.specs.Order.{send_order, feedback_order, shared_order};
-ghost use Rattle.sender.specs.History.{SenderState};
+ghost use Rattle.sender.specs.History.{SenderState, Marks, PassesOver, Repairs};
 ghost use Rattle.sender.specs.Sending.{SendsAny};
 ghost use Rattle.sender.specs.Feedback.{HearsFeedback, MarksAlone, MarksOrRefuses, is_ours};
 ghost use Rattle.sender.specs.Shared.{HearsShared, SharesAlone, marked_of, our_numbers};
 ghost use Rattle.sender.specs.InFull.{CountsInFull};
 ghost use Rattle.sender.specs.Tail.{MarksLast};
 ghost use Rattle.sender.specs.Repairing.{RepairsAny};
+ghost use Rattle.sender.specs.Passing.{PassesAny};
 
 use fbwire::compound_is_determined;
 use rtpwire::repair_is_determined;
@@ -146,3 +149,18 @@ pub fn repairing_is_determined()
 {
     repair_is_determined();
 }
+
+/// What passing over a retransmission leaves, against the calls that it stands beside.
+pub fn passing_is_determined()
+    // The sender before determines which place is passed over, and the sender after.
+    ensures one { (old : SenderState) (x y : Option ℕ) (v w : SenderState) → PassesAny old x v → PassesAny old y w → (x ≡ y) × (v ≡ w) }
+    // It is the place that would be retransmitted. Of every other place both leave the same.
+    ensures same { (old v w : SenderState) (p q : ℕ) (e f : HistoryEntry) → Repairs old p e v → PassesOver old q f w
+        → (p ≡ q) × (e ≡ f) × ((k : ℕ) → k ≢ p → v.entries k ≡ w.entries k) }
+    // What is still marked lies above it, and was marked: the next least is next.
+    ensures above { (old new : SenderState) (p : ℕ) (e : HistoryEntry) → PassesOver old p e new
+        → (q : ℕ) → is_marked (new.entries q) ≡ true → (p < q) × (is_marked (old.entries q) ≡ true) }
+    // Feedback that names its number again, which no other entry has, leaves the sender as if it had not been passed over.
+    ensures again { (repeats : ℕ) (old between new : SenderState) (p count : ℕ) (e : HistoryEntry) → PassesOver old p e between → e.repeats < repeats
+        → ((q : ℕ) → IsSome (old.entries q) → number q ≡ number p → q ≡ p) → Marks repeats (λ n. n ≡ number p) between count new → new ≡ old }
+{}

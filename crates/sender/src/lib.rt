@@ -16,7 +16,8 @@ pub use config_laws::{configurations_keep_their_fields, new_senders_are_as_confi
 pub use fault::SendFault;
 pub use laws::{
     any_reporter_is_heard, feedback_is_determined, feedback_is_in_order,
-    marking_the_last_is_feedback, repairing_is_determined, sending_is_determined,
-    sending_is_in_order, shared_feedback_is_determined, shared_feedback_is_in_order,
+    marking_the_last_is_feedback, passing_is_determined, repairing_is_determined,
+    sending_is_determined, sending_is_in_order, shared_feedback_is_determined,
+    shared_feedback_is_in_order,
 };
 pub use sender::Sender;

@@ -3,13 +3,14 @@ ghost use Rattle.std.specs.Prelude.{◌≡◌, ℕ, ◌^◌, ◌<◌, ◌≤◌,
 ghost use Rattle.rtpwire.specs.declared.limits.TheConstants.{MAX_DATAGRAM};
 ghost use Rattle.rtpwire.specs.Session.{Streams};
 ghost use Rattle.stores.specs.declared.entry.HistoryEntry.{HistoryEntry};
-ghost use Rattle.sender.specs.History.{Sends, Repairs, IsLeastMarked, NoneMarked, new_history};
+ghost use Rattle.sender.specs.History.{Sends, Repairs, PassesOver, IsLeastMarked, NoneMarked, new_history};
 ghost use Rattle.sender.specs.Sender.{Sending, IsSending, Stays, new_sending, state_of};
 ghost use Rattle.sender.specs.Sending.{CanBePadded, SendsAny, SendsInto, sent_in};
 ghost use Rattle.sender.specs.Feedback.{HearsFeedback};
 ghost use Rattle.sender.specs.Shared.{HearsShared};
 ghost use Rattle.sender.specs.Tail.{MarksLast};
 ghost use Rattle.sender.specs.Repairing.{RepairsAny, RepairsInto, repaired_in};
+ghost use Rattle.sender.specs.Passing.{IsNextAny, PassesAny};
 
 use crate::answer::{Marked, Shared};
 use crate::config::SenderConfig;
@@ -284,7 +285,7 @@ impl<H: History> Sender<H> {
         ensures none { result ≡ None → self.new ≡ self.old }
         ensures stays { Stays self.old self.new }
     {
-        let Some((place, entry)) = self.next_marked() else {
+        let Some((place, entry)) = self.next_entry() else {
             return None;
         };
         let session = self.config.session();
@@ -312,7 +313,7 @@ impl<H: History> Sender<H> {
         ensures none { result ≡ Ok None → self.new ≡ self.old }
         ensures stays { Stays self.old self.new }
     {
-        let Some((place, entry)) = self.next_marked() else {
+        let Some((place, entry)) = self.next_entry() else {
             return Ok(None);
         };
         let session = self.config.session();
@@ -334,8 +335,37 @@ impl<H: History> Sender<H> {
         Ok(Some((place, len)))
     }
 
+    /// The place that [`next_repair`](Sender::next_repair) would retransmit: the least one that is marked, if there is one.
+    pub fn next_marked(&self) -> Option<Place>
+        ensures { IsNextAny (state_of self.now) result }
+    {
+        match self.next_entry() {
+            Some((place, _)) => Some(place),
+            None => None,
+        }
+    }
+
+    /// Passes over what [`next_repair`](Sender::next_repair) would retransmit: the mark of the least marked place is taken
+    /// away, and nothing else changes. So it takes no number of the retransmissions and counts no repeat, and feedback that
+    /// names the packet later marks it again. The answer is the place. Without a marked one the sender is as it was.
+    ///
+    /// It is for a caller that knows the time: a retransmission that is on its way already, or would come too late, is none
+    /// to be sent.
+    pub fn pass_repair(&mut self) -> Option<Place>
+        ensures passes { PassesAny (state_of self.old) result (state_of self.new) }
+        ensures none { result ≡ None → self.new ≡ self.old }
+        ensures stays { Stays self.old self.new }
+    {
+        let _config = &self.config;
+        let Some((place, _)) = self.next_entry() else {
+            return None;
+        };
+        self.pass(place);
+        Some(place)
+    }
+
     /// The least marked place, and its entry.
-    fn next_marked(&self) -> Option<(Place, &HistoryEntry)>
+    fn next_entry(&self) -> Option<(Place, &HistoryEntry)>
         ensures { MatchOption result (NoneMarked (state_of self.now)) (λ it. IsLeastMarked (state_of self.now) it.0 it.1.now) }
     {
         history_by_place();
@@ -352,6 +382,16 @@ impl<H: History> Sender<H> {
         history_by_place();
         self.history.count_repeat(place);
         self.repair = self.repair.wrapping_add(1);
+    }
+
+    /// Takes the mark of the least marked place away.
+    fn pass(&mut self, place: Place)
+        requires { (entry : HistoryEntry) × IsLeastMarked (state_of self.old) place entry }
+        ensures passes { (entry : HistoryEntry) → IsLeastMarked (state_of self.old) place entry → PassesOver (state_of self.old) place entry (state_of self.new) }
+        ensures stays { Stays self.old self.new }
+    {
+        history_by_place();
+        self.history.unmark(place);
     }
 
     /// Its history, to see what it keeps and is to retransmit.

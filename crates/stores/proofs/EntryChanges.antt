@@ -8,7 +8,7 @@ use Rattle.std.proofs.lemmas.Bool.Decides.{nat_tests}
 use Rattle.std.proofs.lemmas.Option.{slice_get_past}
 use Rattle.rtpwire.specs.declared.content.Content.{Content}
 use Rattle.stores.specs.declared.entry.HistoryEntry.{HistoryEntry}
-use Rattle.stores.specs.Past.{Past, IsPast, IsRun, first_of, next_of, entry_of, fresh, pushed, with_change, changed_at, marked, marked_at, repeated, repeated_at}
+use Rattle.stores.specs.Past.{Past, IsPast, IsRun, first_of, next_of, entry_of, fresh, pushed, with_change, changed_at, marked, marked_at, unmarked, unmarked_at, repeated, repeated_at}
 use Rattle.stores.specs.PastByPlace.{Pushes, Changes}
 use Rattle.stores.proofs.Lookup.{slice_get-append_left, slice_get-append_right, slice_get-drop}
 use Rattle.stores.proofs.Runs.{entry_of_run, run_from, run_push, run_drop, next_place}
@@ -81,6 +81,9 @@ module _ (change : HistoryEntry → HistoryEntry) (keeps : (x : HistoryEntry) �
 
 pub mark_by_place : (old new : Past) (p : ℕ) → new ≡ marked_at old p → Changes marked old new p
 mark_by_place old new p e = rw e (change_of marked (λ x. refl) p old)
+
+pub unmark_by_place : (old new : Past) (p : ℕ) → new ≡ unmarked_at old p → Changes unmarked old new p
+unmark_by_place old new p e = rw e (change_of unmarked (λ x. refl) p old)
 
 pub repeat_by_place : (old new : Past) (p : ℕ) → new ≡ repeated_at old p → Changes repeated old new p
 repeat_by_place old new p e = rw e (change_of repeated (λ x. refl) p old)

@@ -76,6 +76,13 @@ marked entry = record { place = entry.place; content = entry.content; repeats = 
 abbrev pub marked_at : Past → ℕ → Past
 marked_at h q = changed_at marked h q
 
+-- an entry whose mark was taken away, if it had one: what it carried and how often it was repeated stay
+abbrev pub unmarked : HistoryEntry → HistoryEntry
+unmarked entry = record { place = entry.place; content = entry.content; repeats = entry.repeats; marked = false }
+
+abbrev pub unmarked_at : Past → ℕ → Past
+unmarked_at h q = changed_at unmarked h q
+
 -- one more retransmission may be counted
 abbrev pub CanBeRepeated : HistoryEntry → Type 0
 CanBeRepeated entry = entry.repeats < 255

@@ -11,7 +11,7 @@ ghost use Rattle.stores.specs.ByPlace.{slot_at, IsInside, PutStep, LosesFront};
 ghost use Rattle.stores.specs.PlaceLists.{Lists};
 ghost use Rattle.stores.specs.Asking.{is_due, is_missing, places_of, due_places, missing_places, CanBeAsked, asked, CountsAsk};
 ghost use Rattle.stores.specs.declared.entry.HistoryEntry.{HistoryEntry};
-ghost use Rattle.stores.specs.Past.{Past, IsPast, first_of, next_of, entry_at, pushed, marked, marked_at, repeated, repeated_at};
+ghost use Rattle.stores.specs.Past.{Past, IsPast, first_of, next_of, entry_at, pushed, marked, marked_at, unmarked, unmarked_at, repeated, repeated_at};
 ghost use Rattle.stores.specs.PastByPlace.{IsKept, Pushes, Changes, Finds, FindsLeast};
 
 /// What the calls of a window mean place by place. It computes nothing: its contract is a law on the
@@ -69,10 +69,11 @@ pub fn history_by_place()
     ensures same { (s t : Past) → IsPast s → IsPast t → t.capacity ≡ s.capacity →
         ((q : ℕ) → entry_at t q ≡ entry_at s q) → t ≡ s }
 
-    // What `push`, `mark` and `count_repeat` leave.
+    // What `push`, `mark`, `unmark` and `count_repeat` leave.
     ensures push { (old new : Past) (place : ℕ) (content : Content) → IsPast old →
         ForSome (next_of old) (λ next. place ≡ next) → new ≡ pushed old place content → Pushes old new place content }
     ensures mark { (old new : Past) (place : ℕ) → new ≡ marked_at old place → Changes marked old new place }
+    ensures unmark { (old new : Past) (place : ℕ) → new ≡ unmarked_at old place → Changes unmarked old new place }
     ensures count_repeat { (old new : Past) (place : ℕ) → new ≡ repeated_at old place → Changes repeated old new place }
 
     // What `find` and `least_marked` answer. At most one place with an entry has a sequence number.

@@ -3,7 +3,7 @@ ghost use Rattle.std.specs.Prelude.{◌≡◌, ◌+◌, ◌-◌, ◌<◌, ◌≤
 ghost use Rattle.std.specs.Vec.{vec_capacity};
 ghost use Rattle.circular_buffer.specs.Buffer.{buffer};
 ghost use Rattle.stores.specs.Bits.{turned};
-ghost use Rattle.stores.specs.Past.{fresh, marked, repeated, CanBeRepeated};
+ghost use Rattle.stores.specs.Past.{fresh, marked, unmarked, repeated, CanBeRepeated};
 
 use crate::entry::HistoryEntry;
 use crate::memory::OutOfMemory;
@@ -84,6 +84,16 @@ impl Entries {
     {
         let at = turned(self.start, self.list.len(), index);
         self.list[at].marked = true;
+    }
+
+    /// Takes the mark of the entry at this index away.
+    pub fn unmark(&mut self, index: usize)
+        requires { index < length self.old.items }
+        ensures { IsSomeAnd (slice_get self.old.items index)
+            (λ entry. self.new ≡ buffer (slice_set self.old.items index (unmarked entry)) self.old.capacity) }
+    {
+        let at = turned(self.start, self.list.len(), index);
+        self.list[at].marked = false;
     }
 
     /// Counts a retransmission of the entry at this index, and takes its mark away.

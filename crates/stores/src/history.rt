@@ -1,6 +1,6 @@
 ghost use Rattle.std.specs.Prelude.{◌≡◌, ◌<◌, ◌≤◌, IfOk, Some, IsSome, IsSomeAnd};
 ghost use Rattle.std.specs.Option.{ForSome};
-ghost use Rattle.stores.specs.Past.{Past, IsPast, empty_past, next_of, entry_at, pushed, numbered, least_marked, marked_at, CanBeRepeated, repeated_at};
+ghost use Rattle.stores.specs.Past.{Past, IsPast, empty_past, next_of, entry_at, pushed, numbered, least_marked, marked_at, unmarked_at, CanBeRepeated, repeated_at};
 
 use crate::entry::HistoryEntry;
 use crate::memory::OutOfMemory;
@@ -54,6 +54,11 @@ pub trait History: Drop {
     fn mark(&mut self, place: Place)
         requires { IsSome (entry_at (meaning self.old) place) }
         ensures { meaning self.new ≡ marked_at (meaning self.old) place };
+
+    /// Takes the mark of the entry of this place away, if it has one. The entry must be there.
+    fn unmark(&mut self, place: Place)
+        requires { IsSome (entry_at (meaning self.old) place) }
+        ensures { meaning self.new ≡ unmarked_at (meaning self.old) place };
 
     /// The least place whose entry is marked.
     fn least_marked(&self) -> Option<Place>

@@ -85,6 +85,11 @@ impl History for ListHistory {
         self.entries[index].marked = true;
     }
 
+    fn unmark(&mut self, place: Place) {
+        let index = self.index_of(place);
+        self.entries[index].marked = false;
+    }
+
     fn least_marked(&self) -> Option<Place> {
         let entry = self.entries.iter().find(|entry| entry.marked)?;
         Some(entry.place)

@@ -89,6 +89,12 @@ impl History for RingHistory {
         self.marks.set(index);
     }
 
+    fn unmark(&mut self, place: Place) {
+        let index = self.index_of(place);
+        self.entries.unmark(index);
+        self.marks.clear(index);
+    }
+
     fn least_marked(&self) -> Option<Place> {
         let index = self.marks.first(0)?;
         Place::new(self.first + index as u64)

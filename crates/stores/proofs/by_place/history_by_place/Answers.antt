@@ -1,5 +1,5 @@
 use Rattle.stores.proofs.EntryPlaces.{inside_by_place, ends_by_place, entry_by_place, same_by_place, one_by_place}
-use Rattle.stores.proofs.EntryChanges.{push_by_place, mark_by_place, repeat_by_place}
+use Rattle.stores.proofs.EntryChanges.{push_by_place, mark_by_place, unmark_by_place, repeat_by_place}
 use Rattle.stores.proofs.EntrySearch.{finds_by_place, least_by_place}
 use Rattle.stores.proofs.by_place.history_by_place.Goals as goal
 
@@ -20,6 +20,9 @@ returns-clause-push c = push_by_place
 
 pub returns-clause-mark : goal.returns-clause-mark
 returns-clause-mark c = mark_by_place
+
+pub returns-clause-unmark : goal.returns-clause-unmark
+returns-clause-unmark c = unmark_by_place
 
 pub returns-clause-count_repeat : goal.returns-clause-count_repeat
 returns-clause-count_repeat c = repeat_by_place
