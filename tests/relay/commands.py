@@ -23,7 +23,7 @@ NUMBERS = {  # what each option takes at its bounds, and what it refuses
     "type": ("0 63 96 127", "128 x -1"), "rtx-type": ("98 127", "95 128 x"), "first": ("0 65535", "65536 x"),
     "ssrc": ("0 ffffffff 1A2b3C4d", "123456789 xyz 0x1"), "rtx-ssrc": ("0 ffffffff", "123456789 xyz"),
     "packets": ("1", "x -1"), "seconds": ("1", "x -1 1.5"), "stats": ("1", "x")}
-OF_SIDE = {"send": {"rate": ("1 8", "0 x -1"), "history": ("1 8192", "0 8193 x"), "rtx-first": ("0 65535", "65536 x")},
+OF_SIDE = {"send": {"rate": ("0 8 1% 200%", "x -1 % 0% 100001% 1.5% 5%%"), "history": ("1 8192", "0 8193 x"), "rtx-first": ("0 65535", "65536 x")},
            "receive": {"latency": ("0 1", "x -1"), "window": ("1 8192", "0 8193 x")}}
 
 

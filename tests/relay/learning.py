@@ -14,7 +14,7 @@ SSRC = 0x1a2b3c4d
 def on_the_wire(stage, *words, ssrc=SSRC, kind=96, number=100):
     """What a sending relay sends of twelve packets, and what it retransmits of the fifth, of the seventh, and of all."""
     far = End(stage)
-    sender = stage.send(far.at, "--seconds", 8, *words)
+    sender = stage.send(far.at, "--seconds", 8, "--min-resend", 0, *words)
     app = App(stage, sender.at, ssrc=ssrc, kind=kind, number=number)
     app.stream(plain(12), 1000)
     first = settled(far, far.packets()[0].number + 11 if far.waits_for(1) else 0)
@@ -112,10 +112,10 @@ def burst(checks, stage):
     """Of 299 missing places the first 256 are asked for in one datagram, and the others in the next one."""
     player = End(stage)
     far, receiver = plays(stage, player, [(96, 65400, SSRC), (96, 65400 + 300 & 65535, SSRC)], "--latency", 20000)
-    checks.count(far.waits_for(2), f"a burst: {len(far.came)} NACKs came")
+    checks.count(far.waits_for(4), f"a burst: {len(far.came)} NACKs came")
     missing = [65400 + i & 65535 for i in range(1, 300)]
-    asked = [nacked(one) for one in far.octets()[:2]]
-    checks.same([one and one[2] for one in asked], [missing[:256], missing[256:]], "a burst: what is asked for")
+    asked = [nacked(one) for one in far.octets()[:4]]  # each NACK leaves twice
+    checks.same([one and one[2] for one in asked], [missing[:256]] * 2 + [missing[256:]] * 2, "a burst: what is asked for")
     checks.same({one and one[1] for one in asked}, {SSRC}, "a burst: the media")
     receiver.stop()
 
@@ -135,6 +135,26 @@ def retransmissions(checks, stage):
         counts = [receiver.counts().get(one) for one in ("repaired", "gaps", "refused")]
         checks.same(counts, [taken, 1 - taken, 1 - taken], f"{name}: repaired, gaps, refused")
         checks.same([one.number for one in player.packets()], [1, 2, 3] if taken else [1, 3], f"{name}: what is played")
+
+
+def fitting(checks, stage):
+    """A NACK that comes twice is answered once, and one for what is past its deadline not at all."""
+    far = End(stage)
+    sender = stage.send(far.at, "--seconds", 6, "--min-resend", 2000, "--deadline", 3000)
+    App(stage, sender.at, number=100).stream(plain(12), 1000)
+    first = settled(far, far.packets()[0].number + 11 if far.waits_for(1) else 0)
+    media = far.packets()[0].ssrc
+    for _ in range(2):
+        far.send(nack(media, [104]), ("127.0.0.1", sender.source[1]))
+    far.waits_for(first + 1)
+    time.sleep(4)
+    far.send(nack(media, [104, 105]), ("127.0.0.1", sender.source[1]))
+    ends(checks, "what fits the time", sender)
+    counts = sender.counts()
+    tails = len(sender.logged("tail"))
+    checks.same([original(one)[0] for one in far.packets()[first:]], [104], "what fits the time: retransmitted")
+    wanted = {"marked": 4, "retransmitted": 1 + tails, "early": 1, "expired": 2}
+    checks.same({one: counts.get(one) for one in wanted}, wanted, "what fits the time: counts")
 
 
 def patience(checks, stage):
@@ -188,4 +208,4 @@ def lost(octets):
 
 
 if __name__ == "__main__":
-    part(types, sending, one_type, choosing, first, burst, retransmissions, patience, window, round_trip)
+    part(types, sending, one_type, choosing, first, burst, retransmissions, fitting, patience, window, round_trip)

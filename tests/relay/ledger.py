@@ -3,9 +3,9 @@ from base import COUNTS
 from rtp import packet, parse
 
 FORMS = {
-    "send": {"sent": 4, "repair": 4, "lost": 2, "marked": 2, "tail": 2, "refused": 2, "unsent": 1, "stray": 1, "session": 6},
+    "send": {"sent": 4, "repair": 4, "lost": 2, "marked": 2, "tail": 2, "refused": 2, "unsent": 1, "passed": 1, "stray": 1, "session": 6},
     "receive": {"taken": 3, "held": 1, "restarted": 2, "refused": 2, "play": 7, "gap": 2, "ask": 3, "lost": 2, "rtt": 2, "stray": 1,
-                "session": 6},
+                "moved": 1, "session": 6},
 }
 
 
@@ -51,7 +51,7 @@ def sums(checks, name, relay):
                 "marked": sum(int(one[1]) for one in lines if one[0] == "marked")}
     else:
         told = {"played": many["play"], "gaps": many["gap"], "asked": many["ask"], "refused": many["refused"],
-                "stray": many["stray"], "lost": many["lost"], "taken": many["taken"],
+                "stray": many["stray"], "lost": many["lost"], "taken": many["taken"], "moved": many["moved"],
                 "restarts": many["restarted"] + max(0, many["session"] - 1)}
     for word, number in told.items():
         checks.same(counts.get(word), number, f"{name}: the count {word} of {relay.side}, beside its log")

@@ -112,7 +112,7 @@ class Path:
 
     def __init__(self, stage, to, rule=lambda way, octets: (0,)):
         self.front, self.rear, self.rule, self.to = udp(), udp(), rule, to[:2]
-        self.at, self.home, self.passed, self.open = self.front.getsockname(), None, [], True
+        self.at, self.home, self.passed, self.old, self.open = self.front.getsockname(), None, [], [], True
         self.thread = threading.Thread(target=self.carry, daemon=True)
         self.thread.start()
         stage.keep(self)
@@ -135,8 +135,13 @@ class Path:
                 elif self.home:
                     self.front.sendto(octets, self.home)
 
+    def rebind(self):
+        """From now on it sends from another port, as a NAT that binds anew, and what comes to the old one is lost."""
+        self.old.append(self.rear)
+        self.rear = udp()
+
     def close(self):
         self.open = False
         self.thread.join()
-        self.front.close()
-        self.rear.close()
+        for one in (self.front, self.rear, *self.old):
+            one.close()

@@ -23,7 +23,8 @@ def burst(stage, many, length, *words):
 def asks(far, sender, many):
     """Asks for all of them, and gives the seconds that their retransmissions took and the octets but for the first one's."""
     before, began = len(far.came), time.monotonic()
-    far.send(nack(MEDIA, range(many)), ("127.0.0.1", sender.source[1]))
+    for at in range(0, many, 100):  # a datagram has room for fewer than 400 pairs
+        far.send(nack(MEDIA, range(at, min(at + 100, many))), ("127.0.0.1", sender.source[1]))
     far.waits_for(before + many)
     came = far.came[before:]
     return (came[-1][0] if came else 0) - began, sum(len(one[2]) for one in came[1:])
@@ -46,15 +47,36 @@ def paced(checks, stage):
 
 
 def at_once(checks, stage):
-    """Without a rate they leave as fast as they are asked for."""
+    """With a rate of 0 they leave as fast as they are asked for. What was asked for just before is asked for again at once, so nothing is
+    too early here."""
     name, best = "no rate", 99
-    far, sender = burst(stage, 50, 1000)
+    far, sender = burst(stage, 50, 1000, "--rate", 0, "--min-resend", 0)
     for _ in range(5):
         seconds, octets = asks(far, sender, 50)
         checks.count(octets >= 49000, f"{name}: {octets} octets came")
         best = min(best, seconds)
     checks.count(best < 0.5, f"{name}: the best of five took {best} seconds")
     ends(checks, name, sender)
+
+
+def shared(checks, stage, *words, share=200, many=400):
+    """By a share of the media's rate 32 KiB leave at once, and the others at that share. The media's rate is at most all that was sent
+    and the two megabits that are taken for granted."""
+    name, long = f"{share} per cent", 1014 * 8
+    far, sender = burst(stage, many, 1000, *words)
+    asks(far, sender, many)
+    checks.same([original(one)[0] for one in far.packets()[-many:]], list(range(many)), f"{name}: the order")
+    ends(checks, name, sender)
+    times = [int(one.split()[0]) for one in sender.log.read_text().splitlines() if one.split()[1] == "repair"][-many:]
+    at_once = sum(one <= times[0] + 100 for one in times)
+    checks.count(at_once >= 27, f"{name}: {at_once} retransmissions left in a tenth of a second")
+    most = share * (2000000 + many * 1012 * 8) // 100000
+    early = [i for i, one in enumerate(times) if i * long > 262144 + most * (one - times[0] + 1)]
+    checks.same((len(times), early[:2]), (many, []), f"{name}: retransmissions in the log, and those that left too early")
+
+
+def halved(checks, stage):
+    shared(checks, stage, "--rate", "50%", share=50, many=150)
 
 
 def media_first(checks, stage):
@@ -79,4 +101,4 @@ def media_first(checks, stage):
 
 
 if __name__ == "__main__":
-    part(paced, at_once, media_first)
+    part(paced, at_once, shared, halved, media_first)

@@ -84,7 +84,8 @@ def sending(checks, stage):
 
 
 def running(checks, stage):
-    """The sending relay is killed and started anew at once, while the application goes on."""
+    """The sending relay is killed and started anew at once, at another port, while the application goes on: so does the session, and
+    what nobody sent is given up."""
     name, player = "a sending relay anew", End(stage)
     sender, receiver = stage.pair(player, receive=("--seconds", 25))
     app = App(stage, sender.at, number=65400)
@@ -109,11 +110,12 @@ def running(checks, stage):
     speaker.join()
     again.stop()
     came = player.packets()
-    goes_on(checks, name, came, app.ssrc)
+    checks.same({(one.ssrc, one.kind) for one in came}, {(app.ssrc, 96)}, f"{name}: SSRCs and types at the player")
     indices = [index(one) for one in came]
+    checks.same([one.number for one in came], [65400 + i & 65535 for i in indices], f"{name}: the numbers")
     checks.count(all(one < other for one, other in zip(indices, indices[1:])), f"{name}: the contents are in order")
     checks.count(indices[:before] == list(range(before)), f"{name}: the contents before")
-    checks.same(len(receiver.logged("session")), 2, f"{name}: sessions")
+    checks.same((len(receiver.logged("session")), len(receiver.logged("moved"))), (1, 1), f"{name}: sessions and moves")
 
 
 def same_address(checks, stage):

@@ -5,7 +5,9 @@ use crate::fault::Fault;
 use crate::options::command;
 use clap::ArgMatches;
 use clap::error::ErrorKind;
+use endpoint::ResendRule;
 use lines::parse_between;
+use relays::Rate;
 use std::alloc::Global;
 use std::convert::AsStr;
 
@@ -35,7 +37,8 @@ pub enum Choice<'a> {
     /// A relay before a network.
     Send {
         options: Options<'a>,
-        rate: u64,
+        rate: Rate,
+        rule: ResendRule,
         history: usize,
         rtx_first: u16,
     },
@@ -49,6 +52,16 @@ pub enum Choice<'a> {
 
 /// The greatest number of seconds, about thirty years.
 const LONGEST: u64 = 1_000_000_000;
+
+/// How much of the media's rate retransmissions have by default, in per cent.
+const SHARE: u64 = 200;
+
+/// How long after a retransmission feedback that names the packet again is passed over by default, in milliseconds: the other relay
+/// sends each NACK twice.
+const MIN_RESEND: u64 = 10;
+
+/// The greatest share.
+const MOST_SHARE: u64 = 100_000;
 
 /// Reads the words of a command line, of which the first is the program's name.
 pub fn choose<'a, S: AsStr>(alloc: Global, words: &'a [S]) -> Result<Choice<'a>, Fault<'a>> {
@@ -85,7 +98,11 @@ fn send<'a>(matches: &ArgMatches<'a>) -> Result<Choice<'a>, Fault<'a>> {
     let options = common(matches)?;
     Ok(Choice::Send {
         options,
-        rate: number(matches, "rate", 1, u64::MAX)?.unwrap_or(0),
+        rate: rate(matches)?,
+        rule: ResendRule {
+            min_resend: number(matches, "min-resend", 0, u64::MAX)?.unwrap_or(MIN_RESEND),
+            deadline: number(matches, "deadline", 0, u64::MAX)?,
+        },
         history: number(matches, "history", 1, 8192)?.unwrap_or(2048) as usize,
         rtx_first: sixteen(matches, "rtx-first")?.unwrap_or(0),
     })
@@ -135,6 +152,25 @@ fn number<'a>(
     match parse_between(text.as_bytes(), least, most) {
         Some(number) => Ok(Some(number)),
         None => Err(Fault::Value(id)),
+    }
+}
+
+/// How fast retransmissions leave: a share of the media's rate in per cent, or kilobits a second, of which 0 are no limit.
+fn rate<'a>(matches: &ArgMatches<'a>) -> Result<Rate, Fault<'a>> {
+    let Some(text) = matches.get_str("rate") else {
+        return Ok(Rate::Percent(SHARE));
+    };
+    let read = match text.as_bytes().split_last() {
+        Some((b'%', digits)) => parse_between(digits, 1, MOST_SHARE).map(Rate::Percent),
+        _ => parse_between(text.as_bytes(), 0, u64::MAX).map(kilobits),
+    };
+    read.ok_or(Fault::Value("rate"))
+}
+
+fn kilobits(rate: u64) -> Rate {
+    match rate {
+        0 => Rate::Free,
+        _ => Rate::Kilobits(rate),
     }
 }
 

@@ -1,6 +1,7 @@
 //! What a run came to, in counts.
 use endpoint::{Heard, Told};
 use lines::{Word, push_line};
+use receiver::ReceiveFault;
 use relays::Note;
 use stores::OutOfMemory;
 
@@ -13,6 +14,9 @@ pub struct Counts {
     /// Packets that feedback asked for, each as often as it was to be retransmitted.
     pub marked: u64,
     pub retransmitted: u64,
+    /// Of what was to be retransmitted, what had been so too short a while before, and what was past its deadline.
+    pub early: u64,
+    pub expired: u64,
     /// Media packets and retransmissions that were taken.
     pub taken: u64,
     /// Retransmissions among them.
@@ -25,6 +29,8 @@ pub struct Counts {
     pub refused: u64,
     /// Restarts of the stream within a session.
     pub restarts: u64,
+    /// How often the far side was heard at another address within a session.
+    pub moved: u64,
     /// Sessions that were learnt.
     pub sessions: u64,
     /// Datagrams from an address that is not the far side's.
@@ -42,6 +48,8 @@ impl Counts {
         unsent: 0,
         marked: 0,
         retransmitted: 0,
+        early: 0,
+        expired: 0,
         taken: 0,
         repaired: 0,
         played: 0,
@@ -49,6 +57,7 @@ impl Counts {
         asked: 0,
         refused: 0,
         restarts: 0,
+        moved: 0,
         sessions: 0,
         stray: 0,
         lost: 0,
@@ -68,29 +77,37 @@ impl Counts {
             Note::Told(Err(_)) => add(&mut self.refused, 1),
             Note::Stray => add(&mut self.stray, 1),
             Note::Retransmitted(_) => add(&mut self.retransmitted, 1),
+            Note::PassedOver(passed) => {
+                self.early = passed.early;
+                self.expired = passed.expired;
+            }
             Note::Marked(_) => {}
-            Note::Heard(Ok(heard)) => self.hear(*heard),
-            Note::Heard(Err(_)) => add(&mut self.refused, 1),
+            Note::Heard(answer) => self.hear(answer),
+            Note::Moved(_, answer) => {
+                add(&mut self.moved, 1);
+                self.hear(answer);
+            }
             Note::Timed(time) => self.time = *time,
             Note::Began(..) => add(&mut self.sessions, 1),
             Note::Played(_) => add(&mut self.played, 1),
             Note::Gap(_) => add(&mut self.gaps, 1),
-            Note::Asked => add(&mut self.asked, 1),
+            Note::Asked | Note::AskedAgain => add(&mut self.asked, 1),
         }
     }
 
-    fn hear(&mut self, heard: Heard) {
-        match heard {
-            Heard::Media(_) => add(&mut self.taken, 1),
-            Heard::Repair(_) => {
+    fn hear(&mut self, answer: &Result<Heard, ReceiveFault>) {
+        match answer {
+            Ok(Heard::Media(_)) => add(&mut self.taken, 1),
+            Ok(Heard::Repair(_)) => {
                 add(&mut self.taken, 1);
                 add(&mut self.repaired, 1);
             }
-            Heard::Restarted(restart) => {
+            Ok(Heard::Restarted(restart)) => {
                 add(&mut self.taken, u64::from(restart.held));
                 add(&mut self.restarts, 1);
             }
-            Heard::Control | Heard::HeldBack(_) => {}
+            Ok(Heard::Control | Heard::HeldBack(_)) => {}
+            Err(_) => add(&mut self.refused, 1),
         }
     }
 
@@ -120,6 +137,10 @@ impl Counts {
                 Word::Decimal(self.marked),
                 Word::Text(b"retransmitted"),
                 Word::Decimal(self.retransmitted),
+                Word::Text(b"early"),
+                Word::Decimal(self.early),
+                Word::Text(b"expired"),
+                Word::Decimal(self.expired),
                 Word::Text(b"refused"),
                 Word::Decimal(self.refused),
                 Word::Text(b"stray"),
@@ -155,6 +176,8 @@ impl Counts {
                 Word::Decimal(self.refused),
                 Word::Text(b"restarts"),
                 Word::Decimal(restarts),
+                Word::Text(b"moved"),
+                Word::Decimal(self.moved),
                 Word::Text(b"stray"),
                 Word::Decimal(self.stray),
                 Word::Text(b"lost"),

@@ -22,6 +22,7 @@ pub fn relay<'a>(rt: &HostRuntime, choice: &Choice<'a>) -> Result<(), Fault<'a>>
         Choice::Send {
             options,
             rate,
+            rule,
             history,
             rtx_first,
         } => {
@@ -32,6 +33,7 @@ pub fn relay<'a>(rt: &HostRuntime, choice: &Choice<'a>) -> Result<(), Fault<'a>>
                 first: options.first,
                 rtx_first: *rtx_first,
                 rate: *rate,
+                rule: *rule,
                 history: within(*history),
                 far: to,
                 bounds: bounds(options),

@@ -62,3 +62,20 @@ pub fn push_session(
         ],
     )
 }
+
+/// The line of a far side that is heard at another address.
+pub fn push_moved(
+    rt: &HostRuntime,
+    line: &mut Vec<u8>,
+    far: SocketAddr,
+) -> Result<(), OutOfMemory> {
+    let far = format!(in rt.alloc(); "{far}")?;
+    push_line(
+        line,
+        &[
+            Word::Text(b"moved"),
+            Word::Text(b"to"),
+            Word::Text(far.as_bytes()),
+        ],
+    )
+}

@@ -20,5 +20,6 @@ packet retransmitted once; one that is silent for a second may go on with anothe
 
 /// Of `receive`.
 pub const RECEIVE: &str = "\
-The first RTP packet tells the session and its far side, which alone is heard from then on; where nothing was taken
-for a second, the next packet of another SSRC or address begins a session anew, and what is played goes on.";
+The first RTP packet tells the session and its far side, which alone is heard from then on; where nothing came from
+there for 100 ms, a packet that goes on with the session shows its new address, as where a NAT binds anew. Where nothing
+was taken for a second, the next packet of another session begins one anew, and what is played goes on.";

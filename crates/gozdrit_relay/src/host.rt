@@ -1,7 +1,7 @@
 //! The sockets of the machine, its clock, and what is told of a run.
 use crate::counts::Counts;
 use crate::draws::Draws;
-use crate::greeting::push_session;
+use crate::greeting::{push_moved, push_session};
 use crate::journal::Journal;
 use mio::net::UdpSocket;
 use mio::{Events, Interest, Poll, Token};
@@ -170,6 +170,26 @@ impl<'a> Host<'a> {
         }
     }
 
+    /// Writes the line of a session that was learnt, or of a far side at another address.
+    fn tell_far(&mut self, note: &Note) {
+        self.line.clear();
+        let pushed = match note {
+            Note::Began(session, first, far) => push_session(
+                self.rt,
+                &mut self.line,
+                session,
+                *first,
+                *far,
+                self.shows_repair,
+            ),
+            Note::Moved(far, _) => push_moved(self.rt, &mut self.line, *far),
+            _ => return,
+        };
+        if pushed.is_ok() {
+            let _ = self.rt.stderr().write_all(&self.line);
+        }
+    }
+
     /// How long to wait for a moment, and no longer than until the next line of counts.
     fn timeout(&self, until: Option<u64>, now: u64) -> Option<Duration> {
         let next = match (until, self.stats) {
@@ -249,12 +269,6 @@ impl Outside for Host<'_> {
             }
         }
         self.is_lost = false;
-        if let Note::Began(session, first, far) = turn.note {
-            self.line.clear();
-            let shows_repair = self.shows_repair;
-            if push_session(self.rt, &mut self.line, &session, first, far, shows_repair).is_ok() {
-                let _ = self.rt.stderr().write_all(&self.line);
-            }
-        }
+        self.tell_far(&turn.note);
     }
 }

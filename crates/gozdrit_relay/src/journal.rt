@@ -3,6 +3,7 @@ ghost use Rattle.std.specs.Prelude.{◌≤◌};
 
 use endpoint::{Heard, Told};
 use lines::{Word, push_line};
+use receiver::ReceiveFault;
 use relays::Note;
 use rtpwire::{RtpView, Session};
 use std::fs::File;
@@ -52,7 +53,8 @@ impl Journal {
                 Word::Decimal(index),
                 Word::Octets(octets),
             ]),
-            Note::Asked => self.write(&[
+            Note::PassedOver(_) => self.write(&[Word::Decimal(now), Word::Text(b"passed")]),
+            Note::Asked | Note::AskedAgain => self.write(&[
                 Word::Decimal(now),
                 Word::Text(b"ask"),
                 Word::Decimal(index),
@@ -66,8 +68,11 @@ impl Journal {
             Note::Told(Ok(_)) => {}
             Note::Told(Err(fault)) => self.count(now, b"refused", u64::from(fault.number())),
             Note::Marked(marked) => self.count(now, b"tail", u64::from(marked.places)),
-            Note::Heard(Ok(heard)) => self.hear(now, *heard),
-            Note::Heard(Err(fault)) => self.count(now, b"refused", u64::from(fault.number())),
+            Note::Heard(answer) => self.hear(now, answer),
+            Note::Moved(_, answer) => {
+                self.write(&[Word::Decimal(now), Word::Text(b"moved")]);
+                self.hear(now, answer);
+            }
             Note::Timed(time) => self.count(now, b"rtt", time.unwrap_or(0)),
             Note::Began(session, first, _) => self.begin(now, session, *first),
             Note::Played(place) => self.play(now, place.value(), octets),
@@ -80,9 +85,9 @@ impl Journal {
         self.count(now, b"lost", index);
     }
 
-    fn hear(&mut self, now: u64, heard: Heard) {
-        match heard {
-            Heard::Media(taken) | Heard::Repair(taken) => {
+    fn hear(&mut self, now: u64, answer: &Result<Heard, ReceiveFault>) {
+        match answer {
+            Ok(Heard::Media(taken) | Heard::Repair(taken)) => {
                 let place = Word::Decimal(taken.place.value());
                 self.write(&[
                     Word::Decimal(now),
@@ -91,11 +96,12 @@ impl Journal {
                     Word::Decimal(taken.overrun),
                 ]);
             }
-            Heard::HeldBack(_) => self.write(&[Word::Decimal(now), Word::Text(b"held")]),
-            Heard::Restarted(restart) => {
+            Ok(Heard::HeldBack(_)) => self.write(&[Word::Decimal(now), Word::Text(b"held")]),
+            Ok(Heard::Restarted(restart)) => {
                 self.count(now, b"restarted", restart.taken.place.value());
             }
-            Heard::Control => {}
+            Ok(Heard::Control) => {}
+            Err(fault) => self.count(now, b"refused", u64::from(fault.number())),
         }
     }
 

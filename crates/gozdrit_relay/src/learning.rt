@@ -3,9 +3,9 @@ ghost use Rattle.std.specs.Prelude.{◌≡◌, ◌≤◌, ◌<◌, IfOk};
 
 use crate::command_line::Options;
 use crate::machine::{HasFar, Learner, Learnt};
-use endpoint::is_control;
+use endpoint::{ResendRule, is_control};
 use receiver::ReceiverConfig;
-use relays::{Bounds, Note, Numbering, Pace, ReceiveRelay, SendRelay, Side, Stream};
+use relays::{Bounds, Note, Numbering, Pace, Rate, ReceiveRelay, SendRelay, Side, Stream};
 use rtpwire::{RtpView, Session};
 use sender::SenderConfig;
 use std::alloc::Global;
@@ -16,7 +16,7 @@ use stores::{History, OutOfMemory, Window};
 const MOST: u8 = 32;
 
 /// How long a retransmission is waited for until the round-trip time is known, in milliseconds.
-const RETRY: u64 = 100;
+const RETRY: u64 = 250;
 
 /// How late a packet may be before it is asked for, until then, in milliseconds.
 const LATE: u64 = 20;
@@ -84,7 +84,8 @@ pub struct SendLearner {
     pub known: Known,
     pub first: Option<u16>,
     pub rtx_first: u16,
-    pub rate: u64,
+    pub rate: Rate,
+    pub rule: ResendRule,
     pub history: usize,
     pub far: SocketAddr,
     pub bounds: Bounds,
@@ -102,6 +103,7 @@ impl<H: History> Learner<SendRelay<H>> for SendLearner {
         _from: SocketAddr,
         octets: &[u8],
         before: &Option<SendRelay<H>>,
+        _now: u64,
         _was_quiet: bool,
     ) -> Result<Option<Learnt<SendRelay<H>>>, OutOfMemory> {
         if side == Side::Far || before.is_some() || is_control(octets) {
@@ -119,13 +121,15 @@ impl<H: History> Learner<SendRelay<H>> for SendLearner {
             return Ok(None);
         };
         let relay = SendRelay::new(
+            self.alloc,
             config.with_any_reporter(),
-            H::new(self.alloc, self.history)?,
+            self.rule,
+            self.history,
             self.far,
             Stream::new(view.ssrc()),
             Pace::new(self.rate),
             self.bounds,
-        );
+        )?;
         Ok(Some(Learnt {
             relay,
             note: Note::Began(session, first, self.far),
@@ -231,6 +235,7 @@ impl<W: Window> Learner<ReceiveRelay<W>> for ReceiveLearner {
         from: SocketAddr,
         octets: &[u8],
         before: &Option<ReceiveRelay<W>>,
+        now: u64,
         was_quiet: bool,
     ) -> Result<Option<Learnt<ReceiveRelay<W>>>, OutOfMemory> {
         if side == Side::Near || is_control(octets) {
@@ -240,7 +245,7 @@ impl<W: Window> Learner<ReceiveRelay<W>> for ReceiveLearner {
             return Ok(None);
         };
         if let Some(relay) = before {
-            if !was_quiet || is_of(&view, from, relay) {
+            if !was_quiet || is_of(&view, from, relay) || relay.has_moved(octets, now) {
                 return Ok(None);
             }
         }
@@ -259,7 +264,7 @@ impl<W: Window> Learner<ReceiveRelay<W>> for ReceiveLearner {
     }
 }
 
-/// Whether a packet is one of the session that a relay has.
+/// Whether a packet from an address is one of the session that a relay has, by what it says and where it comes from.
 fn is_of<W: Window>(view: &RtpView<'_>, from: SocketAddr, relay: &ReceiveRelay<W>) -> bool {
     let session = relay.session();
     from == relay.far()

@@ -17,7 +17,7 @@ pub struct Learnt<R> {
     pub note: Note,
 }
 
-/// A relay that hears one far side.
+/// A relay that hears one far side, at one address at a time. Where that changes within a session the relay's own `hears` says.
 pub trait HasFar {
     ghost use Rattle.std.specs.declared.net.socket_addr.SocketAddr.{SocketAddr};
 
@@ -32,7 +32,7 @@ pub trait Learner<R: Relay + HasFar + Drop> {
     /// Where the far side is of a relay that begins with a datagram from an address.
     ghost begins: { Self → SocketAddr → SocketAddr → Type 0 };
 
-    /// Begins a relay with octets that came to a side from an address. None: they are no beginning. `was_quiet` says whether the
+    /// Begins a relay with octets that came to a side from an address at the moment `now`. None: they are no beginning. `was_quiet` says whether the
     /// relay before took nothing for so long that another one may take its place.
     ///
     /// `OutOfMemory`: the allocator refused the memory.
@@ -42,6 +42,7 @@ pub trait Learner<R: Relay + HasFar + Drop> {
         from: SocketAddr,
         octets: &[u8],
         before: &Option<R>,
+        now: u64,
         was_quiet: bool,
     ) -> Result<Option<Learnt<R>>, OutOfMemory>
         ensures begins { IfOk result (λ learnt. IfSome learnt (λ l. begins self.old from (R.HasFar.far l.relay))) }
@@ -92,7 +93,7 @@ impl<R: Relay + HasFar + Drop, L: Learner<R>> Machine<L, R> {
         let was_quiet = now.saturating_sub(self.last) >= QUIET;
         match self
             .learner
-            .learn(side, from, octets, &self.relay, was_quiet)
+            .learn(side, from, octets, &self.relay, now, was_quiet)
         {
             Ok(Some(learnt)) => {
                 self.note = Some(learnt.note);
@@ -181,7 +182,7 @@ impl<R: Relay + HasFar + Drop, L: Learner<R>> Relay for Machine<L, R> {
 /// The moment at which something was taken last, after a note of this one.
 fn last_taken(note: &Note, last: u64, now: u64) -> u64 {
     match note {
-        Note::Heard(Ok(_)) => now,
+        Note::Heard(Ok(_)) | Note::Moved(_, Ok(_)) => now,
         _ => last,
     }
 }

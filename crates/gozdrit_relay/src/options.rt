@@ -38,8 +38,20 @@ fn send<'a>(alloc: Global) -> Result<Command<'a>, AllocError> {
         .arg(option(
             alloc,
             "rate",
-            "KBIT",
-            "How fast retransmissions leave, in kilobits a second; at once by default",
+            "KBIT|N%",
+            "How fast retransmissions leave: kilobits a second, 0 for at once, or a share of the media's rate; 200% by default",
+        ))?
+        .arg(option(
+            alloc,
+            "min-resend",
+            "MS",
+            "How soon a packet is retransmitted again at most, in milliseconds; 10 by default",
+        ))?
+        .arg(option(
+            alloc,
+            "deadline",
+            "MS",
+            "How old a packet may be to be retransmitted, in milliseconds; any age by default",
         ))?
         .arg(option(
             alloc,

@@ -2,6 +2,10 @@
 #![tactic(auto)]
 
 #[cfg(test)]
+mod lossy;
+#[cfg(test)]
+mod pacing;
+#[cfg(test)]
 mod receiving;
 #[cfg(test)]
 mod script;

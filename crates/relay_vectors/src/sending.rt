@@ -1,11 +1,12 @@
 //! A relay before a network.
 use crate::script::{Script, local};
-use relays::{Bounds, Pace, SendRelay, Side, Stream, run};
+use endpoint::ResendRule;
+use relays::{Bounds, Pace, Rate, SendRelay, Side, Stream, run};
 use rtpwire::Session;
 use sender::SenderConfig;
 use std::alloc::Global;
 use std::test::Fail;
-use stores::{History, RingHistory};
+use stores::RingHistory;
 
 const APPLICATION: u16 = 4000;
 
@@ -15,28 +16,38 @@ const STRANGER: u16 = 6666;
 
 /// A relay of a session whose first number is 65535, for an application's stream, until so many packets were sent.
 fn relay(alloc: Global, packets: u64, pace: Pace) -> Result<SendRelay<RingHistory>, Fail> {
+    relay_by(alloc, packets, pace, ResendRule::ALWAYS)
+}
+
+/// The same by a rule of what is retransmitted.
+fn relay_by(
+    alloc: Global,
+    packets: u64,
+    pace: Pace,
+    rule: ResendRule,
+) -> Result<SendRelay<RingHistory>, Fail> {
     let Ok(session) = Session::with_any_media_type(0x11111111, 33, 0x22222222, 127, 0x33333333)
     else {
         return Err(Fail::from("a good session"));
     };
-    let (Ok(config), Ok(history)) = (
-        SenderConfig::new(session, 65535, 7, 3),
-        RingHistory::new(alloc, 64),
-    ) else {
-        return Err(Fail::from("good limits and ample memory"));
+    let Ok(config) = SenderConfig::new(session, 65535, 7, 3) else {
+        return Err(Fail::from("good limits"));
     };
     let bounds = Bounds {
         packets: Some(packets),
         until: None,
     };
-    Ok(SendRelay::new(
+    let made = SendRelay::new(
+        alloc,
         config,
-        history,
+        rule,
+        64,
         local(FAR),
         Stream::new(0x0a0b0c0d),
         pace,
         bounds,
-    ))
+    );
+    made.map_err(|_| Fail::from("memory is ample"))
 }
 
 /// A packet of the application: MPEG-2 transport stream, its number 1 and up, its marker set.
@@ -68,7 +79,7 @@ const NACK: [u8; 16] = [
 
 #[test]
 fn a_stream_is_sent_and_a_lost_packet_again(rt: HostRuntime) -> Result<(), Fail> {
-    let mut relay = relay(rt.alloc(), 2, Pace::new(0))?;
+    let mut relay = relay(rt.alloc(), 2, Pace::new(Rate::Free))?;
     let mut script = Script::new(rt.alloc());
     script.comes(5, Side::Near, APPLICATION, &FIRST)?;
     script.comes(6, Side::Near, APPLICATION, &OTHER)?;
@@ -94,7 +105,7 @@ fn a_stream_is_sent_and_a_lost_packet_again(rt: HostRuntime) -> Result<(), Fail>
 #[test]
 fn retransmissions_keep_their_pace(rt: HostRuntime) -> Result<(), Fail> {
     // Two packets that are marked at once, at one kilobit a second: the first has 15 octets, which take 120 milliseconds.
-    let mut relay = relay(rt.alloc(), 2, Pace::new(1))?;
+    let mut relay = relay(rt.alloc(), 2, Pace::new(Rate::Kilobits(1)))?;
     let mut script = Script::new(rt.alloc());
     script.comes(5, Side::Near, APPLICATION, &FIRST)?;
     script.comes(8, Side::Near, APPLICATION, &SECOND)?;
@@ -113,7 +124,7 @@ fn retransmissions_keep_their_pace(rt: HostRuntime) -> Result<(), Fail> {
 
 #[test]
 fn a_stream_that_takes_the_place_of_another(rt: HostRuntime) -> Result<(), Fail> {
-    let mut relay = relay(rt.alloc(), 2, Pace::new(0))?;
+    let mut relay = relay(rt.alloc(), 2, Pace::new(Rate::Free))?;
     let mut script = Script::new(rt.alloc());
     script.comes(5, Side::Near, APPLICATION, &FIRST)?;
     script.comes(1004, Side::Near, APPLICATION, &OTHER)?;
@@ -126,5 +137,79 @@ fn a_stream_that_takes_the_place_of_another(rt: HostRuntime) -> Result<(), Fail>
         Ok(())
     } else {
         Err(Fail::from("a second of silence"))
+    }
+}
+
+/// A packet of the application, of 1200 octets, with this number.
+fn long(number: u16) -> [u8; 1200] {
+    let mut octets = [0; 1200];
+    octets[..12].copy_from_slice(&SECOND[..12]);
+    octets[2..4].copy_from_slice(&number.to_be_bytes());
+    octets
+}
+
+/// Twice the media's rate, by a NACK for forty packets: 28 of their retransmissions are the burst, of 1202 octets each, and leave at
+/// once. Forty packets of 9600 bits at once, beside two megabits that are taken for granted, are 2,384,000 bits a second: 4768 a
+/// millisecond are the pace. 28 are 269,248 bits, and the burst 262,144, so the next ones wait for 7104, 7184 and 7264 bits to run out.
+#[test]
+fn few_leave_at_once_and_many_at_twice_the_rate(rt: HostRuntime) -> Result<(), Fail> {
+    let mut relay = relay(rt.alloc(), 40, Pace::new(Rate::Percent(200)))?;
+    let mut script = Script::new(rt.alloc());
+    for number in 0..40 {
+        script.comes(5, Side::Near, APPLICATION, &long(number))?;
+    }
+    let all = [
+        0x81, 0xcd, 0, 5, 0x33, 0x33, 0x33, 0x33, 0x11, 0x11, 0x11, 0x11, 0xff, 0xff, 0xff, 0xff,
+        0, 16, 0xff, 0xff, 0, 33, 0, 0x1f,
+    ];
+    script.comes(20, Side::Far, FAR, &all)?;
+    if run(&mut script, &mut relay).is_err() {
+        return Err(Fail::from("it ends by its bounds"));
+    }
+    let mut at_once = [0; 28];
+    for (moment, gone) in at_once.iter_mut().zip(script.gone.iter().skip(40)) {
+        *moment = gone.at;
+    }
+    let mut behind = [0; 3];
+    for (moment, gone) in behind.iter_mut().zip(script.gone.iter().skip(68)) {
+        *moment = gone.at;
+    }
+    if at_once == [20; 28] && behind == [22, 24, 26] && script.gone.len() >= 79 {
+        Ok(())
+    } else {
+        Err(Fail::from("when they left"))
+    }
+}
+
+/// A NACK that leaves twice is answered once, and so is one nine milliseconds after it; 100 milliseconds after the packet was sent one is,
+/// and none after that.
+#[test]
+fn what_does_not_fit_the_time_is_passed_over(rt: HostRuntime) -> Result<(), Fail> {
+    let rule = ResendRule {
+        min_resend: 10,
+        deadline: Some(100),
+    };
+    let mut relay = relay_by(rt.alloc(), 3, Pace::new(Rate::Free), rule)?;
+    let mut script = Script::new(rt.alloc());
+    script.comes(5, Side::Near, APPLICATION, &FIRST)?;
+    script.comes(8, Side::Near, APPLICATION, &SECOND)?;
+    for moment in [48, 48, 57, 105, 106] {
+        script.comes(moment, Side::Far, FAR, &NACK)?;
+    }
+    script.comes(107, Side::Near, APPLICATION, &SECOND)?;
+    if run(&mut script, &mut relay).is_err() {
+        return Err(Fail::from("it ends by its bounds"));
+    }
+    let passed = relay.passed();
+    let mut moments = [0; 5];
+    for (moment, gone) in moments.iter_mut().zip(script.gone.iter()) {
+        *moment = gone.at;
+    }
+    // At the end the stream is silent for 100 milliseconds, and its last packet leaves again.
+    let is_counted = passed.early == 2 && passed.expired == 1;
+    if moments == [5, 8, 48, 105, 107] && script.gone.len() == 6 && is_counted {
+        Ok(())
+    } else {
+        Err(Fail::from("what left, and what was passed over"))
     }
 }

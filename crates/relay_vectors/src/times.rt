@@ -1,12 +1,18 @@
-//! A round-trip time that is measured.
+//! What is measured of a path, and the times of asks that follow.
 use places::Place;
-use relays::RoundTrip;
 use std::test::Fail;
+use timing::{AskTimes, Path, Reordering, RoundTrip, Smoothed};
+
+/// How long an answer takes mostly and at most, where that was measured.
+fn bounds(trip: &RoundTrip) -> Option<(u64, u64)> {
+    let smoothed = trip.smoothed()?;
+    Some((smoothed.answer(), smoothed.spacing()))
+}
 
 #[test]
 fn a_round_trip_time(_rt: HostRuntime) -> Result<(), Fail> {
     let mut trip = RoundTrip::new();
-    let nothing = trip.retry().is_none() && trip.delay().is_none();
+    let nothing = bounds(&trip).is_none();
     let place = Place::first(7);
     trip.ask(place, 20);
     // Another one meanwhile is not measured, nor is what was not asked for.
@@ -14,11 +20,11 @@ fn a_round_trip_time(_rt: HostRuntime) -> Result<(), Fail> {
     let other = trip.hear(Place::first(8), 40);
     let first = trip.hear(place, 60);
     // RFC 6298, section 2.2: 40, and a variation of 20; and five.
-    let after_one = trip.retry() == Some(40 + 4 * 20 + 5) && trip.delay() == Some(20);
+    let after_one = bounds(&trip) == Some((40 + 20 + 5, 40 + 4 * 20 + 5));
     trip.ask(place, 100);
     let second = trip.hear(place, 140);
     // Section 2.3: 40 again, and three of four parts of the variation.
-    let after_two = trip.retry() == Some(40 + 4 * 15 + 5);
+    let after_two = bounds(&trip) == Some((40 + 15 + 5, 40 + 4 * 15 + 5));
     // What was played is measured no longer.
     trip.ask(place, 200);
     trip.pass(place);
@@ -31,10 +37,10 @@ fn a_round_trip_time(_rt: HostRuntime) -> Result<(), Fail> {
 }
 
 #[test]
-fn times_in_doubt_are_passed_over_but_each_fourth(_rt: HostRuntime) -> Result<(), Fail> {
+fn times_in_doubt_are_passed_over_but_each_ninth(_rt: HostRuntime) -> Result<(), Fail> {
     let mut trip = RoundTrip::new();
     let place = Place::first(7);
-    let mut doubtful = [true; 4];
+    let mut doubtful = [true; 9];
     for answer in &mut doubtful {
         trip.ask(place, 0);
         trip.doubt();
@@ -44,12 +50,86 @@ fn times_in_doubt_are_passed_over_but_each_fourth(_rt: HostRuntime) -> Result<()
     // The count begins anew: the next one in doubt is passed over again, and one without doubt counts.
     trip.ask(place, 0);
     trip.doubt();
-    let fifth = trip.hear(place, 900);
+    let tenth = trip.hear(place, 900);
     trip.ask(place, 0);
     let sure = trip.hear(place, 60) && trip.time() == Some(270);
-    if doubtful == [false, false, false, true] && late && !fifth && sure {
+    let wanted = [false, false, false, false, false, false, false, false, true];
+    if doubtful == wanted && late && !tenth && sure {
         Ok(())
     } else {
         Err(Fail::from("the times in doubt"))
+    }
+}
+
+/// The times over a path of this round-trip time, with a variation of one millisecond, for a patience of 200.
+fn times(round_trip: u64, reordering: u64) -> (u64, u64) {
+    let smoothed = Smoothed {
+        time: round_trip.saturating_mul(8),
+        variation: 4,
+    };
+    let times = AskTimes::fitting(&smoothed, 200, reordering);
+    (times.delay, times.retry)
+}
+
+#[test]
+fn as_many_asks_as_fit(_rt: HostRuntime) -> Result<(), Fail> {
+    // An answer takes 56 and at most 59. Three asks fit, at 0, 72 and 144: the last answer comes at 200.
+    let three = times(50, 0) == (0, 72);
+    // Behind 30 of reordering two do, at 30 and 144.
+    let two = times(50, 30) == (30, 114);
+    // An answer takes 26 and at most 29: seven fit, at 0, 29, .. 174.
+    let seven = times(20, 0) == (0, 29);
+    // An answer takes 156: one fits, and no later than at 44.
+    let one = times(150, 0) == (0, 200) && times(150, 70) == (44, 200);
+    // No answer comes in time: it is asked for at once, and not again.
+    let none = times(250, 70) == (0, 259);
+    if three && two && seven && one && none {
+        Ok(())
+    } else {
+        Err(Fail::from("the times of asks"))
+    }
+}
+
+#[test]
+fn reordering_is_forgotten(_rt: HostRuntime) -> Result<(), Fail> {
+    let mut seen = Reordering::new();
+    let nothing = seen.extent(5) == 0;
+    seen.see(5, 1000);
+    seen.see(3, 2000);
+    let first = seen.extent(2000) == 5 && seen.extent(19999) == 5 && seen.extent(20000) == 0;
+    seen.see(2, 12000);
+    let second = seen.extent(12000) == 5 && seen.extent(21999) == 5;
+    let third = seen.extent(22000) == 2 && seen.extent(31999) == 2 && seen.extent(32000) == 0;
+    if nothing && first && second && third {
+        Ok(())
+    } else {
+        Err(Fail::from("what is remembered"))
+    }
+}
+
+#[test]
+fn reordering_is_waited_for_up_to_half_a_round_trip(_rt: HostRuntime) -> Result<(), Fail> {
+    let mut path = Path::new();
+    path.see(10, 30);
+    let unknown = path.times(200, 30).is_none();
+    let place = Place::first(7);
+    path.trip.ask(place, 20);
+    // 40, with a variation of 20: an answer takes 65 and at most 125.
+    let measured = path.trip.hear(place, 60);
+    let wanted = AskTimes {
+        delay: 10,
+        retry: 125,
+    };
+    let as_seen = path.times(200, 60) == Some(wanted);
+    path.see(35, 70);
+    let wanted = AskTimes {
+        delay: 20,
+        retry: 200,
+    };
+    let half = path.times(200, 70) == Some(wanted);
+    if unknown && measured && as_seen && half {
+        Ok(())
+    } else {
+        Err(Fail::from("the times over a path"))
     }
 }

@@ -1,3 +1,6 @@
 pub mod Going
+pub mod Keeping
 pub mod Reading
+pub mod Taking
 pub mod Waking
+pub mod Marked

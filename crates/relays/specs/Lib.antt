@@ -1,10 +1,14 @@
 pub mod Passing
 pub mod Running
+pub mod Capping
+pub mod MediaRate
 pub mod Pacing
+pub mod Paced
 pub mod Ending
 pub mod Following
 pub mod Numbering
-pub mod RoundTrip
+pub mod Measuring
 pub mod Leaving
+pub mod Moving
 pub mod SendRelay
 pub mod ReceiveRelay

@@ -1,9 +1,11 @@
 -- The relay behind a network that loses: what it does with what comes, and what it does of its own. Each case of what it notes has
 -- its equation, and what stands nowhere is never done.
-use Rattle.std.specs.Prelude.{◌≡◌, ℕ, ◌||◌, Bool, true, false, List, Option, Some, None, Result, Ok}
+use Rattle.std.specs.Prelude.{◌≡◌, ℕ, ◌&&◌, ◌||◌, max, Bool, true, false, List, Option, Some, None, Result, Ok}
 use Rattle.std.specs.declared.net.socket_addr.SocketAddr.{SocketAddr}
+use Rattle.arrayvec.specs.ArrayVec.{ArrayVec}
 use Rattle.rtpwire.specs.Rtp.{RtpSpells}
 use Rattle.rtpwire.specs.Content.{packet_of}
+use Rattle.stores.specs.Span.{highest_of}
 use Rattle.receiver.specs.declared.answer.Played.{Played}
 use Rattle.receiver.specs.declared.answer.Played.TheVariants.{Packet, Gap, Wait}
 use Rattle.receiver.specs.declared.fault.ReceiveFault.{ReceiveFault}
@@ -18,20 +20,25 @@ use Rattle.endpoint.specs.declared.probation.Probation.{Probation}
 use Rattle.endpoint.specs.declared.receive_counts.ReceiveCounts.{ReceiveCounts}
 use Rattle.endpoint.specs.Counts.{more}
 use Rattle.endpoint.specs.ReceiveCounts.{count_heard, count_played, CountsAsk, no_counts}
-use Rattle.endpoint.specs.Receiving.{ends_of, fresh, HearsDatagram, no_run}
+use Rattle.endpoint.specs.Receiving.{ends_of, fresh, HearsDatagram, IsMediaNumber, IsSpelledWhere, no_run}
 use Rattle.relays.specs.declared.bounds.Bounds.{Bounds}
 use Rattle.relays.specs.declared.outside.Side.{Side}
 use Rattle.relays.specs.declared.outside.Side.TheVariants.{Near, Far}
 use Rattle.relays.specs.declared.numbering.Numbering.{Numbering}
-use Rattle.relays.specs.declared.round_trip.RoundTrip.{RoundTrip}
+use Rattle.timing.specs.declared.ask_times.AskTimes.{AskTimes}
+use Rattle.timing.specs.declared.path.Path.{Path}
 use Rattle.relays.specs.declared.relay.Note.{Note}
 use Rattle.relays.specs.declared.relay.Note.TheVariants as note
 use Rattle.relays.specs.declared.relay.Departure.{Departure}
 use Rattle.relays.specs.declared.relay.Turn.{Turn}
 use Rattle.relays.specs.Ending.{is_over}
 use Rattle.relays.specs.Numbering.{numbered, numbered_after, anew}
-use Rattle.relays.specs.RoundTrip.{measured_none, time_of, retry_of, delay_of, measured_by, passed_at}
+use Rattle.timing.specs.Path.{new_path, times_over}
+use Rattle.timing.specs.RoundTrip.{time_of, passed_at}
+use Rattle.relays.specs.declared.measuring.Awaited.{Awaited}
+use Rattle.relays.specs.Measuring.{IsWaitedFor, measured_by}
 use Rattle.relays.specs.Leaving.{GoesTo, octets_of}
+use Rattle.relays.specs.Moving.{is_next, is_quiet}
 
 -- what a relay is between two calls
 pub record ReceiveSide : Type 0 where
@@ -41,12 +48,23 @@ pub record ReceiveSide : Type 0 where
   pub probation : Probation
   pub counts : ReceiveCounts
   pub far : SocketAddr
+  pub came : Option ℕ  -- the moment at which the far side's last datagram came
+  pub reach : ℕ  -- by how much less a number may lie ahead that shows the far side at another address
   pub player : SocketAddr
   pub numbering : Numbering  -- the SSRC and the sequence numbers that the player sees
-  pub trip : RoundTrip  -- the round-trip time, and what it is measured by
+  pub path : Path  -- the round-trip time, and what it is measured by, and how far packets come behind later ones
   pub is_new : Bool  -- it was measured since the times were set
   pub last : Option ℕ  -- the moment of the last play
+  pub copy : Option (ArrayVec ℕ)  -- the NACK that left last, where it is still to leave a second time
   pub bounds : Bounds
+
+-- By how much less a number may lie ahead to be believed at once (MAX_DROPOUT of RFC 3550, appendix A.1): 3000, or as many as the
+-- window keeps, so that a gap that it bridges is no restart.
+abbrev pub dropout_of : (capacity : ℕ) → ℕ
+dropout_of capacity = max capacity 3000
+
+abbrev pub probation_of : (capacity : ℕ) → Probation
+probation_of capacity = record { dropout = dropout_of capacity; misorder = 100; ahead = 2; behind = 256; silence = Some 200 }
 
 -- a relay that took nothing
 abbrev pub new_receive_side : Config → (capacity : ℕ) → (far player : SocketAddr) → Numbering → Bounds → ReceiveSide
@@ -55,14 +73,17 @@ new_receive_side config capacity far player numbering bounds =
       core = fresh config capacity;
       spare = fresh config capacity;
       run = no_run;
-      probation = record { dropout = 3000; misorder = 100; ahead = 2; behind = 256; silence = Some 200 };
+      probation = probation_of capacity;
       counts = no_counts;
       far = far;
+      came = None;
+      reach = dropout_of capacity;
       player = player;
       numbering = numbering;
-      trip = measured_none;
+      path = new_path;
       is_new = false;
       last = None;
+      copy = None;
       bounds = bounds;
     }
 
@@ -75,14 +96,29 @@ abbrev pub numbering_after : Result Heard ReceiveFault → Numbering → Numberi
 numbering_after (Ok (heard.Restarted r)) n = anew n
 numbering_after answer n = n
 
--- What is done with a datagram at the far side's socket: the endpoint hears what the far side sent, and nobody else's. A
--- retransmission that is waited for measures the round-trip time.
+-- The octets are a media packet of the session with one of the next numbers, or they are not.
+abbrev pub GoesOn : ReceiveSide → (octets : List ℕ) → Bool → Type 0
+GoesOn s octets answer =
+    (number : Option ℕ) × IsMediaNumber s.core.config.session octets number × IsSpelledWhere octets number × (answer ≡ is_next (highest_of s.core.span) number s.reach)
+
+-- They come from another address than the far side's, and show it there: nothing came from the old one meanwhile.
+abbrev pub Moves : ReceiveSide → (octets : List ℕ) → (now : ℕ) → Bool → Type 0
+Moves s octets now answer = (goes_on : Bool) × GoesOn s octets goes_on × (answer ≡ (is_quiet s.came now && goes_on))
+
+-- The endpoint hears a datagram of the far side; and what it took measures the path, with the missing place that it was waited for at.
+pub record HearsFrom (old : ReceiveSide) (from : SocketAddr) (octets : List ℕ) (now : ℕ) (answer : Result Heard ReceiveFault) (new : ReceiveSide) : Type 0 where
+  pub hears : HearsDatagram old.probation (ends_of old.core old.spare old.run) octets now answer (ends_of new.core new.spare new.run)
+  pub awaited : Option Awaited
+  pub is_awaited : IsWaitedFor old.core.span octets awaited
+  pub rest : new ≡ record old { core = new.core; spare = new.spare; run = new.run; counts = count_heard answer old.counts; far = from; came = Some now; numbering = numbering_after answer old.numbering; path = (measured_by answer awaited old.path now).1; is_new = old.is_new || (measured_by answer awaited old.path now).0 }
+
+-- What is done with a datagram at the far side's socket: the endpoint hears what the far side sent, or what shows it at another
+-- address, which is its address from then on, and nobody else's.
 abbrev pub HearsFar : ReceiveSide → (from : SocketAddr) → (octets : List ℕ) → (now : ℕ) → Note → Option Departure → ReceiveSide → Type 0
-HearsFar old from octets now (note.Heard answer) None new =
-    (from ≡ old.far)
-    × HearsDatagram old.probation (ends_of old.core old.spare old.run) octets now answer (ends_of new.core new.spare new.run)
-    × (new ≡ record old { core = new.core; spare = new.spare; run = new.run; counts = count_heard answer old.counts; numbering = numbering_after answer old.numbering; trip = (measured_by answer old.trip now).1; is_new = old.is_new || (measured_by answer old.trip now).0 })
-HearsFar old from octets now note.Stray None new = (from ≡ old.far → ⊥) × (new ≡ old)
+HearsFar old from octets now (note.Heard answer) None new = (from ≡ old.far) × HearsFrom old from octets now answer new
+HearsFar old from octets now (note.Moved far answer) None new =
+    (from ≡ old.far → ⊥) × Moves old octets now true × (far ≡ from) × HearsFrom old from octets now answer new
+HearsFar old from octets now note.Stray None new = (from ≡ old.far → ⊥) × Moves old octets now false × (new ≡ old)
 HearsFar old from octets now n leaves new = ⊥
 
 -- nothing is taken from the player
@@ -93,7 +129,7 @@ Hears old Near from octets now turn out new = (turn ≡ record { note = note.Str
 -- a play passes a place, and no retransmission of it is measured any more
 abbrev pub passes : ReceiveSide → Played → (place now : ℕ) → ReceiveSide
 passes old played place now =
-    record old { core = receiver_passed played old.core; counts = count_played played old.counts; trip = passed_at old.trip place; last = Some now }
+    record old { core = receiver_passed played old.core; counts = count_played played old.counts; path = record old.path { trip = passed_at old.path.trip place }; last = Some now }
 
 -- What is played goes to the player: a packet with what it carried, under the media's type, the player's SSRC and the next number;
 -- and nothing where a place is given up.
@@ -114,28 +150,34 @@ pub record AsksFar (old : ReceiveSide) (now : ℕ) (d : Departure) (out : List �
   pub asks : AsksMost old.core.config (state_of old.core) now 256 (Some (record { items = octets_of d out })) (state_of new.core)
   pub goes : GoesTo d Far old.far
   pub counted : CountsAsk (Some (record { items = octets_of d out })) old.counts new.counts
-  pub rest : new ≡ record old { core = new.core; counts = new.counts; trip = new.trip }
-  pub smoothed : new.trip.smoothed ≡ old.trip.smoothed  -- which place is measured next, and in doubt or not, is left open
-  pub doubts : new.trip.doubts ≡ old.trip.doubts
+  pub rest : new ≡ record old { core = new.core; counts = new.counts; path = record old.path { trip = new.path.trip }; copy = Some (record { items = octets_of d out }) }
+  pub smoothed : new.path.trip.smoothed ≡ old.path.trip.smoothed  -- which place is measured next, and in doubt or not, is left open
+  pub doubts : new.path.trip.doubts ≡ old.path.trip.doubts
 
 abbrev pub Asks : ReceiveSide → (now : ℕ) → Note → Option Departure → (out : List ℕ) → ReceiveSide → Type 0
 Asks old now note.Asked (Some d) out new = AsksFar old now d out new
 Asks old now n leaves out new = ⊥
 
--- the times follow what was measured; the patience stays
-abbrev pub TimedBy : ReceiveSide → (delay retry : Option ℕ) → ReceiveSide → Type 0
-TimedBy old (Some delay) (Some retry) new =
-    new ≡ record old { core = with_times old.core old.core.config.patience delay retry; spare = with_times old.spare old.core.config.patience delay retry; is_new = false }
-TimedBy old delay retry new = new ≡ record old { is_new = false }
+-- the last NACK leaves a second time, as it was
+abbrev pub AsksAgain : ReceiveSide → Option Departure → (out : List ℕ) → ReceiveSide → Type 0
+AsksAgain old None out new = ⊥
+AsksAgain old (Some d) out new = (old.copy ≡ Some (record { items = octets_of d out })) × GoesTo d Far old.far × (new ≡ record old { copy = None })
 
--- what is done of its own: the times are set if something was measured, or else what is to be played is, or else what is due is
--- asked for, or else nothing is to be done
+-- the times follow what was measured, as many asks as fit into the patience, which stays
+abbrev pub TimedBy : ReceiveSide → Option AskTimes → ReceiveSide → Type 0
+TimedBy old (Some times) new =
+    new ≡ record old { core = with_times old.core old.core.config.patience times.delay times.retry; spare = with_times old.spare old.core.config.patience times.delay times.retry; is_new = false }
+TimedBy old None new = new ≡ record old { is_new = false }
+
+-- what is done of its own: the times are set if something was measured, or else what is to be played is, or else the last NACK leaves a
+-- second time, or else what is due is asked for, or else nothing is to be done
 abbrev pub SpeaksAs : ReceiveSide → (now : ℕ) → Note → Option Departure → (out : List ℕ) → ReceiveSide → Type 0
 SpeaksAs old now (note.Timed time) None out new =
-    (old.is_new ≡ true) × (time ≡ time_of old.trip.smoothed) × TimedBy old (delay_of old.trip.smoothed) (retry_of old.trip.smoothed) new
+    (old.is_new ≡ true) × (time ≡ time_of old.path.trip.smoothed) × TimedBy old (times_over old.path old.core.config.patience now) new
 SpeaksAs old now (note.Played place) leaves out new = (old.is_new ≡ false) × PlaysOut (next_play old now) old now (note.Played place) leaves out new
 SpeaksAs old now (note.Gap place) leaves out new = (old.is_new ≡ false) × PlaysOut (next_play old now) old now (note.Gap place) leaves out new
-SpeaksAs old now note.Asked leaves out new = (old.is_new ≡ false) × (next_play old now ≡ Wait) × Asks old now note.Asked leaves out new
+SpeaksAs old now note.AskedAgain leaves out new = (old.is_new ≡ false) × (next_play old now ≡ Wait) × AsksAgain old leaves out new
+SpeaksAs old now note.Asked leaves out new = (old.is_new ≡ false) × (next_play old now ≡ Wait) × (old.copy ≡ None) × Asks old now note.Asked leaves out new
 SpeaksAs old now n leaves out new = ⊥
 
 -- nothing is due
@@ -143,5 +185,5 @@ abbrev pub NothingDue : ReceiveSide → (now : ℕ) → Type 0
 NothingDue old now = AsksMost old.core.config (state_of old.core) now 256 None (state_of old.core)
 
 abbrev pub Speaks : ReceiveSide → (now : ℕ) → Option Turn → (out : List ℕ) → ReceiveSide → Type 0
-Speaks old now None out new = (old.is_new ≡ false) × (next_play old now ≡ Wait) × NothingDue old now × (new ≡ old)
+Speaks old now None out new = (old.is_new ≡ false) × (next_play old now ≡ Wait) × (old.copy ≡ None) × NothingDue old now × (new ≡ old)
 Speaks old now (Some turn) out new = SpeaksAs old now turn.note turn.leaves out new

@@ -7,13 +7,19 @@ use Rattle.rtpwire.specs.Rtp.{RtpPacket, RtpSpells}
 use Rattle.rtpwire.specs.Session.{Streams}
 use Rattle.rtpwire.specs.Content.{packet_of, IsTooLong}
 use Rattle.sender.specs.Sender.{Sending, state_of}
-use Rattle.sender.specs.History.{NoneMarked}
+use Rattle.sender.specs.History.{SenderState, NoneMarked}
 use Rattle.sender.specs.Sending.{SendsAt}
 use Rattle.sender.specs.Repairing.{RepairsAt}
 use Rattle.sender.specs.Tail.{MarksLast}
 use Rattle.endpoint.specs.Demultiplex.{is_control}
 use Rattle.endpoint.specs.Sending.{TellsKind}
+use Rattle.endpoint.specs.declared.resend_counts.ResendCounts.{ResendCounts}
+use Rattle.endpoint.specs.declared.resend_rule.ResendRule.{ResendRule}
+use Rattle.endpoint.specs.declared.resend_rule.Times.{Times}
 use Rattle.endpoint.specs.declared.send_counts.SendCounts.{SendCounts}
+use Rattle.endpoint.specs.Moments.{just_sent, sent_again, times_at, told}
+use Rattle.endpoint.specs.Passing.{PassesWhatMayNot}
+use Rattle.endpoint.specs.ResendCounts.{none_passed}
 use Rattle.endpoint.specs.SendCounts.{count_sent, count_told, count_repaired, no_counts}
 use Rattle.relays.specs.declared.bounds.Bounds.{Bounds}
 use Rattle.relays.specs.declared.outside.Side.{Side}
@@ -21,18 +27,21 @@ use Rattle.relays.specs.declared.outside.Side.TheVariants.{Near, Far}
 use Rattle.relays.specs.declared.pace.Pace.{Pace}
 use Rattle.relays.specs.declared.stream.Stream.{Stream}
 use Rattle.relays.specs.declared.relay.Note.{Note}
-use Rattle.relays.specs.declared.relay.Note.TheVariants.{Sent, Unsent, Told, Stray, Retransmitted, Marked}
+use Rattle.relays.specs.declared.relay.Note.TheVariants.{Sent, Unsent, Told, Stray, Retransmitted, PassedOver, Marked}
 use Rattle.relays.specs.declared.relay.Departure.{Departure}
 use Rattle.relays.specs.declared.relay.Turn.{Turn}
 use Rattle.relays.specs.Following.{follows, followed_at}
 use Rattle.relays.specs.Ending.{is_over}
-use Rattle.relays.specs.Pacing.{is_open, opens_after}
+use Rattle.relays.specs.Pacing.{is_open, opens_after, paced_beside}
 use Rattle.relays.specs.Leaving.{GoesTo, octets_of}
 
 -- what a relay is between two calls
 pub record SendSide : Type 0 where
   pub core : Sending  -- the sender of its endpoint, and what that counts
   pub counts : SendCounts
+  pub rule : ResendRule  -- which retransmissions fit the time
+  pub moments : List Times  -- when each packet was sent and last retransmitted, in a ring
+  pub passed : ResendCounts  -- the retransmissions that did not fit
   pub far : SocketAddr
   pub stream : Stream  -- the application's
   pub pace : Pace
@@ -40,9 +49,9 @@ pub record SendSide : Type 0 where
   pub bounds : Bounds
 
 -- a relay that sent nothing
-abbrev pub new_send_side : Sending → SocketAddr → Stream → Pace → Bounds → SendSide
-new_send_side core far stream pace bounds =
-    record { core = core; counts = no_counts; far = far; stream = stream; pace = pace; tail = false; bounds = bounds }
+abbrev pub new_send_side : Sending → ResendRule → List Times → SocketAddr → Stream → Pace → Bounds → SendSide
+new_send_side core rule moments far stream pace bounds =
+    record { core = core; counts = no_counts; rule = rule; moments = moments; passed = none_passed; far = far; stream = stream; pace = pace; tail = false; bounds = bounds }
 
 -- it ends by its bounds, of which it counts the packets that it sent
 abbrev pub is_done : SendSide → (now : ℕ) → Bool
@@ -65,7 +74,7 @@ pub record IsCarried (session : Streams) (stream : Stream) (octets : List ℕ) (
   pub carries : Carries session stream octets now packet content
   pub ssrc_is : packet.ssrc ≡ ssrc
 
--- It is sent at the next place of the session, to the far side.
+-- It is sent at the next place of the session, to the far side, and retransmissions are paced by what left.
 pub record Forwarded (old : SendSide) (octets : List ℕ) (now place : ℕ) (d : Departure) (out : List ℕ) (new : SendSide) : Type 0 where
   pub packet : RtpPacket
   pub content : Content
@@ -73,7 +82,7 @@ pub record Forwarded (old : SendSide) (octets : List ℕ) (now place : ℕ) (d :
   pub sends : SendsAt old.core.config.session old.core.past.capacity (state_of old.core) content 0 place (octets_of d out) (state_of new.core)
   pub goes : GoesTo d Far old.far
   pub config : new.core.config ≡ old.core.config
-  pub rest : new ≡ record old { core = new.core; counts = count_sent (length content.payload.items) old.counts; stream = followed_at packet.ssrc now; tail = true }
+  pub rest : new ≡ record old { core = new.core; counts = count_sent (length content.payload.items) old.counts; moments = told old.moments place (just_sent now); stream = followed_at packet.ssrc now; pace = paced_beside old.pace d.len now; tail = true }
 
 -- what is done with a datagram of the application: it is sent, or it carries nothing, or there is no place left
 abbrev pub Forwards : SendSide → (octets : List ℕ) → (now : ℕ) → Note → Option Departure → (out : List ℕ) → SendSide → Type 0
@@ -101,21 +110,35 @@ fell_silent (Some last) now = nat_le 100 (now - last)
 abbrev pub is_tail_at : SendSide → (now : ℕ) → Bool
 is_tail_at old now = old.tail && fell_silent old.stream.last now
 
--- A packet that is marked is retransmitted to the far side, as the pace lets it.
+-- The least packet that is marked and fits the time is retransmitted to the far side, as the pace lets it. What is marked below it is
+-- passed over.
 pub record Retransmits (old : SendSide) (now place : ℕ) (d : Departure) (out : List ℕ) (new : SendSide) : Type 0 where
   pub opened : is_open old.pace now ≡ true
-  pub repairs : RepairsAt old.core.config.session (state_of old.core) place (octets_of d out) (state_of new.core)
+  pub between : SenderState
+  pub passes : PassesWhatMayNot old.rule old.moments now (state_of old.core) old.passed between new.passed
+  pub repairs : RepairsAt old.core.config.session between place (octets_of d out) (state_of new.core)
   pub goes : GoesTo d Far old.far
   pub config : new.core.config ≡ old.core.config
-  pub rest : new ≡ record old { core = new.core; counts = count_repaired old.counts; pace = opens_after old.pace d.len now }
+  pub rest : new ≡ record old { core = new.core; counts = count_repaired old.counts; moments = told old.moments place (sent_again now (times_at old.moments place)); passed = new.passed; pace = opens_after old.pace d.len now }
+
+-- Of what is marked nothing fits the time, and all of it is passed over.
+pub record PassesAllOver (old : SendSide) (now : ℕ) (new : SendSide) : Type 0 where
+  pub opened : is_open old.pace now ≡ true
+  pub is_marked : NoneMarked (state_of old.core) → ⊥
+  pub passes : PassesWhatMayNot old.rule old.moments now (state_of old.core) old.passed (state_of new.core) new.passed
+  pub none_left : NoneMarked (state_of new.core)
+  pub config : new.core.config ≡ old.core.config
+  pub rest : new ≡ record old { core = new.core; passed = new.passed }
 
 -- no packet is marked that the pace would let leave
 abbrev pub NothingOpen : SendSide → (now : ℕ) → Type 0
 NothingOpen old now = is_open old.pace now ≡ true → NoneMarked (state_of old.core)
 
--- what is done of its own: the least marked packet is retransmitted, or else the last one is marked, or else nothing is to be done
+-- what is done of its own: the least marked packet that fits the time is retransmitted, or all that is marked is passed over, or else the
+-- last one is marked, or else nothing is to be done
 abbrev pub SpeaksAs : SendSide → (now : ℕ) → Note → Option Departure → (out : List ℕ) → SendSide → Type 0
 SpeaksAs old now (Retransmitted place) (Some d) out new = Retransmits old now place d out new
+SpeaksAs old now (PassedOver passed) None out new = (passed ≡ new.passed) × PassesAllOver old now new
 SpeaksAs old now (Marked marked) None out new =
     NothingOpen old now × (is_tail_at old now ≡ true)
     × MarksLast old.core.config.repeats (state_of old.core) marked (state_of new.core) × (new ≡ record old { core = new.core; tail = false })

@@ -3,22 +3,28 @@
 
 mod bounds;
 mod driving;
+mod dropout;
+mod laws;
+mod measuring;
+mod media_rate;
+mod moving;
 mod numbering;
 mod outside;
 mod pace;
 mod receiving;
 mod relay;
-mod round_trip;
 mod sending;
 mod stream;
 
 pub use bounds::Bounds;
 pub use driving::run;
+pub use laws::{bursts_leave_at_once, pace_is_kept};
+pub use measuring::Awaited;
+pub use media_rate::MediaRate;
 pub use numbering::Numbering;
 pub use outside::{Meeting, Octets, Outside, OutsideFault, Passage, Side};
-pub use pace::Pace;
+pub use pace::{Pace, Rate};
 pub use receiving::ReceiveRelay;
 pub use relay::{Departure, Note, Relay, Turn};
-pub use round_trip::{Probe, RoundTrip, Smoothed};
 pub use sending::SendRelay;
 pub use stream::Stream;

@@ -1,46 +1,57 @@
 //! The relay behind a network that loses.
 ghost use Rattle.std.specs.Prelude.{◌≡◌, ◌↔◌, ◌+◌, ◌^◌, ◌≤◌, ◌<◌, ℕ, List, false, length, None, IfSome, IfOk, IsOk, OnErr, OnOk, take, true};
 ghost use Rattle.receiver.specs.declared.answer.Played.TheVariants.{Wait};
+ghost use Rattle.relays.specs.declared.relay.Note.TheVariants as note;
 ghost use Rattle.rtpwire.specs.declared.limits.TheConstants.{MAX_DATAGRAM};
 ghost use Rattle.rtpwire.specs.Rtp.{RtpSpells};
 ghost use Rattle.rtpwire.specs.Content.{packet_of};
 ghost use Rattle.receiver.specs.Receiver.{begun, state_of};
 ghost use Rattle.stores.specs.Asking.{has_come};
 ghost use Rattle.relays.specs.Passing.{IsWithin};
-ghost use Rattle.relays.specs.RoundTrip.{measured_by};
-ghost use Rattle.relays.specs.ReceiveRelay.{Asks, HearsFar, is_done, new_receive_side, next_play, NothingDue, numbering_after, PlaysOut, SpeaksAs};
+ghost use Rattle.relays.specs.ReceiveRelay.{Asks, AsksAgain, GoesOn, HearsFar, HearsFrom, Moves, is_done, new_receive_side, next_play, NothingDue, numbering_after, PlaysOut, SpeaksAs};
 
 use crate::bounds::Bounds;
+use crate::dropout::{dropout, probation};
+use crate::measuring::{follow, place_missed};
+use crate::moving::{is_next, is_quiet, media_number};
 use crate::numbering::Numbering;
 use crate::outside::Side;
 use crate::relay::{Departure, Note, Relay, Turn, silent};
-use crate::round_trip::RoundTrip;
-use endpoint::{Heard, Probation, ReceiveCounts, ReceivingEndpoint};
+use endpoint::{Heard, ReceiveCounts, ReceivingEndpoint};
 use places::near;
 use receiver::{HasStarted, Peeked, ReceiveFault, ReceiverConfig};
-use rtpwire::{Carried, Content, MAX_DATAGRAM, Session, media_len, u16_at, write_media_into};
+use rtpwire::{
+    Carried, Content, Datagram, MAX_DATAGRAM, Session, media_len, u16_at, write_media_into,
+};
 use std::alloc::Global;
 use std::marker::Model;
 use std::net::SocketAddr;
 use stores::{OutOfMemory, SlotRef, Window, sooner};
+use timing::Path;
 
 /// How many places one ask names at most.
 const MOST: usize = 256;
 
 /// It takes a session from a network, asks the far side for what is lost, and hands what is played to a player as RTP of one SSRC,
-/// whose sequence numbers have holes only where places were given up or overrun. How long it waits before it asks,
-/// and asks again, follows the round-trip time.
+/// whose sequence numbers have holes only where places were given up or overrun. How long it waits before it asks, and asks again,
+/// follows what it measures of the path. Each NACK leaves twice.
 #[derive(Drop)]
 pub struct ReceiveRelay<W: Window> {
     endpoint: ReceivingEndpoint<W>,
     far: SocketAddr,
+    /// The moment at which the far side's last datagram came.
+    came: Option<u64>,
+    /// By how much less a number may lie ahead that shows the far side at another address.
+    reach: u16,
     player: SocketAddr,
     numbering: Numbering,
-    trip: RoundTrip,
-    /// Whether the round-trip time was measured since the times were set.
+    path: Path,
+    /// Whether the path was measured since the times were set.
     is_new: bool,
     /// The moment of the last play.
     last: Option<u64>,
+    /// The NACK that left last, where it is still to leave a second time.
+    copy: Option<Datagram>,
     bounds: Bounds,
 }
 
@@ -49,7 +60,7 @@ impl<W: Window> Model for ReceiveRelay<W> {
 
     ghost Value = { ReceiveSide };
 
-    ghost view = { λ r. record { core = r.endpoint.core; spare = r.endpoint.spare; run = r.endpoint.run; probation = r.endpoint.probation; counts = r.endpoint.counts; far = r.far; player = r.player; numbering = r.numbering; trip = r.trip; is_new = r.is_new; last = r.last; bounds = r.bounds } };
+    ghost view = { λ r. record { core = r.endpoint.core; spare = r.endpoint.spare; run = r.endpoint.run; probation = r.endpoint.probation; counts = r.endpoint.counts; far = r.far; came = r.came; reach = r.reach; player = r.player; numbering = r.numbering; path = r.path; is_new = r.is_new; last = r.last; copy = r.copy; bounds = r.bounds } };
 }
 
 impl<W: Window> ReceiveRelay<W> {
@@ -71,18 +82,16 @@ impl<W: Window> ReceiveRelay<W> {
         ensures { IfOk result (λ made. made ≡ new_receive_side config capacity far player numbering bounds) }
     {
         Ok(ReceiveRelay {
-            endpoint: ReceivingEndpoint::new(
-                alloc,
-                config,
-                Probation::usual().with_silence(Probation::SILENCE),
-                capacity,
-            )?,
+            endpoint: ReceivingEndpoint::new(alloc, config, probation(capacity), capacity)?,
             far,
+            came: None,
+            reach: dropout(capacity),
             player,
             numbering,
-            trip: RoundTrip::new(),
+            path: Path::new(),
             is_new: false,
             last: None,
+            copy: None,
             bounds,
         })
     }
@@ -149,29 +158,66 @@ impl<W: Window> ReceiveRelay<W> {
         ensures hears { HearsFar self.old from octets.now now result.note result.leaves self.new }
         ensures within { IsWithin result }
     {
-        if from != self.far {
+        let is_far = from == self.far;
+        if !is_far && !self.has_moved(octets, now) {
             return silent(Note::Stray);
         }
+        let answer = self.hear_session(from, octets, now);
+        if is_far {
+            silent(Note::Heard(answer))
+        } else {
+            silent(Note::Moved(from, answer))
+        }
+    }
+
+    /// Hears a datagram of the far side, which is at this address, and measures the path by it.
+    fn hear_session(
+        &mut self,
+        from: SocketAddr,
+        octets: &[u8],
+        now: u64,
+    ) -> Result<Heard, ReceiveFault>
+        ensures { HearsFrom self.old from octets.now now result self.new }
+    {
+        let missed = place_missed(self.endpoint.core(), octets);
+        self.far = from;
+        self.came = Some(now);
         let answer = self.endpoint.on_datagram(octets, now);
         renumber(&mut self.numbering, &answer);
-        if measure(&mut self.trip, &answer, now) {
-            self.is_new = true;
-        }
-        silent(Note::Heard(answer))
+        self.is_new = follow(&mut self.path, self.is_new, &answer, missed, now);
+        answer
+    }
+
+    /// Whether a datagram from another address than the far side's shows that it is there now: it goes on with the session, and
+    /// nothing came from the far side for a tenth of a second.
+    pub fn has_moved(&self, octets: &[u8], now: u64) -> bool
+        ensures { Moves self.now octets.now now result }
+    {
+        let goes_on = self.goes_on(octets);
+        is_quiet(self.came, now) && goes_on
+    }
+
+    /// Whether a datagram goes on with the session: a media packet of it with one of the next numbers.
+    fn goes_on(&self, octets: &[u8]) -> bool
+        ensures { GoesOn self.now octets.now result }
+    {
+        let core = self.endpoint.core();
+        let number = media_number(&core.config().session(), octets);
+        is_next(core.window().highest(), number, self.reach)
     }
 
     /// Has the times follow what was measured.
-    fn set_times(&mut self) -> Turn
+    fn set_times(&mut self, now: u64) -> Turn
         requires { self.old.is_new ≡ true }
-        ensures sets { (now : ℕ) (out : List ℕ) → SpeaksAs self.old now result.note result.leaves out self.new }
+        ensures sets { (out : List ℕ) → SpeaksAs self.old now result.note result.leaves out self.new }
         ensures within { IsWithin result }
     {
         self.is_new = false;
-        if let (Some(delay), Some(retry)) = (self.trip.delay(), self.trip.retry()) {
-            let patience = self.endpoint.core().config().patience();
-            let _ = self.endpoint.set_times(patience, delay, retry);
+        let patience = self.endpoint.core().config().patience();
+        if let Some(times) = self.path.times(patience, now) {
+            let _ = self.endpoint.set_times(patience, times.delay, times.retry);
         }
-        silent(Note::Timed(self.trip.time()))
+        silent(Note::Timed(self.path.trip.time()))
     }
 
     /// Plays, and writes what goes to the player.
@@ -187,7 +233,7 @@ impl<W: Window> ReceiveRelay<W> {
             Peeked::Wait => None,
             Peeked::Gap(place) => {
                 self.endpoint.pass(now);
-                self.trip.pass(place);
+                self.path.trip.pass(place);
                 self.last = Some(now);
                 Some(silent(Note::Gap(place)))
             }
@@ -202,7 +248,7 @@ impl<W: Window> ReceiveRelay<W> {
                 );
                 self.endpoint.pass(now);
                 self.numbering.play(place);
-                self.trip.pass(place);
+                self.path.trip.pass(place);
                 self.last = Some(now);
                 Some(Turn {
                     note: Note::Played(place),
@@ -228,6 +274,7 @@ impl<W: Window> ReceiveRelay<W> {
         match self.endpoint.ask_most_into(out, now, MOST) {
             Ok(Some(len)) => {
                 self.probe(&out[..len], now);
+                self.copy = Some(copy_of(&out[..len]));
                 Some(Turn {
                     note: Note::Asked,
                     leaves: Some(Departure {
@@ -242,26 +289,48 @@ impl<W: Window> ReceiveRelay<W> {
         }
     }
 
+    /// Sends the last NACK once more, so that the loss of one of both costs no time.
+    fn ask_again(&mut self, out: &mut [u8]) -> Option<Turn>
+        requires { length out.old ≡ MAX_DATAGRAM }
+        ensures some { IfSome result (λ turn. (turn.note ≡ note.AskedAgain) × AsksAgain self.old turn.leaves out.new self.new) }
+        ensures none { result ≡ None → self.old.copy ≡ None }
+        ensures same { result ≡ None → self.new ≡ self.old }
+        ensures within { IfSome result IsWithin }
+        ensures room { length out.new ≡ MAX_DATAGRAM }
+    {
+        let copy = self.copy.take()?;
+        let len = copy.len();
+        out[..len].copy_from_slice(copy.as_slice());
+        Some(Turn {
+            note: Note::AskedAgain,
+            leaves: Some(Departure {
+                side: Side::Far,
+                to: self.far,
+                len,
+            }),
+        })
+    }
+
     /// Has the round-trip time measured by the first place of a NACK, if that asks for it for the first time and no other one is
     /// measured. One that was asked for again is in doubt.
     fn probe(&mut self, nack: &[u8], now: u64)
-        ensures rest { self.new ≡ record self.old { trip = self.new.trip } }
-        ensures smoothed { self.new.trip.smoothed ≡ self.old.trip.smoothed }
-        ensures doubts { self.new.trip.doubts ≡ self.old.trip.doubts }
+        ensures rest { self.new ≡ record self.old { path = record self.old.path { trip = self.new.path.trip } } }
+        ensures smoothed { self.new.path.trip.smoothed ≡ self.old.path.trip.smoothed }
+        ensures doubts { self.new.path.trip.doubts ≡ self.old.path.trip.doubts }
     {
         let window = self.endpoint.core().window();
         let Some(highest) = window.highest() else {
             return;
         };
-        if let Some(place) = self.trip.place() {
+        if let Some(place) = self.path.trip.place() {
             if let Some(SlotRef::Missing { asks, .. }) = window.slot(place) {
                 if asks > 1 {
-                    self.trip.doubt();
+                    self.path.trip.doubt();
                 }
                 return;
             }
             // It has left the window, and no retransmission of it is taken any more.
-            self.trip.pass(place);
+            self.path.trip.pass(place);
         }
         if nack.len() < 14 {
             return;
@@ -270,7 +339,7 @@ impl<W: Window> ReceiveRelay<W> {
             return;
         };
         if let Some(SlotRef::Missing { asks: 1, .. }) = window.slot(place) {
-            self.trip.ask(place, now);
+            self.path.trip.ask(place, now);
         }
     }
 }
@@ -284,14 +353,14 @@ fn renumber(numbering: &mut Numbering, answer: &Result<Heard, ReceiveFault>)
     }
 }
 
-/// Measures by a retransmission that was taken, and answers whether it did.
-fn measure(trip: &mut RoundTrip, answer: &Result<Heard, ReceiveFault>, now: u64) -> bool
-    ensures { (result, trip.new) ≡ measured_by answer.now trip.old now }
+/// The same octets, which fit.
+fn copy_of(octets: &[u8]) -> Datagram
+    requires { length octets.now ≤ MAX_DATAGRAM }
+    ensures { result.items ≡ octets.now }
 {
-    match answer {
-        Ok(Heard::Repair(taken)) => trip.hear(taken.place, now),
-        _ => false,
-    }
+    let mut copy = Datagram::new();
+    copy.try_extend_from_slice(octets).unwrap();
+    copy
 }
 
 /// Writes a packet for the player, and answers how many octets it has.
@@ -332,16 +401,19 @@ impl<W: Window> Relay for ReceiveRelay<W> {
 
     fn speak(&mut self, now: u64, out: &mut [u8]) -> Option<Turn> {
         if self.is_new {
-            return Some(self.set_times());
+            return Some(self.set_times(now));
         }
         if let Some(turn) = self.play(now, out) {
+            return Some(turn);
+        }
+        if let Some(turn) = self.ask_again(out) {
             return Some(turn);
         }
         self.ask(now, out)
     }
 
     fn next_moment(&self) -> Option<u64> {
-        if self.is_new {
+        if self.is_new || self.copy.is_some() {
             return Some(0);
         }
         sooner(self.core_moment(), self.end())

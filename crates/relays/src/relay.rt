@@ -8,7 +8,7 @@ ghost use Rattle.relays.specs.Passing.{IsWithin};
 ghost use Rattle.relays.specs.Running.{RestsUntil};
 
 use crate::outside::Side;
-use endpoint::{Heard, Told};
+use endpoint::{Heard, ResendCounts, Told};
 use fbwire::FeedbackFault;
 use places::Place;
 use receiver::ReceiveFault;
@@ -29,10 +29,14 @@ pub enum Note {
     Stray,
     /// The packet of this place was retransmitted.
     Retransmitted(Place),
+    /// Nothing that was to be retransmitted fits the time, and it is passed over; with what was so far.
+    PassedOver(ResendCounts),
     /// The stream fell silent, and its last packet is to be retransmitted.
     Marked(Marked),
     /// The receiving endpoint heard a datagram of the far side.
     Heard(Result<Heard, ReceiveFault>),
+    /// The far side is at another address from now on, and the receiving endpoint heard this datagram from there.
+    Moved(SocketAddr, Result<Heard, ReceiveFault>),
     /// The receiving endpoint has other times. They follow this round-trip time, in milliseconds.
     Timed(Option<u64>),
     /// A session was learnt: its streams, the first sequence number of its media, and its far side.
@@ -43,6 +47,8 @@ pub enum Note {
     Gap(Place),
     /// Missing places were asked for.
     Asked,
+    /// The same NACK left a second time.
+    AskedAgain,
 }
 
 /// A datagram that leaves: by which side, for which address, and how many octets it has.

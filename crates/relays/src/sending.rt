@@ -1,7 +1,8 @@
 //! The relay before a network that loses.
-ghost use Rattle.std.specs.Prelude.{◌≡◌, ◌<◌, ◌^◌, ℕ, [], length, None, IfSome, false};
+ghost use Rattle.std.specs.Prelude.{◌≡◌, ◌<◌, ◌≤◌, ◌^◌, ℕ, length, None, IfOk, IfSome, false};
 ghost use Rattle.rtpwire.specs.declared.limits.TheConstants.{MAX_DATAGRAM};
 ghost use Rattle.sender.specs.Sender.{new_sending};
+ghost use Rattle.stores.specs.Past.{empty_past};
 ghost use Rattle.stores.specs.Asking.{has_come};
 ghost use Rattle.relays.specs.Passing.{IsWithin};
 ghost use Rattle.relays.specs.SendRelay.{CarriesNothing, Forwards, HearsFar, IsCarried, is_done, is_tail_at, new_send_side, NothingOpen, SpeaksAs};
@@ -11,22 +12,23 @@ use crate::outside::Side;
 use crate::pace::Pace;
 use crate::relay::{Departure, Note, Relay, Turn, silent};
 use crate::stream::Stream;
-use endpoint::{SendCounts, SendingEndpoint};
+use endpoint::{ResendCounts, ResendRule, SendCounts, TimelyEndpoint};
 use rtpwire::{Carried, MAX_DATAGRAM, RtpView, Session};
 use sender::SenderConfig;
+use std::alloc::Global;
 use std::marker::Model;
 use std::net::SocketAddr;
-use stores::{History, sooner};
+use stores::{History, OutOfMemory, sooner};
 
 /// How long a stream is silent before its last packet is retransmitted, in milliseconds.
 const SILENT: u64 = 100;
 
 /// It takes the packets of a stream from an application and sends them as the media of a session, and answers the feedback of the
-/// far side with retransmissions. A stream that falls silent has its last packet retransmitted once, so that the far side notices
+/// far side with the retransmissions that fit the time. A stream that falls silent has its last packet retransmitted once, so that the far side notices
 /// what it lacks below it.
 #[derive(Drop)]
 pub struct SendRelay<H: History> {
-    endpoint: SendingEndpoint<H>,
+    endpoint: TimelyEndpoint<H>,
     session: Session,
     far: SocketAddr,
     stream: Stream,
@@ -46,26 +48,32 @@ impl<H: History> Model for SendRelay<H> {
 
     ghost Value = { SendSide };
 
-    ghost view = { λ r. record { core = r.endpoint.core; counts = r.endpoint.counts; far = r.far; stream = r.stream; pace = r.pace; tail = r.tail; bounds = r.bounds } };
+    ghost view = { λ r. record { core = r.endpoint.endpoint.core; counts = r.endpoint.endpoint.counts; rule = r.endpoint.rule; moments = r.endpoint.moments; passed = r.endpoint.passed; far = r.far; stream = r.stream; pace = r.pace; tail = r.tail; bounds = r.bounds } };
 
-    ghost invariant = { λ r. (r.session ≡ r.endpoint.core.config.session) × (r.is_pending ≡ false → NoneMarked (state_of r.endpoint.core)) };
+    ghost invariant = { λ r. (r.session ≡ r.endpoint.endpoint.core.config.session) × (r.is_pending ≡ false → NoneMarked (state_of r.endpoint.endpoint.core)) };
 }
 
 impl<H: History> SendRelay<H> {
-    /// A relay to a far side that sent nothing so far, over a history without entries, for this stream of the application.
+    /// A relay to a far side that sent nothing so far, for this stream of the application. It keeps up to `capacity` packets, from 1
+    /// to 8192 of them, and retransmits by this rule, at this pace.
+    ///
+    /// `OutOfMemory`: the allocator refused the memory.
     pub fn new(
+        alloc: Global,
         config: SenderConfig,
-        history: H,
+        rule: ResendRule,
+        capacity: usize,
         far: SocketAddr,
         stream: Stream,
         pace: Pace,
         bounds: Bounds,
-    ) -> SendRelay<H>
-        requires { (H.meaning history).entries ≡ [] }
-        ensures { result ≡ new_send_side (new_sending config (H.meaning history)) far stream pace bounds }
+    ) -> Result<SendRelay<H>, OutOfMemory>
+        requires nonzero { 0 < capacity }
+        requires limit { capacity ≤ 8192 }
+        ensures { IfOk result (λ made. (made ≡ new_send_side (new_sending config (empty_past capacity)) rule made.moments far stream pace bounds) × (length made.moments ≡ capacity)) }
     {
-        SendRelay {
-            endpoint: SendingEndpoint::new(config, history),
+        Ok(SendRelay {
+            endpoint: TimelyEndpoint::new(alloc, config, rule, capacity)?,
             session: config.session(),
             far,
             stream,
@@ -73,14 +81,21 @@ impl<H: History> SendRelay<H> {
             tail: false,
             is_pending: true,
             bounds,
-        }
+        })
     }
 
     /// What its endpoint did so far.
     pub fn counts(&self) -> SendCounts
         ensures { result ≡ self.now.counts }
     {
-        self.endpoint.counts()
+        self.endpoint.endpoint().counts()
+    }
+
+    /// The retransmissions that did not fit the time so far.
+    pub fn passed(&self) -> ResendCounts
+        ensures { result ≡ self.now.passed }
+    {
+        self.endpoint.passed()
     }
 
     /// Sends a datagram of the application, if it is a packet of the stream.
@@ -93,10 +108,11 @@ impl<H: History> SendRelay<H> {
         let Some((ssrc, carried)) = carried(&self.session, &self.stream, octets, now) else {
             return silent(Note::Unsent);
         };
-        let Ok(Ok((place, len))) = self.endpoint.send_into(out, &carried, 0) else {
+        let Ok(Ok((place, len))) = self.endpoint.send_into(out, &carried, 0, now) else {
             return silent(Note::Unsent);
         };
         self.stream.follow(ssrc, now);
+        self.pace.measure(len, now);
         self.tail = true;
         self.is_pending = true;
         Turn {
@@ -121,7 +137,7 @@ impl<H: History> SendRelay<H> {
         silent(Note::Told(self.endpoint.on_datagram(octets)))
     }
 
-    /// Retransmits the least packet that is marked, if the pace lets it leave.
+    /// Retransmits the least packet that is marked and fits the time, if the pace lets it leave, and passes over what does not fit.
     fn retransmit(&mut self, now: u64, out: &mut [u8]) -> Option<Turn>
         requires { length out.old ≡ MAX_DATAGRAM }
         ensures some { IfSome result (λ turn. SpeaksAs self.old now turn.note turn.leaves out.new self.new) }
@@ -133,19 +149,28 @@ impl<H: History> SendRelay<H> {
         if !self.pace.is_open(now) {
             return None;
         }
-        let Ok(Some((place, len))) = self.endpoint.next_repair_into(out) else {
+        let Some(_) = self.endpoint.endpoint().next_marked() else {
             self.is_pending = false;
             return None;
         };
-        self.pace.spend(len, now);
-        Some(Turn {
-            note: Note::Retransmitted(place),
-            leaves: Some(Departure {
-                side: Side::Far,
-                to: self.far,
-                len,
+        match self.endpoint.retransmit_into(out, now) {
+            Ok(Some((place, len))) => {
+                self.pace.spend(len, now);
+                Some(Turn {
+                    note: Note::Retransmitted(place),
+                    leaves: Some(Departure {
+                        side: Side::Far,
+                        to: self.far,
+                        len,
+                    }),
+                })
+            }
+            Ok(None) => Some(Turn {
+                note: Note::PassedOver(self.endpoint.passed()),
+                leaves: None,
             }),
-        })
+            Err(_) => None,
+        }
     }
 
     /// Whether the last packet is to be retransmitted at the moment `now`.
@@ -170,10 +195,10 @@ impl<H: History> SendRelay<H> {
 
     /// From when on a packet that is marked may leave, if one may be.
     fn marked_moment(&self) -> Option<u64>
-        ensures { (now : ℕ) → has_come result now ≡ false → NothingOpen self.now now }
+        ensures { (now : ℕ) → now < 2 ^ 64 → has_come result now ≡ false → NothingOpen self.now now }
     {
         if self.is_pending {
-            Some(self.pace.opens())
+            self.pace.opens()
         } else {
             None
         }
@@ -183,8 +208,7 @@ impl<H: History> SendRelay<H> {
     fn end(&self) -> Option<u64>
         ensures { (now : ℕ) → has_come result now ≡ is_done self.now now }
     {
-        self.bounds
-            .end(self.endpoint.counts().sent, self.stream.last())
+        self.bounds.end(self.counts().sent, self.stream.last())
     }
 }
 

@@ -1,7 +1,7 @@
 //! How long a retransmission takes, and what follows from it.
-ghost use Rattle.std.specs.Prelude.{◌≡◌, ◌<◌, IfSome};
+ghost use Rattle.std.specs.Prelude.{◌≡◌};
 ghost use Rattle.std.specs.Option.{option_map};
-ghost use Rattle.relays.specs.RoundTrip.{smoothed_with, probed, doubted, heard_at, passed_at, measured_none, time_of, retry_of, delay_of};
+ghost use Rattle.timing.specs.RoundTrip.{smoothed_with, probed, doubted, heard_at, passed_at, measured_none, time_of};
 
 use places::Place;
 
@@ -9,7 +9,7 @@ use places::Place;
 const LONGEST: u64 = 60000;
 
 /// So many measurements in doubt are passed over in a row. The next one counts.
-const DOUBTS: u64 = 3;
+const DOUBTS: u64 = 8;
 
 /// A time and its variation, as they are smoothed.
 #[derive(Clone, Copy, Debug, PartialEq, Eq)]
@@ -32,8 +32,8 @@ pub struct Probe {
 
 /// How a round-trip time is measured: from the first ask for a place to its retransmission, one place at a time; and smoothed as
 /// RFC 6298, section 2, has it. Where the place was asked for again the time is in doubt, and is passed over (section 3, Karn's
-/// algorithm). But it is never too short: so each fourth one in a row counts, since else a time that is longer than what is waited
-/// for was never found. Times are in milliseconds.
+/// algorithm). But it is never too short: so each ninth one in a row counts, since else a time that is longer than what is waited
+/// for was never found. Losses alone, even half of all, have so many in doubt once in 500 times. Times are in milliseconds.
 #[derive(Clone, Copy, Debug, PartialEq, Eq)]
 pub struct RoundTrip {
     probe: Option<Probe>,
@@ -130,27 +130,11 @@ impl RoundTrip {
         Some(smoothed.time / 8)
     }
 
-    /// How long to wait for a retransmission before it is asked for again, in milliseconds, where that was measured: the
-    /// smoothed time, four times its variation, and five for timers.
-    pub fn retry(&self) -> Option<u64>
-        ensures value { result ≡ retry_of self.now.smoothed }
-        ensures some_time { IfSome result (λ retry. 0 < retry) }
+    /// What is smoothed, where it was measured.
+    pub fn smoothed(&self) -> Option<Smoothed>
+        ensures { result ≡ self.now.smoothed }
     {
-        let smoothed = self.smoothed?;
-        Some(
-            (smoothed.time / 8)
-                .saturating_add(smoothed.variation)
-                .saturating_add(5),
-        )
-    }
-
-    /// How long to wait for a packet that may only be late, in milliseconds, where the time was measured: half of the smoothed
-    /// time.
-    pub fn delay(&self) -> Option<u64>
-        ensures { result ≡ delay_of self.now.smoothed }
-    {
-        let smoothed = self.smoothed?;
-        Some(smoothed.time / 16)
+        self.smoothed
     }
 }
 

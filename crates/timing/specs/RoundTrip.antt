@@ -1,13 +1,10 @@
 -- A round-trip time, from an ask to the retransmission that answers it, smoothed as RFC 6298, section 2, has it. All times are in
 -- milliseconds.
-use Rattle.std.specs.Prelude.{ℕ, Bool, true, false, ◌+◌, ◌-◌, ◌*◌, ◌/◌, ◌==◌, ◌&&◌, nat_le, min, Option, Some, None, Result, Ok, if◌then◌else◌}
-use Rattle.receiver.specs.declared.fault.ReceiveFault.{ReceiveFault}
-use Rattle.endpoint.specs.declared.heard.Heard.{Heard}
-use Rattle.endpoint.specs.declared.heard.Heard.TheVariants as heard
-use Rattle.relays.specs.Pacing.{capped}
-use Rattle.relays.specs.declared.round_trip.Probe.{Probe}
-use Rattle.relays.specs.declared.round_trip.RoundTrip.{RoundTrip}
-use Rattle.relays.specs.declared.round_trip.Smoothed.{Smoothed}
+use Rattle.std.specs.Prelude.{ℕ, Bool, true, false, ◌+◌, ◌-◌, ◌*◌, ◌/◌, ◌==◌, ◌&&◌, nat_le, min, Option, Some, None, if◌then◌else◌}
+use Rattle.timing.specs.Capped.{capped}
+use Rattle.timing.specs.declared.round_trip.Probe.{Probe}
+use Rattle.timing.specs.declared.round_trip.RoundTrip.{RoundTrip}
+use Rattle.timing.specs.declared.round_trip.Smoothed.{Smoothed}
 
 -- nothing was measured
 abbrev pub measured_none : RoundTrip
@@ -40,9 +37,9 @@ smoothed_with (Some s) r =
     }
 
 -- What is taken of a place that is measured is a measurement, of a minute at most, and in doubt where the place was asked for again
--- (RFC 6298, section 3). Three in doubt are passed over in a row.
+-- (RFC 6298, section 3). Eight in doubt are passed over in a row.
 abbrev pub is_passed_over : Probe → (doubts : ℕ) → Bool
-is_passed_over p doubts = p.in_doubt && nat_le (doubts + 1) 3
+is_passed_over p doubts = p.in_doubt && nat_le (doubts + 1) 8
 
 abbrev pub heard_with : Option Probe → RoundTrip → (place now : ℕ) → Bool × RoundTrip
 heard_with None t place now = (false, t)
@@ -56,11 +53,6 @@ heard_with (Some p) t place now =
 abbrev pub heard_at : RoundTrip → (place now : ℕ) → Bool × RoundTrip
 heard_at t place now = heard_with t.probe t place now
 
--- a retransmission that was taken may be a measurement, and no other answer is
-abbrev pub measured_by : Result Heard ReceiveFault → RoundTrip → (now : ℕ) → Bool × RoundTrip
-measured_by (Ok (heard.Repair taken)) t now = heard_at t taken.place now
-measured_by answer t now = (false, t)
-
 -- a place that is played or given up is measured no longer
 abbrev pub probe_without : Option Probe → (place : ℕ) → Option Probe
 probe_without None place = None
@@ -73,13 +65,3 @@ passed_at t place = record t { probe = probe_without t.probe place }
 abbrev pub time_of : Option Smoothed → Option ℕ
 time_of None = None
 time_of (Some s) = Some (s.time / 8)
-
--- how long to wait for a retransmission: the smoothed time, four times its variation, and five for timers
-abbrev pub retry_of : Option Smoothed → Option ℕ
-retry_of None = None
-retry_of (Some s) = Some (capped (capped (s.time / 8 + s.variation) + 5))
-
--- how long to wait for a packet that may only be late: half of the smoothed time
-abbrev pub delay_of : Option Smoothed → Option ℕ
-delay_of None = None
-delay_of (Some s) = Some (s.time / 16)

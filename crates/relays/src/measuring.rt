@@ -1,0 +1,78 @@
+//! What a receiving relay measures of the path by what comes.
+ghost use Rattle.std.specs.Prelude.{◌≡◌, ◌||◌};
+ghost use Rattle.relays.specs.Measuring.{IsWaitedFor, measured_by, seen_by};
+
+use endpoint::Heard;
+use places::{Place, near};
+use receiver::{ReceiveFault, Receiver};
+use rtpwire::u16_at;
+use stores::{SlotRef, Window};
+use timing::Path;
+
+/// A place that is missing, and the moment at which that was noticed.
+#[derive(Clone, Copy, Debug, PartialEq, Eq)]
+pub struct Awaited {
+    pub place: Place,
+    pub noticed: u64,
+}
+
+/// The missing place that a packet with these octets has, if it is media.
+pub(crate) fn place_missed<W: Window>(core: &Receiver<W>, octets: &[u8]) -> Option<Awaited>
+    ensures { IsWaitedFor core.now.span octets.now result }
+{
+    let highest = core.window().highest()?;
+    if octets.len() < 4 {
+        return None;
+    }
+    let Ok(place) = near(highest, u16_at(octets, 2)) else {
+        return None;
+    };
+    match core.window().slot(place) {
+        Some(SlotRef::Missing { noticed, .. }) => Some(Awaited { place, noticed }),
+        _ => None,
+    }
+}
+
+/// Measures the path by what was heard, and answers whether the times of asks are to follow it anew, as they may have been to before.
+pub(crate) fn follow(
+    path: &mut Path,
+    is_new: bool,
+    answer: &Result<Heard, ReceiveFault>,
+    awaited: Option<Awaited>,
+    now: u64,
+) -> bool
+    ensures path { path.new ≡ (measured_by answer.now awaited path.old now).1 }
+    ensures is_new { result ≡ (is_new || (measured_by answer.now awaited path.old now).0) }
+{
+    let is_more = measure(path, answer, awaited, now);
+    is_new || is_more
+}
+
+/// Measures the path by what was heard, and answers whether that is more than was known.
+fn measure(
+    path: &mut Path,
+    answer: &Result<Heard, ReceiveFault>,
+    awaited: Option<Awaited>,
+    now: u64,
+) -> bool
+    ensures { (result, path.new) ≡ measured_by answer.now awaited path.old now }
+{
+    match (answer, awaited) {
+        (Ok(Heard::Repair(taken)), _) => path.trip.hear(taken.place, now),
+        (Ok(Heard::Media(taken)), Some(missed)) => see(path, taken.place, &missed, now),
+        _ => false,
+    }
+}
+
+/// A media packet was taken: how late it was is seen, where it was waited for.
+fn see(path: &mut Path, place: Place, awaited: &Awaited, now: u64) -> bool
+    ensures { (result, path.new) ≡ seen_by awaited.now path.old place now }
+{
+    if awaited.place != place {
+        return false;
+    }
+    let late = now.saturating_sub(awaited.noticed);
+    let is_more = path.reordering.extent(now) < late;
+    path.see(late, now);
+    is_more
+}

@@ -1,0 +1,33 @@
+//! Laws on what is measured of a path and on the times of asks. These functions compute nothing: their contracts are the laws.
+ghost use Rattle.std.specs.Prelude.{◌≡◌, ◌<◌, ◌≤◌, ◌+◌, ◌*◌, ◌/◌, ◌⊎◌, ℕ, List};
+ghost use Rattle.timing.specs.declared.round_trip.Smoothed.{Smoothed};
+ghost use Rattle.timing.specs.AskTimes.{ask_times, answer_of, spacing_of};
+ghost use Rattle.timing.specs.Reordering.{extent_at};
+ghost use Rattle.timing.specs.Sightings.{Sighting, seen_of, IsInOrder, AreWithin, AreLatelyWithin};
+
+/// Of asks for one place, whose patience is counted from the notice that it is missing: the first is made after the delay, and each of
+/// the others after the retry.
+#[tactic(auto, using(crate::proofs::Spread::apart, crate::proofs::Spread::as_many, crate::proofs::Spread::not_late))]
+pub fn asks_fit_the_time()
+    // No ask lies closer to the one before than a retransmission takes at most.
+    ensures apart { (s : Smoothed) (patience reordering : ℕ) → spacing_of s ≤ (ask_times s patience reordering).retry }
+    // The first is made as soon as reordering allows, if its answer then comes in time, and never later than that.
+    ensures early { (s : Smoothed) (patience reordering : ℕ) → reordering + answer_of s ≤ patience → (ask_times s patience reordering).delay ≡ reordering }
+    ensures no_later { (s : Smoothed) (patience reordering : ℕ) → answer_of s ≤ patience → (ask_times s patience reordering).delay + answer_of s ≤ patience }
+    // However many more would have their answers in time as close together as may be, so many have them as they are.
+    ensures as_many { (s : Smoothed) (patience reordering more : ℕ) → let t = ask_times s patience reordering in
+        t.delay + more * spacing_of s + answer_of s ≤ patience → t.delay + more * t.retry + answer_of s ≤ patience }
+    // An ask whose answer would come too late is not made while the place is waited for; rounding may take as many milliseconds as there
+    // were asks before.
+    ensures not_late { (s : Smoothed) (patience reordering more : ℕ) → let t = ask_times s patience reordering in
+        answer_of s ≤ patience → (t.delay + more * t.retry + answer_of s ≤ patience) ⊎ (patience ≤ t.delay + more * t.retry + more) }
+{}
+
+/// Of what was seen of reordering, at moments that don't fall.
+#[tactic(auto, using(crate::proofs::Sightings::are_remembered, crate::proofs::Sightings::are_forgotten))]
+pub fn reordering_is_of_late()
+    // All of the last ten seconds is remembered.
+    ensures remembered { (list : List Sighting) (now : ℕ) → IsInOrder list now → AreWithin list (extent_at (seen_of list) now) now }
+    // And nothing beyond the last thirty.
+    ensures forgotten { (list : List Sighting) (most now : ℕ) → IsInOrder list now → AreLatelyWithin list most now → extent_at (seen_of list) now ≤ most }
+{}

@@ -1,0 +1,45 @@
+//! What was measured of a path.
+ghost use Rattle.std.specs.Prelude.{◌≡◌, IfSome, ◌<◌};
+ghost use Rattle.timing.specs.Path.{new_path, times_over};
+ghost use Rattle.timing.specs.Reordering.{seen_at};
+
+use crate::ask_times::AskTimes;
+use crate::reordering::Reordering;
+use crate::round_trip::RoundTrip;
+
+/// What was measured of a path: how long an answer takes, and how far packets come behind later ones.
+#[derive(Clone, Copy, Debug, PartialEq, Eq)]
+pub struct Path {
+    pub trip: RoundTrip,
+    pub reordering: Reordering,
+}
+
+impl Path {
+    /// A path of which nothing was measured.
+    pub fn new() -> Path
+        ensures { result ≡ new_path }
+    {
+        Path {
+            trip: RoundTrip::new(),
+            reordering: Reordering::new(),
+        }
+    }
+
+    /// A packet came at the moment `now`, so long after it was noticed to be missing, in milliseconds.
+    pub fn see(&mut self, late: u64, now: u64)
+        ensures { self.new ≡ record self.old { reordering = seen_at self.old.reordering late now } }
+    {
+        self.reordering.see(late, now);
+    }
+
+    /// The times of asks for a place that is waited for so long, in milliseconds, where the round-trip time was measured. Reordering is
+    /// waited for up to half of that.
+    pub fn times(&self, patience: u64, now: u64) -> Option<AskTimes>
+        ensures value { result ≡ times_over self.now patience now }
+        ensures some_time { IfSome result (λ times. 0 < times.retry) }
+    {
+        let smoothed = self.trip.smoothed()?;
+        let reordering = self.reordering.extent(now).min(smoothed.time / 16);
+        Some(AskTimes::fitting(&smoothed, patience, reordering))
+    }
+}
