@@ -152,6 +152,25 @@ impl<W: Window> ReceivingEndpoint<W> {
         self.core.pass(now);
     }
 
+    /// [`pass`](ReceivingEndpoint::pass) with this patience, in milliseconds, for this once: for a caller that knows of the next place
+    /// that less of it is left, as since its packet was sent long before it was noticed to be missing.
+    pub fn pass_within(&mut self, patience: u64, now: u64)
+        ensures passes { self.new.core ≡ receiver_passed (play_of patience now self.old.core.span) self.old.core }
+        ensures plays { PlaysAny patience (state_of self.old.core) now (play_of patience now self.old.core.span) (state_of self.new.core) }
+        ensures stays { Stays self.old.core self.new.core }
+        ensures counts { self.new.counts ≡ count_played (play_of patience now self.old.core.span) self.old.counts }
+        ensures rest { self.new ≡ record self.old { core = self.new.core; counts = self.new.counts } }
+    {
+        let config = self.core.config();
+        let _ = self
+            .core
+            .set_times(patience, config.delay(), config.retry());
+        self.pass(now);
+        let _ = self
+            .core
+            .set_times(config.patience(), config.delay(), config.retry());
+    }
+
     /// [`Receiver::ask_most`] of what was believed.
     pub fn ask_most(&mut self, now: u64, most: usize) -> Option<Datagram>
         ensures asks { AsksMost self.old.core.config (state_of self.old.core) now most result (state_of self.new.core) }

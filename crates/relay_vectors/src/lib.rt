@@ -12,4 +12,6 @@ mod script;
 #[cfg(test)]
 mod sending;
 #[cfg(test)]
+mod silences;
+#[cfg(test)]
 mod times;

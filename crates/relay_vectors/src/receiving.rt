@@ -9,9 +9,9 @@ use std::alloc::Global;
 use std::test::Fail;
 use stores::RingWindow;
 
-const FAR: u16 = 6005;
+pub(crate) const FAR: u16 = 6005;
 
-const PLAYER: u16 = 5006;
+pub(crate) const PLAYER: u16 = 5006;
 
 const STRANGER: u16 = 6666;
 
@@ -21,7 +21,7 @@ fn relay(alloc: Global, packets: u64) -> Result<ReceiveRelay<RingWindow>, Fail> 
 }
 
 /// The same over windows of this capacity.
-fn relay_with(
+pub(crate) fn relay_with(
     alloc: Global,
     packets: u64,
     capacity: usize,
@@ -53,7 +53,7 @@ fn relay_with(
 }
 
 /// A media packet with this number and this octet.
-fn media(seq: u16, octet: u8) -> [u8; 13] {
+pub(crate) fn media(seq: u16, octet: u8) -> [u8; 13] {
     let [high, low] = seq.to_be_bytes();
     [
         0x80, 0x21, high, low, 0, 0, 0, octet, 0x11, 0x11, 0x11, 0x11, octet,
@@ -124,7 +124,7 @@ fn numbers_go_on_where_a_stream_restarts(rt: HostRuntime) -> Result<(), Fail> {
 }
 
 /// The retransmission of a media packet.
-fn repair(seq: u16, octet: u8) -> [u8; 15] {
+pub(crate) fn repair(seq: u16, octet: u8) -> [u8; 15] {
     let [high, low] = seq.to_be_bytes();
     [
         0x80, 0x7f, 0, 7, 0, 0, 0, octet, 0x22, 0x22, 0x22, 0x22, high, low, octet,

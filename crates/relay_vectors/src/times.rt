@@ -1,7 +1,7 @@
 //! What is measured of a path, and the times of asks that follow.
 use places::Place;
 use std::test::Fail;
-use timing::{AskTimes, Path, Reordering, RoundTrip, Smoothed};
+use timing::{AskTimes, Lately, Path, RoundTrip, Smoothed};
 
 /// How long an answer takes mostly and at most, where that was measured.
 fn bounds(trip: &RoundTrip) -> Option<(u64, u64)> {
@@ -92,14 +92,14 @@ fn as_many_asks_as_fit(_rt: HostRuntime) -> Result<(), Fail> {
 
 #[test]
 fn reordering_is_forgotten(_rt: HostRuntime) -> Result<(), Fail> {
-    let mut seen = Reordering::new();
-    let nothing = seen.extent(5) == 0;
+    let mut seen = Lately::new();
+    let nothing = seen.greatest(5) == 0;
     seen.see(5, 1000);
     seen.see(3, 2000);
-    let first = seen.extent(2000) == 5 && seen.extent(19999) == 5 && seen.extent(20000) == 0;
+    let first = seen.greatest(2000) == 5 && seen.greatest(19999) == 5 && seen.greatest(20000) == 0;
     seen.see(2, 12000);
-    let second = seen.extent(12000) == 5 && seen.extent(21999) == 5;
-    let third = seen.extent(22000) == 2 && seen.extent(31999) == 2 && seen.extent(32000) == 0;
+    let second = seen.greatest(12000) == 5 && seen.greatest(21999) == 5;
+    let third = seen.greatest(22000) == 2 && seen.greatest(31999) == 2 && seen.greatest(32000) == 0;
     if nothing && first && second && third {
         Ok(())
     } else {

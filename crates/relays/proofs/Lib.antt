@@ -1,5 +1,6 @@
 pub mod Going
 pub mod Keeping
+pub mod Left
 pub mod Reading
 pub mod Taking
 pub mod Waking

@@ -1,6 +1,6 @@
 -- The relay behind a network that loses: what it does with what comes, and what it does of its own. Each case of what it notes has
 -- its equation, and what stands nowhere is never done.
-use Rattle.std.specs.Prelude.{◌≡◌, ℕ, ◌&&◌, ◌||◌, max, Bool, true, false, List, Option, Some, None, Result, Ok}
+use Rattle.std.specs.Prelude.{◌≡◌, ℕ, ◌-◌, ◌&&◌, ◌||◌, max, Bool, true, false, List, Option, Some, None, Result, Ok}
 use Rattle.std.specs.declared.net.socket_addr.SocketAddr.{SocketAddr}
 use Rattle.arrayvec.specs.ArrayVec.{ArrayVec}
 use Rattle.rtpwire.specs.Rtp.{RtpSpells}
@@ -35,8 +35,10 @@ use Rattle.relays.specs.Ending.{is_over}
 use Rattle.relays.specs.Numbering.{numbered, numbered_after, anew}
 use Rattle.timing.specs.Path.{new_path, times_over}
 use Rattle.timing.specs.RoundTrip.{time_of, passed_at}
-use Rattle.relays.specs.declared.measuring.Awaited.{Awaited}
-use Rattle.relays.specs.Measuring.{IsWaitedFor, measured_by}
+use Rattle.timing.specs.declared.arrivals.Arrivals.{Arrivals}
+use Rattle.timing.specs.Arrivals.{lead_at}
+use Rattle.relays.specs.declared.measuring.Standing.{Standing}
+use Rattle.relays.specs.Measuring.{IsStanding, measured_by}
 use Rattle.relays.specs.Leaving.{GoesTo, octets_of}
 use Rattle.relays.specs.Moving.{is_next, is_quiet}
 
@@ -105,12 +107,12 @@ GoesOn s octets answer =
 abbrev pub Moves : ReceiveSide → (octets : List ℕ) → (now : ℕ) → Bool → Type 0
 Moves s octets now answer = (goes_on : Bool) × GoesOn s octets goes_on × (answer ≡ (is_quiet s.came now && goes_on))
 
--- The endpoint hears a datagram of the far side; and what it took measures the path, with the missing place that it was waited for at.
+-- The endpoint hears a datagram of the far side; and what it took measures the path, by where its receiver stood.
 pub record HearsFrom (old : ReceiveSide) (from : SocketAddr) (octets : List ℕ) (now : ℕ) (answer : Result Heard ReceiveFault) (new : ReceiveSide) : Type 0 where
   pub hears : HearsDatagram old.probation (ends_of old.core old.spare old.run) octets now answer (ends_of new.core new.spare new.run)
-  pub awaited : Option Awaited
-  pub is_awaited : IsWaitedFor old.core.span octets awaited
-  pub rest : new ≡ record old { core = new.core; spare = new.spare; run = new.run; counts = count_heard answer old.counts; far = from; came = Some now; numbering = numbering_after answer old.numbering; path = (measured_by answer awaited old.path now).1; is_new = old.is_new || (measured_by answer awaited old.path now).0 }
+  pub standing : Standing
+  pub stood : IsStanding old.core octets standing
+  pub rest : new ≡ record old { core = new.core; spare = new.spare; run = new.run; counts = count_heard answer old.counts; far = from; came = Some now; numbering = numbering_after answer old.numbering; path = (measured_by answer standing old.path now).1; is_new = old.is_new || (measured_by answer standing old.path now).0 }
 
 -- What is done with a datagram at the far side's socket: the endpoint hears what the far side sent, or what shows it at another
 -- address, which is its address from then on, and nobody else's.
@@ -131,6 +133,12 @@ abbrev pub passes : ReceiveSide → Played → (place now : ℕ) → ReceiveSide
 passes old played place now =
     record old { core = receiver_passed played old.core; counts = count_played played old.counts; path = record old.path { trip = passed_at old.path.trip place }; last = Some now }
 
+-- the place that is given up
+abbrev pub gap_of : Played → Option ℕ
+gap_of (Packet place content) = None
+gap_of (Gap place) = Some place
+gap_of Wait = None
+
 -- What is played goes to the player: a packet with what it carried, under the media's type, the player's SSRC and the next number;
 -- and nothing where a place is given up.
 abbrev pub PlaysOut : Played → ReceiveSide → (now : ℕ) → Note → Option Departure → (out : List ℕ) → ReceiveSide → Type 0
@@ -141,9 +149,18 @@ PlaysOut (Packet place content) old now (note.Played p) (Some d) out new =
 PlaysOut (Gap place) old now (note.Gap p) None out new = (p ≡ place) × (new ≡ passes old (Gap place) place now)
 PlaysOut played old now n leaves out new = ⊥
 
+-- How long a place is waited for since it was noticed to be missing: the patience, but for how long before that its packet was sent, as
+-- far as a silence tells it. So what was lost in a long one, and can't be played in time any more, is given up at once.
+abbrev pub left_at : Arrivals → (patience : ℕ) → (cursor : Option ℕ) → ℕ
+left_at a patience None = patience
+left_at a patience (Some place) = patience - lead_at a place
+
+abbrev pub patience_left : ReceiveSide → ℕ
+patience_left s = left_at s.path.arrivals s.core.config.patience s.core.span.cursor
+
 -- what a play would give at this moment
 abbrev pub next_play : ReceiveSide → (now : ℕ) → Played
-next_play old now = play_of old.core.config.patience now old.core.span
+next_play s now = play_of (patience_left s) now s.core.span
 
 -- places that are due are asked for at the far side, at most 256 in one datagram
 pub record AsksFar (old : ReceiveSide) (now : ℕ) (d : Departure) (out : List ℕ) (new : ReceiveSide) : Type 0 where

@@ -1,6 +1,6 @@
 //! What a receiving relay measures of the path by what comes.
 ghost use Rattle.std.specs.Prelude.{◌≡◌, ◌||◌};
-ghost use Rattle.relays.specs.Measuring.{IsWaitedFor, measured_by, seen_by};
+ghost use Rattle.relays.specs.Measuring.{IsStanding, IsWaitedFor, measured_by, seen_by};
 
 use endpoint::Heard;
 use places::{Place, near};
@@ -17,7 +17,7 @@ pub struct Awaited {
 }
 
 /// The missing place that a packet with these octets has, if it is media.
-pub(crate) fn place_missed<W: Window>(core: &Receiver<W>, octets: &[u8]) -> Option<Awaited>
+fn place_missed<W: Window>(core: &Receiver<W>, octets: &[u8]) -> Option<Awaited>
     ensures { IsWaitedFor core.now.span octets.now result }
 {
     let highest = core.window().highest()?;
@@ -33,18 +33,43 @@ pub(crate) fn place_missed<W: Window>(core: &Receiver<W>, octets: &[u8]) -> Opti
     }
 }
 
+/// Where a receiver stood before a datagram came, for its path to be measured by that.
+#[derive(Clone, Copy, Debug, PartialEq, Eq)]
+pub struct Standing {
+    /// The highest place that was taken.
+    pub highest: Option<Place>,
+    /// The next place to play.
+    pub cursor: Option<u64>,
+    /// How long a place is waited for, in milliseconds.
+    pub patience: u64,
+    /// The missing place that the datagram has.
+    pub awaited: Option<Awaited>,
+}
+
+/// Where a receiver stands, before a packet with these octets.
+pub(crate) fn standing_before<W: Window>(core: &Receiver<W>, octets: &[u8]) -> Standing
+    ensures { IsStanding core.now octets.now result }
+{
+    Standing {
+        highest: core.window().highest(),
+        cursor: core.window().cursor(),
+        patience: core.config().patience(),
+        awaited: place_missed(core, octets),
+    }
+}
+
 /// Measures the path by what was heard, and answers whether the times of asks are to follow it anew, as they may have been to before.
 pub(crate) fn follow(
     path: &mut Path,
     is_new: bool,
     answer: &Result<Heard, ReceiveFault>,
-    awaited: Option<Awaited>,
+    standing: &Standing,
     now: u64,
 ) -> bool
-    ensures path { path.new ≡ (measured_by answer.now awaited path.old now).1 }
-    ensures is_new { result ≡ (is_new || (measured_by answer.now awaited path.old now).0) }
+    ensures path { path.new ≡ (measured_by answer.now standing.now path.old now).1 }
+    ensures is_new { result ≡ (is_new || (measured_by answer.now standing.now path.old now).0) }
 {
-    let is_more = measure(path, answer, awaited, now);
+    let is_more = measure(path, answer, standing, now);
     is_new || is_more
 }
 
@@ -52,27 +77,43 @@ pub(crate) fn follow(
 fn measure(
     path: &mut Path,
     answer: &Result<Heard, ReceiveFault>,
-    awaited: Option<Awaited>,
+    standing: &Standing,
     now: u64,
 ) -> bool
-    ensures { (result, path.new) ≡ measured_by answer.now awaited path.old now }
+    ensures { (result, path.new) ≡ measured_by answer.now standing.now path.old now }
 {
-    match (answer, awaited) {
-        (Ok(Heard::Repair(taken)), _) => path.trip.hear(taken.place, now),
-        (Ok(Heard::Media(taken)), Some(missed)) => see(path, taken.place, &missed, now),
+    match answer {
+        Ok(Heard::Repair(taken)) => path.trip.hear(taken.place, now),
+        Ok(Heard::Media(taken)) => {
+            path.arrivals.come(
+                standing.highest,
+                standing.cursor,
+                standing.patience,
+                taken.place,
+                now,
+            );
+            see(path, &standing.awaited, taken.place, now)
+        }
+        Ok(Heard::Restarted(_)) => {
+            path.arrivals.restart(now);
+            false
+        }
         _ => false,
     }
 }
 
 /// A media packet was taken: how late it was is seen, where it was waited for.
-fn see(path: &mut Path, place: Place, awaited: &Awaited, now: u64) -> bool
+fn see(path: &mut Path, awaited: &Option<Awaited>, place: Place, now: u64) -> bool
     ensures { (result, path.new) ≡ seen_by awaited.now path.old place now }
 {
+    let Some(awaited) = awaited else {
+        return false;
+    };
     if awaited.place != place {
         return false;
     }
     let late = now.saturating_sub(awaited.noticed);
-    let is_more = path.reordering.extent(now) < late;
+    let is_more = path.reordering.greatest(now) < late;
     path.see(late, now);
     is_more
 }

@@ -1,6 +1,8 @@
 //! The relay behind a network that loses.
 ghost use Rattle.std.specs.Prelude.{◌≡◌, ◌↔◌, ◌+◌, ◌^◌, ◌≤◌, ◌<◌, ℕ, List, false, length, None, IfSome, IfOk, IsOk, OnErr, OnOk, take, true};
-ghost use Rattle.receiver.specs.declared.answer.Played.TheVariants.{Wait};
+ghost use Rattle.receiver.specs.declared.answer.Played.TheVariants.{Gap, Packet, Wait};
+ghost use Rattle.receiver.specs.Peeking.{play_of};
+ghost use Rattle.rtpwire.specs.declared.content.Content.{Content};
 ghost use Rattle.relays.specs.declared.relay.Note.TheVariants as note;
 ghost use Rattle.rtpwire.specs.declared.limits.TheConstants.{MAX_DATAGRAM};
 ghost use Rattle.rtpwire.specs.Rtp.{RtpSpells};
@@ -8,17 +10,17 @@ ghost use Rattle.rtpwire.specs.Content.{packet_of};
 ghost use Rattle.receiver.specs.Receiver.{begun, state_of};
 ghost use Rattle.stores.specs.Asking.{has_come};
 ghost use Rattle.relays.specs.Passing.{IsWithin};
-ghost use Rattle.relays.specs.ReceiveRelay.{Asks, AsksAgain, GoesOn, HearsFar, HearsFrom, Moves, is_done, new_receive_side, next_play, NothingDue, numbering_after, PlaysOut, SpeaksAs};
+ghost use Rattle.relays.specs.ReceiveRelay.{Asks, AsksAgain, GoesOn, HearsFar, HearsFrom, Moves, gap_of, is_done, new_receive_side, next_play, NothingDue, numbering_after, patience_left, PlaysOut, SpeaksAs};
 
 use crate::bounds::Bounds;
 use crate::dropout::{dropout, probation};
-use crate::measuring::{follow, place_missed};
+use crate::measuring::{follow, standing_before};
 use crate::moving::{is_next, is_quiet, media_number};
 use crate::numbering::Numbering;
 use crate::outside::Side;
 use crate::relay::{Departure, Note, Relay, Turn, silent};
 use endpoint::{Heard, ReceiveCounts, ReceivingEndpoint};
-use places::near;
+use places::{Place, near};
 use receiver::{HasStarted, Peeked, ReceiveFault, ReceiverConfig};
 use rtpwire::{
     Carried, Content, Datagram, MAX_DATAGRAM, Session, media_len, u16_at, write_media_into,
@@ -122,10 +124,49 @@ impl<W: Window> ReceiveRelay<W> {
     /// From when on something is to be played or asked for.
     #[tactic(auto, using(crate::proofs::Waking::waits, crate::proofs::Waking::asks_nothing))]
     fn core_moment(&self) -> Option<u64>
-        ensures plays { (now : ℕ) → now < 2 ^ 64 → has_come result now ≡ false → next_play self.now now ≡ Wait }
+        ensures plays { (now : ℕ) → now < 2 ^ 64 → has_come result now ≡ false → play_of self.now.core.config.patience now self.now.core.span ≡ Wait }
         ensures asks { (now : ℕ) → now < 2 ^ 64 → has_come result now ≡ false → NothingDue self.now now }
     {
         self.endpoint.core().next_moment()
+    }
+
+    /// How long the next place to play is waited for since it was noticed to be missing: the patience, but for how long before that its
+    /// packet was sent.
+    fn patience_left(&self) -> u64
+        ensures { result ≡ patience_left self.now }
+    {
+        let core = self.endpoint.core();
+        let patience = core.config().patience();
+        match core.window().cursor() {
+            Some(place) => patience.saturating_sub(self.path.arrivals.lead(place)),
+            None => patience,
+        }
+    }
+
+    /// The moment at which the next place to play is given up, if it is missing.
+    fn front_moment(&self) -> Option<u64>
+        ensures { (now : ℕ) → now < 2 ^ 64 → has_come result now ≡ false → play_of self.now.core.config.patience now self.now.core.span ≡ Wait → next_play self.now now ≡ Wait }
+    {
+        match self.endpoint.core().window().front() {
+            Some(SlotRef::Missing { noticed, .. }) => {
+                Some(noticed.saturating_add(self.patience_left()))
+            }
+            _ => None,
+        }
+    }
+
+    /// The next place to play, if it is missing and its packet was sent too long ago.
+    fn expired(&self, now: u64) -> Option<Place>
+        ensures { result ≡ gap_of (next_play self.now now) }
+    {
+        let window = self.endpoint.core().window();
+        let Some(SlotRef::Missing { noticed, .. }) = window.front() else {
+            return None;
+        };
+        if now < noticed || now - noticed < self.patience_left() {
+            return None;
+        }
+        Some(Place::new(window.cursor()?).unwrap())
     }
 
     /// Has the stream begin with this sequence number: so what is lost before the first packet that comes is asked for too.
@@ -179,12 +220,12 @@ impl<W: Window> ReceiveRelay<W> {
     ) -> Result<Heard, ReceiveFault>
         ensures { HearsFrom self.old from octets.now now result self.new }
     {
-        let missed = place_missed(self.endpoint.core(), octets);
+        let standing = standing_before(self.endpoint.core(), octets);
         self.far = from;
         self.came = Some(now);
         let answer = self.endpoint.on_datagram(octets, now);
         renumber(&mut self.numbering, &answer);
-        self.is_new = follow(&mut self.path, self.is_new, &answer, missed, now);
+        self.is_new = follow(&mut self.path, self.is_new, &answer, &standing, now);
         answer
     }
 
@@ -221,6 +262,7 @@ impl<W: Window> ReceiveRelay<W> {
     }
 
     /// Plays, and writes what goes to the player.
+    #[tactic(auto, using(crate::proofs::Left::packet_is))]
     fn play(&mut self, now: u64, out: &mut [u8]) -> Option<Turn>
         requires { length out.old ≡ MAX_DATAGRAM }
         ensures some { IfSome result (λ turn. PlaysOut (next_play self.old now) self.old now turn.note turn.leaves out.new self.new) }
@@ -230,13 +272,7 @@ impl<W: Window> ReceiveRelay<W> {
         ensures room { length out.new ≡ MAX_DATAGRAM }
     {
         match self.endpoint.core().peek(now) {
-            Peeked::Wait => None,
-            Peeked::Gap(place) => {
-                self.endpoint.pass(now);
-                self.path.trip.pass(place);
-                self.last = Some(now);
-                Some(silent(Note::Gap(place)))
-            }
+            Peeked::Wait | Peeked::Gap(_) => self.give_up(now),
             Peeked::Packet(place, content) => {
                 let session = self.endpoint.core().config().session();
                 let len = write(
@@ -260,6 +296,22 @@ impl<W: Window> ReceiveRelay<W> {
                 })
             }
         }
+    }
+
+    /// Gives up the next place, if it is missing and its packet was sent too long ago.
+    fn give_up(&mut self, now: u64) -> Option<Turn>
+        requires { (place : ℕ) (content : Content) → next_play self.old now ≡ Packet place content → ⊥ }
+        ensures some { IfSome result (λ turn. (out : List ℕ) → PlaysOut (next_play self.old now) self.old now turn.note turn.leaves out self.new) }
+        ensures none { result ≡ None → next_play self.old now ≡ Wait }
+        ensures same { result ≡ None → self.new ≡ self.old }
+        ensures within { IfSome result IsWithin }
+    {
+        let place = self.expired(now)?;
+        let patience = self.patience_left();
+        self.endpoint.pass_within(patience, now);
+        self.path.trip.pass(place);
+        self.last = Some(now);
+        Some(silent(Note::Gap(place)))
     }
 
     /// Asks the far side for what is due.
@@ -416,7 +468,7 @@ impl<W: Window> Relay for ReceiveRelay<W> {
         if self.is_new || self.copy.is_some() {
             return Some(0);
         }
-        sooner(self.core_moment(), self.end())
+        sooner(sooner(self.core_moment(), self.front_moment()), self.end())
     }
 
     fn is_done(&self, now: u64) -> bool {

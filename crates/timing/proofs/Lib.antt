@@ -1,2 +1,3 @@
+pub mod Leads
 pub mod Spread
 pub mod Sightings

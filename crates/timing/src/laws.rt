@@ -1,8 +1,10 @@
 //! Laws on what is measured of a path and on the times of asks. These functions compute nothing: their contracts are the laws.
-ghost use Rattle.std.specs.Prelude.{◌≡◌, ◌<◌, ◌≤◌, ◌+◌, ◌*◌, ◌/◌, ◌⊎◌, ℕ, List};
+ghost use Rattle.std.specs.Prelude.{◌≡◌, ◌<◌, ◌≤◌, ◌+◌, ◌-◌, ◌*◌, ◌/◌, ◌⊎◌, ℕ, List};
 ghost use Rattle.timing.specs.declared.round_trip.Smoothed.{Smoothed};
+ghost use Rattle.timing.specs.declared.silence.Silence.{Silence};
 ghost use Rattle.timing.specs.AskTimes.{ask_times, answer_of, spacing_of};
-ghost use Rattle.timing.specs.Reordering.{extent_at};
+ghost use Rattle.timing.specs.Lately.{greatest_at};
+ghost use Rattle.timing.specs.Silence.{lead_of};
 ghost use Rattle.timing.specs.Sightings.{Sighting, seen_of, IsInOrder, AreWithin, AreLatelyWithin};
 
 /// Of asks for one place, whose patience is counted from the notice that it is missing: the first is made after the delay, and each of
@@ -23,11 +25,22 @@ pub fn asks_fit_the_time()
         answer_of s ≤ patience → (t.delay + more * t.retry + answer_of s ≤ patience) ⊎ (patience ≤ t.delay + more * t.retry + more) }
 {}
 
-/// Of what was seen of reordering, at moments that don't fall.
+/// Of the greatest of what was seen, at moments that don't fall.
 #[tactic(auto, using(crate::proofs::Sightings::are_remembered, crate::proofs::Sightings::are_forgotten))]
-pub fn reordering_is_of_late()
+pub fn the_greatest_is_of_late()
     // All of the last ten seconds is remembered.
-    ensures remembered { (list : List Sighting) (now : ℕ) → IsInOrder list now → AreWithin list (extent_at (seen_of list) now) now }
+    ensures remembered { (list : List Sighting) (now : ℕ) → IsInOrder list now → AreWithin list (greatest_at (seen_of list) now) now }
     // And nothing beyond the last thirty.
-    ensures forgotten { (list : List Sighting) (most now : ℕ) → IsInOrder list now → AreLatelyWithin list most now → extent_at (seen_of list) now ≤ most }
+    ensures forgotten { (list : List Sighting) (most now : ℕ) → IsInOrder list now → AreLatelyWithin list most now → greatest_at (seen_of list) now ≤ most }
+{}
+
+/// Of when packets were sent that were lost in a silence.
+#[tactic(auto, using(crate::proofs::Leads::none_before, crate::proofs::Leads::in_order, crate::proofs::Leads::no_slower))]
+pub fn losses_were_sent_in_order()
+    // None was sent before the silence began.
+    ensures none_before { (s : Silence) (place : ℕ) → lead_of s place ≤ s.length }
+    // Each was sent no later than those behind it.
+    ensures in_order { (s : Silence) (place later : ℕ) → s.below < place → place ≤ later → lead_of s later ≤ lead_of s place }
+    // At the peak's rate no fewer packets are sent from then on than there were: so a pause of the stream is not taken for its packets.
+    ensures no_slower { (s : Silence) (place : ℕ) → place < s.above → lead_of s place * s.peak ≤ (s.above - place) * 1000 }
 {}

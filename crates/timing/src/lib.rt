@@ -1,15 +1,19 @@
-//! What a path needs of who asks over it for what is lost: how long an answer takes, how far packets come behind later ones, and
-//! the times of asks that follow from both.
+//! What a path needs of who asks over it for what is lost: how long an answer takes, how far packets come behind later ones, when
+//! those were sent that were lost in a silence, and the times of asks that follow.
 #![tactic(auto)]
 
+mod arrivals;
 mod ask_times;
+mod lately;
 mod laws;
 mod path;
-mod reordering;
 mod round_trip;
+mod silence;
 
+pub use arrivals::Arrivals;
 pub use ask_times::AskTimes;
-pub use laws::{asks_fit_the_time, reordering_is_of_late};
+pub use lately::Lately;
+pub use laws::{asks_fit_the_time, losses_were_sent_in_order, the_greatest_is_of_late};
 pub use path::Path;
-pub use reordering::Reordering;
 pub use round_trip::{Probe, RoundTrip, Smoothed};
+pub use silence::Silence;

@@ -1,17 +1,20 @@
 //! What was measured of a path.
 ghost use Rattle.std.specs.Prelude.{◌≡◌, IfSome, ◌<◌};
 ghost use Rattle.timing.specs.Path.{new_path, times_over};
-ghost use Rattle.timing.specs.Reordering.{seen_at};
+ghost use Rattle.timing.specs.Lately.{seen_at};
 
+use crate::arrivals::Arrivals;
 use crate::ask_times::AskTimes;
-use crate::reordering::Reordering;
+use crate::lately::Lately;
 use crate::round_trip::RoundTrip;
 
-/// What was measured of a path: how long an answer takes, and how far packets come behind later ones.
+/// What was measured of a path: how long an answer takes, how far packets come behind later ones, and when they came.
 #[derive(Clone, Copy, Debug, PartialEq, Eq)]
 pub struct Path {
     pub trip: RoundTrip,
-    pub reordering: Reordering,
+    /// How far packets came behind later ones, in milliseconds.
+    pub reordering: Lately,
+    pub arrivals: Arrivals,
 }
 
 impl Path {
@@ -21,7 +24,8 @@ impl Path {
     {
         Path {
             trip: RoundTrip::new(),
-            reordering: Reordering::new(),
+            reordering: Lately::new(),
+            arrivals: Arrivals::new(),
         }
     }
 
@@ -39,7 +43,7 @@ impl Path {
         ensures some_time { IfSome result (λ times. 0 < times.retry) }
     {
         let smoothed = self.trip.smoothed()?;
-        let reordering = self.reordering.extent(now).min(smoothed.time / 16);
+        let reordering = self.reordering.greatest(now).min(smoothed.time / 16);
         Some(AskTimes::fitting(&smoothed, patience, reordering))
     }
 }

@@ -1,58 +1,58 @@
-//! How far packets come behind later ones.
+//! The greatest of what was seen lately.
 ghost use Rattle.std.specs.Prelude.{◌≡◌};
-ghost use Rattle.timing.specs.Reordering.{seen_none, seen_at, turned, extent_at};
+ghost use Rattle.timing.specs.Lately.{seen_none, seen_at, turned, greatest_at};
 
 /// How long what was seen is remembered at least, in milliseconds; and three times as long at most.
 const SPAN: u64 = 10000;
 
-/// How far packets came behind later ones, in milliseconds: the most that was seen in the last ten to thirty seconds. RFC 8985,
+/// The greatest number that was seen in the last ten to thirty seconds, as of how far packets came behind later ones: RFC 8985,
 /// section 6.2, has a window of reordering that is learnt, too.
 #[derive(Clone, Copy, Debug, PartialEq, Eq)]
-pub struct Reordering {
-    /// The most in the span that began at `since`.
+pub struct Lately {
+    /// The greatest in the span that began at `since`.
     most: u64,
-    /// The most in the span before.
+    /// The greatest in the span before.
     before: u64,
     since: u64,
 }
 
-impl Reordering {
+impl Lately {
     /// Nothing was seen so far.
-    pub fn new() -> Reordering
+    pub fn new() -> Lately
         ensures { result ≡ seen_none }
     {
-        Reordering {
+        Lately {
             most: 0,
             before: 0,
             since: 0,
         }
     }
 
-    /// A packet came at the moment `now`, so long after it was noticed to be missing.
-    pub fn see(&mut self, late: u64, now: u64)
-        ensures { self.new ≡ seen_at self.old late now }
+    /// A number was seen at the moment `now`, in milliseconds.
+    pub fn see(&mut self, number: u64, now: u64)
+        ensures { self.new ≡ seen_at self.old number now }
     {
         *self = self.turned(now);
-        self.most = self.most.max(late);
+        self.most = self.most.max(number);
     }
 
-    /// The most that is remembered at the moment `now`, in milliseconds.
-    pub fn extent(&self, now: u64) -> u64
-        ensures { result ≡ extent_at self.now now }
+    /// The greatest that is remembered at the moment `now`; 0 where none is.
+    pub fn greatest(&self, now: u64) -> u64
+        ensures { result ≡ greatest_at self.now now }
     {
         let turned = self.turned(now);
         turned.most.max(turned.before)
     }
 
     /// What is remembered at the moment `now`.
-    fn turned(&self, now: u64) -> Reordering
+    fn turned(&self, now: u64) -> Lately
         ensures { result ≡ turned self.now now }
     {
         let span = now.saturating_sub(self.since);
         if span < SPAN {
             *self
         } else {
-            Reordering {
+            Lately {
                 most: 0,
                 before: if span < 2 * SPAN { self.most } else { 0 },
                 since: now,

@@ -1,0 +1,146 @@
+//! Silences in which packets were lost: which of them are still in time.
+use crate::receiving::{FAR, PLAYER, media, relay_with, repair};
+use crate::script::Script;
+use places::Place;
+use relays::{Side, run};
+use std::test::Fail;
+use timing::{Arrivals, Silence};
+
+/// The place of this value.
+fn place(value: u64) -> Result<Place, Fail> {
+    match Place::new(value) {
+        Some(place) => Ok(place),
+        None => Err(Fail::from("a place")),
+    }
+}
+
+fn silence(peak: u64) -> Result<Silence, Fail> {
+    Ok(Silence {
+        below: place(70100)?,
+        above: place(70200)?,
+        length: 10000,
+        peak,
+    })
+}
+
+#[test]
+fn losses_lie_evenly_or_right_before_the_end(_rt: HostRuntime) -> Result<(), Fail> {
+    // One each 100 milliseconds, as many as came before.
+    let evenly = silence(10)?;
+    let all = evenly.lead(70150) == 5000 && evenly.lead(70199) == 100 && evenly.lead(70101) == 9900;
+    // The stream was ten times as fast: it paused, and these are its latest.
+    let late = silence(100)?;
+    let paused = late.lead(70150) == 500 && late.lead(70101) == 990;
+    // It was slower: they lie over all of it.
+    let slow = silence(1)?.lead(70101) == 9900;
+    let others = evenly.lead(70100) == 0 && evenly.lead(70200) == 0 && silence(0)?.lead(70150) == 0;
+    if all && paused && slow && others {
+        Ok(())
+    } else {
+        Err(Fail::from("when they were sent"))
+    }
+}
+
+/// Packets of fifty a second for four seconds, from place 70000 on, each played as it came.
+fn fifty_a_second() -> Result<Arrivals, Fail> {
+    let mut arrivals = Arrivals::new();
+    let mut highest = None;
+    for i in 0..200_u64 {
+        let next = place(70000_u64.saturating_add(i))?;
+        arrivals.come(highest, Some(next.value()), 30, next, i.saturating_mul(20));
+        highest = Some(next);
+    }
+    Ok(arrivals)
+}
+
+#[test]
+fn the_longest_silence_is_told(_rt: HostRuntime) -> Result<(), Fail> {
+    let mut arrivals = fifty_a_second()?;
+    let nothing = arrivals.lead(70199) == 0;
+    // Five seconds, in which 249 were lost.
+    arrivals.come(Some(place(70199)?), Some(70200), 30, place(70449)?, 8980);
+    let told = arrivals.lead(70439) == 200 && arrivals.lead(70200) == 4980;
+    // One more is lost, while places of that silence are waited for.
+    arrivals.come(Some(place(70449)?), Some(70440), 30, place(70451)?, 9020);
+    let still = arrivals.lead(70439) == 200 && arrivals.lead(70450) == 0;
+    // A packet that comes late ends none.
+    arrivals.come(Some(place(70451)?), Some(70440), 30, place(70445)?, 9030);
+    let late = arrivals.lead(70439) == 200;
+    // Nor does one behind 20 milliseconds, when all of those were passed.
+    arrivals.come(Some(place(70451)?), Some(70452), 30, place(70453)?, 9040);
+    let short = arrivals.lead(70452) == 0;
+    // It paused for five seconds.
+    arrivals.come(Some(place(70453)?), Some(70454), 30, place(70456)?, 14040);
+    let paused = arrivals.lead(70454) == 40 && arrivals.lead(70455) == 20;
+    arrivals.restart(14050);
+    if nothing && told && still && late && short && paused && arrivals.lead(70454) == 0 {
+        Ok(())
+    } else {
+        Err(Fail::from("what a silence tells"))
+    }
+}
+
+/// Sixty packets, one each 20 milliseconds, of which the last comes at 1180.
+fn sixty(script: &mut Script) -> Result<(), Fail> {
+    for i in 0..60_u16 {
+        script.comes(
+            u64::from(i).saturating_mul(20),
+            Side::Far,
+            FAR,
+            &media(i, 1),
+        )?;
+    }
+    Ok(())
+}
+
+/// A NACK that names a number and the eight behind it.
+const NINE: [u8; 16] = [
+    0x81, 0xcd, 0, 3, 0x33, 0x33, 0x33, 0x33, 0x11, 0x11, 0x11, 0x11, 0, 150, 0, 0xff,
+];
+
+/// The path is dead for two seconds, in which 99 packets are lost. Of these the last nine were sent less than 200 milliseconds ago: they
+/// are asked for and come, and the others are given up at once.
+#[test]
+fn what_is_too_late_is_not_asked_for(rt: HostRuntime) -> Result<(), Fail> {
+    let mut relay = relay_with(rt.alloc(), 160, 256)?;
+    let mut script = Script::new(rt.alloc());
+    sixty(&mut script)?;
+    script.comes(3180, Side::Far, FAR, &media(159, 1))?;
+    for i in 150..159_u16 {
+        script.comes(3190, Side::Far, FAR, &repair(i, 1))?;
+    }
+    if run(&mut script, &mut relay).is_err() {
+        return Err(Fail::from("it ends by its bounds"));
+    }
+    let asked = script.went(60, 3180, Side::Far, FAR, &NINE)
+        && script.went(61, 3180, Side::Far, FAR, &NINE);
+    let played = script.went(62, 3190, Side::Near, PLAYER, &media(150, 1))
+        && script.went(71, 3190, Side::Near, PLAYER, &media(159, 1));
+    let counts = relay.counts();
+    if asked && played && script.gone.len() == 72 && counts.gaps == 90 && counts.played == 70 {
+        Ok(())
+    } else {
+        Err(Fail::from("what left"))
+    }
+}
+
+/// The stream pauses for two seconds, and the first two packets behind that are lost: they were sent right before the one that comes.
+#[test]
+fn a_pause_is_no_outage(rt: HostRuntime) -> Result<(), Fail> {
+    let mut relay = relay_with(rt.alloc(), 63, 256)?;
+    let mut script = Script::new(rt.alloc());
+    sixty(&mut script)?;
+    script.comes(3180, Side::Far, FAR, &media(62, 1))?;
+    script.comes(3339, Side::Far, FAR, &repair(60, 1))?;
+    if run(&mut script, &mut relay).is_err() {
+        return Err(Fail::from("it ends by its bounds"));
+    }
+    // Asked for at 3180, 3230 and 3280, twice each time; one would have been given up at 3340, the other is so at 3360.
+    let played = script.went(66, 3339, Side::Near, PLAYER, &media(60, 1))
+        && script.went(67, 3360, Side::Near, PLAYER, &media(62, 1));
+    if played && script.gone.len() == 68 && relay.counts().gaps == 1 {
+        Ok(())
+    } else {
+        Err(Fail::from("what left"))
+    }
+}

@@ -1,0 +1,12 @@
+-- A silence in which packets were lost, and when they were sent. (The rule is this project's own.)
+use Rattle.std.specs.Prelude.{ℕ, ◌-◌, ◌*◌, ◌/◌, ◌&&◌, ◌==◌, min, nat_lt, not, if◌then◌else◌}
+use Rattle.timing.specs.Capped.{capped}
+use Rattle.timing.specs.declared.silence.Silence.{Silence}
+
+-- How long before its end the packet of a place that was lost in it was sent: as if all were sent evenly over it, or as fast as at
+-- the peak before its end, whichever is shorter.
+abbrev pub lead_of : Silence → (place : ℕ) → ℕ
+lead_of s place =
+    if not (s.peak == 0) && nat_lt s.below place && nat_lt place s.above
+    then min (capped (s.length * (s.above - place)) / (s.above - s.below)) ((s.above - place) * 1000 / s.peak)
+    else 0
