@@ -13,18 +13,22 @@ LINES = {
     "tail": (number(0, 1),),
     "refused": (COUNT,),
     "unsent": (),
+    "passed": (),
     "stray": (),
     "session": (text(SSRC), number(0, 127), or_none(text(SSRC)), number(0, 127), or_none(number(0, 65535))),
     "taken": (PLACE, COUNT),
     "held": (),
+    "moved": (),
     "restarted": (PLACE,),
+    "overrun": (COUNT,),
+    "abandoned": (COUNT,),
     "play": (PLACE, *CONTENT),
     "gap": (PLACE,),
     "ask": (INDEX, octets),
     "rtt": (COUNT,),
 }
-SENDS = ("sent", "repair", "marked", "tail", "unsent")
-RECEIVES = ("taken", "held", "restarted", "play", "gap", "ask", "rtt")
+SENDS = ("sent", "repair", "marked", "tail", "unsent", "passed")
+RECEIVES = ("taken", "held", "moved", "restarted", "overrun", "abandoned", "play", "gap", "ask", "rtt")
 
 
 def is_one(log):
@@ -76,8 +80,8 @@ def tell(run, where, moment, word, line):
         run.ask(where, moment, *line)
     elif word == "rtt":
         run.trips.append((moment, line[0]))
-    else:
-        run.tally(word, line[0] if word in ("marked", "tail") else 1)
+    elif word != "overrun":  # the line of what was taken tells these
+        run.tally(word, line[0] if word in ("marked", "tail", "abandoned") else 1)
 
 
 def end_of_sender(run):

@@ -23,6 +23,10 @@ pub struct Counts {
     pub repaired: u64,
     pub played: u64,
     pub gaps: u64,
+    /// Places that the window dropped for good to make room.
+    pub overrun: u64,
+    /// Places that a restart of the stream within a session left behind, neither played nor given up.
+    pub abandoned: u64,
     /// NACKs.
     pub asked: u64,
     /// Datagrams of the far side that were refused.
@@ -54,6 +58,8 @@ impl Counts {
         repaired: 0,
         played: 0,
         gaps: 0,
+        overrun: 0,
+        abandoned: 0,
         asked: 0,
         refused: 0,
         restarts: 0,
@@ -97,14 +103,20 @@ impl Counts {
 
     fn hear(&mut self, answer: &Result<Heard, ReceiveFault>) {
         match answer {
-            Ok(Heard::Media(_)) => add(&mut self.taken, 1),
-            Ok(Heard::Repair(_)) => {
+            Ok(Heard::Media(taken)) => {
+                add(&mut self.taken, 1);
+                add(&mut self.overrun, taken.overrun);
+            }
+            Ok(Heard::Repair(taken)) => {
                 add(&mut self.taken, 1);
                 add(&mut self.repaired, 1);
+                add(&mut self.overrun, taken.overrun);
             }
             Ok(Heard::Restarted(restart)) => {
                 add(&mut self.taken, u64::from(restart.held));
                 add(&mut self.restarts, 1);
+                add(&mut self.overrun, restart.taken.overrun);
+                add(&mut self.abandoned, restart.abandoned);
             }
             Ok(Heard::Control | Heard::HeldBack(_)) => {}
             Err(_) => add(&mut self.refused, 1),
@@ -159,33 +171,39 @@ impl Counts {
         let restarts = self
             .restarts
             .saturating_add(self.sessions.saturating_sub(1));
-        push_line(
-            line,
-            &[
-                Word::Text(b"taken"),
-                Word::Decimal(self.taken),
-                Word::Text(b"repaired"),
-                Word::Decimal(self.repaired),
-                Word::Text(b"played"),
-                Word::Decimal(self.played),
-                Word::Text(b"gaps"),
-                Word::Decimal(self.gaps),
-                Word::Text(b"asked"),
-                Word::Decimal(self.asked),
-                Word::Text(b"refused"),
-                Word::Decimal(self.refused),
-                Word::Text(b"restarts"),
-                Word::Decimal(restarts),
-                Word::Text(b"moved"),
-                Word::Decimal(self.moved),
-                Word::Text(b"stray"),
-                Word::Decimal(self.stray),
-                Word::Text(b"lost"),
-                Word::Decimal(self.lost),
-                Word::Text(b"rtt"),
-                time,
-            ],
-        )
+        push_line(line, &self.receiver_words(restarts, time))
+    }
+
+    /// The words of a relay behind the network, with its restarts and the round-trip time as they are shown.
+    fn receiver_words<'x>(&self, restarts: u64, time: Word<'x>) -> [Word<'x>; 26] {
+        [
+            Word::Text(b"taken"),
+            Word::Decimal(self.taken),
+            Word::Text(b"repaired"),
+            Word::Decimal(self.repaired),
+            Word::Text(b"played"),
+            Word::Decimal(self.played),
+            Word::Text(b"gaps"),
+            Word::Decimal(self.gaps),
+            Word::Text(b"overrun"),
+            Word::Decimal(self.overrun),
+            Word::Text(b"abandoned"),
+            Word::Decimal(self.abandoned),
+            Word::Text(b"asked"),
+            Word::Decimal(self.asked),
+            Word::Text(b"refused"),
+            Word::Decimal(self.refused),
+            Word::Text(b"restarts"),
+            Word::Decimal(restarts),
+            Word::Text(b"moved"),
+            Word::Decimal(self.moved),
+            Word::Text(b"stray"),
+            Word::Decimal(self.stray),
+            Word::Text(b"lost"),
+            Word::Decimal(self.lost),
+            Word::Text(b"rtt"),
+            time,
+        ]
     }
 }
 

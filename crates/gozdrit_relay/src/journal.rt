@@ -95,13 +95,23 @@ impl Journal {
                     place,
                     Word::Decimal(taken.overrun),
                 ]);
+                self.leave_behind(now, b"overrun", taken.overrun);
             }
             Ok(Heard::HeldBack(_)) => self.write(&[Word::Decimal(now), Word::Text(b"held")]),
             Ok(Heard::Restarted(restart)) => {
                 self.count(now, b"restarted", restart.taken.place.value());
+                self.leave_behind(now, b"overrun", restart.taken.overrun);
+                self.leave_behind(now, b"abandoned", restart.abandoned);
             }
             Ok(Heard::Control) => {}
             Err(fault) => self.count(now, b"refused", u64::from(fault.number())),
+        }
+    }
+
+    /// So many places were left behind by the packet of the line before, if any were.
+    fn leave_behind<'a>(&mut self, now: u64, how: &'a [u8], places: u64) {
+        if places > 0 {
+            self.count(now, how, places);
         }
     }
 
