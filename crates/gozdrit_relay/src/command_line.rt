@@ -2,6 +2,7 @@
 ghost use Rattle.std.specs.Prelude.{◌≤◌, ◌<◌, IfOk, IfSome};
 
 use crate::fault::Fault;
+use crate::load::MOST_KEPT;
 use crate::options::command;
 use clap::ArgMatches;
 use clap::error::ErrorKind;
@@ -103,7 +104,7 @@ fn send<'a>(matches: &ArgMatches<'a>) -> Result<Choice<'a>, Fault<'a>> {
             min_resend: number(matches, "min-resend", 0, u64::MAX)?.unwrap_or(MIN_RESEND),
             deadline: number(matches, "deadline", 0, u64::MAX)?,
         },
-        history: number(matches, "history", 1, 8192)?.unwrap_or(2048) as usize,
+        history: number(matches, "history", 1, MOST_KEPT)?.unwrap_or(MOST_KEPT) as usize,
         rtx_first: sixteen(matches, "rtx-first")?.unwrap_or(0),
     })
 }
@@ -113,7 +114,7 @@ fn receive<'a>(matches: &ArgMatches<'a>) -> Result<Choice<'a>, Fault<'a>> {
     Ok(Choice::Receive {
         options,
         latency: number(matches, "latency", 0, u64::MAX)?.unwrap_or(200),
-        window: number(matches, "window", 1, 8192)?.unwrap_or(2048) as usize,
+        window: number(matches, "window", 1, MOST_KEPT)?.unwrap_or(MOST_KEPT) as usize,
     })
 }
 

@@ -8,9 +8,11 @@ use crate::greeting::push_sockets;
 use crate::host::Host;
 use crate::journal::Journal;
 use crate::learning::{Known, ReceiveLearner, SendLearner};
+use crate::load::Store;
 use crate::machine::{HasFar, Learner, Machine};
+use endpoint::ResendRule;
 use mio::net::UdpSocket;
-use relays::{Bounds, ReceiveRelay, Relay, SendRelay, run};
+use relays::{Bounds, Rate, ReceiveRelay, Relay, SendRelay, run};
 use std::fs;
 use std::io::{IsTerminal, Write};
 use std::net::{IpAddr, Ipv4Addr, Ipv6Addr, SocketAddr, ToSocketAddrs};
@@ -26,42 +28,67 @@ pub fn relay<'a>(rt: &HostRuntime, choice: &Choice<'a>) -> Result<(), Fault<'a>>
             history,
             rtx_first,
         } => {
-            let (to, listening, leaving) = opened(rt, options)?;
-            let learner = SendLearner {
-                alloc: rt.alloc(),
-                known: Known::of(options),
-                first: options.first,
-                rtx_first: *rtx_first,
-                rate: *rate,
-                rule: *rule,
-                history: within(*history),
-                far: to,
-                bounds: bounds(options),
-            };
-            go::<SendRelay<RingHistory>, SendLearner>(
-                rt, options, learner, listening, leaving, true,
-            )
+            let (to, near, far) = opened(rt, options)?;
+            let learner = sender(rt, options, *rate, *rule, *history, *rtx_first, to);
+            let store = Store::History(*history as u64);
+            go::<SendRelay<RingHistory>, SendLearner>(rt, options, learner, near, far, store)
         }
         Choice::Receive {
             options,
             latency,
             window,
         } => {
-            let (to, listening, leaving) = opened(rt, options)?;
-            let learner = ReceiveLearner {
-                alloc: rt.alloc(),
-                known: Known::of(options),
-                first: options.first,
+            let (to, far, near) = opened(rt, options)?;
+            let learner = receiver(rt, options, *latency, *window, to);
+            let store = Store::Window {
+                places: *window as u64,
                 latency: *latency,
-                window: within(*window),
-                player: to,
-                bounds: bounds(options),
-                passed: 0,
             };
-            go::<ReceiveRelay<RingWindow>, ReceiveLearner>(
-                rt, options, learner, leaving, listening, false,
-            )
+            go::<ReceiveRelay<RingWindow>, ReceiveLearner>(rt, options, learner, near, far, store)
         }
+    }
+}
+
+/// What makes the relay before a network, once its session is known.
+fn sender(
+    rt: &HostRuntime,
+    options: &Options<'_>,
+    rate: Rate,
+    rule: ResendRule,
+    history: usize,
+    rtx_first: u16,
+    far: SocketAddr,
+) -> SendLearner {
+    SendLearner {
+        alloc: rt.alloc(),
+        known: Known::of(options),
+        first: options.first,
+        rtx_first,
+        rate,
+        rule,
+        history: within(history),
+        far,
+        bounds: bounds(options),
+    }
+}
+
+/// What makes the relay behind a network, once its session is known.
+fn receiver(
+    rt: &HostRuntime,
+    options: &Options<'_>,
+    latency: u64,
+    window: usize,
+    player: SocketAddr,
+) -> ReceiveLearner {
+    ReceiveLearner {
+        alloc: rt.alloc(),
+        known: Known::of(options),
+        first: options.first,
+        latency,
+        window: within(window),
+        player,
+        bounds: bounds(options),
+        passed: 0,
     }
 }
 
@@ -103,25 +130,16 @@ fn go<'a, R: Relay + HasFar + Drop, L: Learner<R> + Drop>(
     learner: L,
     near: UdpSocket,
     far: UdpSocket,
-    is_sender: bool,
+    store: Store,
 ) -> Result<(), Fault<'a>> {
-    let shows_repair = is_sender || options.rtx_ssrc.is_some();
+    let shows_repair = store.is_history() || options.rtx_ssrc.is_some();
     let journal = journal(rt, options, shows_repair)?;
     let stats = match options.stats {
         None if rt.stderr().is_terminal() => Some(1),
         stats => stats,
     };
     let draws = Draws::new(options.seed, options.loss);
-    let Ok(mut host) = Host::new(
-        rt,
-        near,
-        far,
-        draws,
-        journal,
-        stats,
-        is_sender,
-        shows_repair,
-    ) else {
+    let Ok(mut host) = Host::new(rt, near, far, draws, journal, stats, store, shows_repair) else {
         return Err(Fault::Outside);
     };
     let mut machine = Machine::<L, R>::new(learner, bounds(options).until);

@@ -3,6 +3,7 @@ use crate::counts::Counts;
 use crate::draws::Draws;
 use crate::greeting::{push_moved, push_session};
 use crate::journal::Journal;
+use crate::load::{Load, Store};
 use mio::net::UdpSocket;
 use mio::{Events, Interest, Poll, Token};
 use relays::{Meeting, Note, Octets, Outside, OutsideFault, Side, Turn};
@@ -42,6 +43,7 @@ pub struct Host<'a> {
     /// A line of counts each so many milliseconds, and the moment of the next one.
     stats: Option<(u64, u64)>,
     is_sender: bool,
+    load: Load,
     /// Whether the SSRC of the retransmissions is known from the beginning.
     shows_repair: bool,
     line: Vec<u8>,
@@ -56,7 +58,7 @@ impl<'a> Host<'a> {
         draws: Draws,
         journal: Option<Journal>,
         stats: Option<u64>,
-        is_sender: bool,
+        store: Store,
         shows_repair: bool,
     ) -> io::Result<Host<'a>> {
         let start = Instant::now(rt)?;
@@ -86,7 +88,8 @@ impl<'a> Host<'a> {
                 }
                 None => None,
             },
-            is_sender,
+            is_sender: store.is_history(),
+            load: Load::new(store),
             shows_repair,
             line: Vec::new(rt.alloc()),
         })
@@ -190,6 +193,17 @@ impl<'a> Host<'a> {
         }
     }
 
+    /// Writes the line of a store that is too short, once in each session.
+    fn tell_shortage(&mut self, note: &Note, now: u64) {
+        let Some(shortage) = self.load.follow(now, note) else {
+            return;
+        };
+        self.line.clear();
+        if shortage.push(&mut self.line).is_ok() {
+            let _ = self.rt.stderr().write_all(&self.line);
+        }
+    }
+
     /// How long to wait for a moment, and no longer than until the next line of counts.
     fn timeout(&self, until: Option<u64>, now: u64) -> Option<Duration> {
         let next = match (until, self.stats) {
@@ -270,5 +284,6 @@ impl Outside for Host<'_> {
         }
         self.is_lost = false;
         self.tell_far(&turn.note);
+        self.tell_shortage(&turn.note, now);
     }
 }

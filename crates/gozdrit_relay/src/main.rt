@@ -11,6 +11,7 @@ mod help;
 mod host;
 mod journal;
 mod learning;
+mod load;
 mod machine;
 mod options;
 

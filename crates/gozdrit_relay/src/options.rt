@@ -57,7 +57,7 @@ fn send<'a>(alloc: Global) -> Result<Command<'a>, AllocError> {
             alloc,
             "history",
             "N",
-            "How many packets are kept to be retransmitted, 1 to 8192; 2048 by default",
+            "How many packets are kept to be retransmitted, 1 to 8192; 8192 by default",
         ))?
         .arg(option(
             alloc,
@@ -90,7 +90,7 @@ fn receive<'a>(alloc: Global) -> Result<Command<'a>, AllocError> {
             alloc,
             "window",
             "N",
-            "How many packets are held, 1 to 8192; 2048 by default",
+            "How many packets are held, 1 to 8192; 8192 by default",
         ))?;
     common(alloc, command)
 }
