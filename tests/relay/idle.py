@@ -44,5 +44,14 @@ def missing(checks, stage):
     checks.same(len(player.came), 1, "a missing place: what came")
 
 
+def held(checks, stage):
+    """With packets that are held for the player."""
+    name, player = "packets that are held", End(stage)
+    sender, receiver = stage.pair(player, receive=("--hold", 8000, "--latency", 500))
+    app, slow = App(stage, sender.at), plain(50 * SECONDS)
+    spend(checks, name, 0.1 * SECONDS, receiver, does=lambda: app.stream(slow, 50))
+    checks.count(player.waits_for(len(slow)), f"{name}: {len(player.came)} came")
+
+
 if __name__ == "__main__":
-    part(relays, missing)
+    part(relays, missing, held)

@@ -48,6 +48,8 @@ pub enum Choice<'a> {
         options: Options<'a>,
         latency: u64,
         window: usize,
+        /// The RTP clock rate by which packets are held for the player, if they are.
+        hold: Option<u32>,
     },
 }
 
@@ -115,6 +117,7 @@ fn receive<'a>(matches: &ArgMatches<'a>) -> Result<Choice<'a>, Fault<'a>> {
         options,
         latency: number(matches, "latency", 0, u64::MAX)?.unwrap_or(200),
         window: number(matches, "window", 1, MOST_KEPT)?.unwrap_or(MOST_KEPT) as usize,
+        hold: thirty_two(matches, "hold", 1)?,
     })
 }
 
@@ -187,6 +190,18 @@ fn eight<'a>(matches: &ArgMatches<'a>, id: &'a str, least: u64) -> Result<Option
 fn sixteen<'a>(matches: &ArgMatches<'a>, id: &'a str) -> Result<Option<u16>, Fault<'a>> {
     match number(matches, id, 0, 65535)? {
         Some(number) => Ok(Some(number as u16)),
+        None => Ok(None),
+    }
+}
+
+/// A number of 32 bits from `least` on.
+fn thirty_two<'a>(
+    matches: &ArgMatches<'a>,
+    id: &'a str,
+    least: u64,
+) -> Result<Option<u32>, Fault<'a>> {
+    match number(matches, id, least, 4294967295)? {
+        Some(number) => Ok(Some(number as u32)),
         None => Ok(None),
     }
 }

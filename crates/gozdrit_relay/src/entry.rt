@@ -37,9 +37,10 @@ pub fn relay<'a>(rt: &HostRuntime, choice: &Choice<'a>) -> Result<(), Fault<'a>>
             options,
             latency,
             window,
+            hold,
         } => {
             let (to, far, near) = opened(rt, options)?;
-            let learner = receiver(rt, options, *latency, *window, to);
+            let learner = receiver(rt, options, *latency, *window, *hold, to);
             let store = Store::Window {
                 places: *window as u64,
                 latency: *latency,
@@ -78,6 +79,7 @@ fn receiver(
     options: &Options<'_>,
     latency: u64,
     window: usize,
+    hold: Option<u32>,
     player: SocketAddr,
 ) -> ReceiveLearner {
     ReceiveLearner {
@@ -86,6 +88,7 @@ fn receiver(
         first: options.first,
         latency,
         window: within(window),
+        hold,
         player,
         bounds: bounds(options),
         passed: 0,

@@ -11,6 +11,7 @@ use sender::SenderConfig;
 use std::alloc::Global;
 use std::net::SocketAddr;
 use stores::{History, OutOfMemory, Window};
+use timing::Playout;
 
 /// How often a packet is retransmitted, and a place asked for, at most.
 const MOST: u8 = 32;
@@ -152,6 +153,7 @@ pub struct ReceiveLearner {
     pub first: Option<u16>,
     pub latency: u64,
     pub window: usize,
+    pub hold: Option<u32>,
     pub player: SocketAddr,
     pub bounds: Bounds,
     /// How many packets the sessions before played or gave up.
@@ -213,6 +215,7 @@ impl ReceiveLearner {
             from,
             self.player,
             numbering,
+            self.hold.map(Playout::new),
             bounds,
         )?;
         if before.is_none() {

@@ -91,6 +91,12 @@ fn receive<'a>(alloc: Global) -> Result<Command<'a>, AllocError> {
             "window",
             "N",
             "How many packets are held, 1 to 8192; 8192 by default",
+        ))?
+        .arg(option(
+            alloc,
+            "hold",
+            "HZ",
+            "Has each packet leave at its RTP time and the latency, by this clock rate, as 90000; as soon as it may by default",
         ))?;
     common(alloc, command)
 }

@@ -141,6 +141,7 @@ fn receiver(alloc: Global) -> Result<ReceiveRelay<RingWindow>, Fail> {
         local(SENDER),
         local(5006),
         Numbering::new(0x11111111),
+        None,
         NO_BOUNDS,
     );
     made.map_err(|_| Fail::from("memory is ample"))

@@ -8,6 +8,7 @@ use rtpwire::Session;
 use std::alloc::Global;
 use std::test::Fail;
 use stores::RingWindow;
+use timing::Playout;
 
 pub(crate) const FAR: u16 = 6005;
 
@@ -25,6 +26,19 @@ pub(crate) fn relay_with(
     alloc: Global,
     packets: u64,
     capacity: usize,
+) -> Result<ReceiveRelay<RingWindow>, Fail>
+    requires some { 0 < capacity }
+    requires limit { capacity ≤ 8192 }
+{
+    relay_by(alloc, packets, capacity, None)
+}
+
+/// The same, whose packets are held by this clock.
+pub(crate) fn relay_by(
+    alloc: Global,
+    packets: u64,
+    capacity: usize,
+    hold: Option<Playout>,
 ) -> Result<ReceiveRelay<RingWindow>, Fail>
     requires some { 0 < capacity }
     requires limit { capacity ≤ 8192 }
@@ -47,6 +61,7 @@ pub(crate) fn relay_with(
         local(FAR),
         local(PLAYER),
         Numbering::new(0x11111111),
+        hold,
         bounds,
     );
     made.map_err(|_| Fail::from("memory is ample"))

@@ -1,12 +1,11 @@
 -- A packet is played whatever patience is left.
-use Rattle.std.proofs.Common.{◌≡◌, ◌-◌, ℕ, ◌&&◌, Bool, true, false, Option, Some, None, nat_le, refl, if◌then◌else◌}
+use Rattle.std.proofs.Common.{◌≡◌, ◌-◌, ℕ, ◌&&◌, Bool, true, false, Option, Some, None, nat_le, if◌then◌else◌}
 use Rattle.rtpwire.specs.declared.content.Content.{Content}
 use Rattle.stores.specs.declared.slot.Slot.{Slot}
 use Rattle.stores.specs.declared.slot.Slot.TheVariants.{Held, Missing}
 use Rattle.stores.specs.Span.{Span, front_of}
-use Rattle.receiver.specs.declared.answer.Played.{Played}
 use Rattle.receiver.specs.declared.answer.Played.TheVariants.{Packet, Gap, Wait}
-use Rattle.receiver.specs.Peeking.{is_ready, play_at, play_of}
+use Rattle.receiver.specs.Peeking.{play_at, play_of}
 
 no_packet : (b : Bool) (k place : ℕ) (content : Content) → (if b then Gap k else Wait) ≡ Packet place content → ⊥
 no_packet true k place content is = cc

@@ -6,6 +6,7 @@ pub mod Pacing
 pub mod Paced
 pub mod Ending
 pub mod Following
+pub mod Holding
 pub mod Numbering
 pub mod Measuring
 pub mod Leaving

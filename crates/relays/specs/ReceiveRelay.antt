@@ -36,9 +36,11 @@ use Rattle.relays.specs.Numbering.{numbered, numbered_after, anew}
 use Rattle.timing.specs.Path.{new_path, times_over}
 use Rattle.timing.specs.RoundTrip.{time_of, passed_at}
 use Rattle.timing.specs.declared.arrivals.Arrivals.{Arrivals}
+use Rattle.timing.specs.declared.playout.Playout.{Playout}
 use Rattle.timing.specs.Arrivals.{lead_at}
 use Rattle.relays.specs.declared.measuring.Standing.{Standing}
 use Rattle.relays.specs.Measuring.{IsStanding, measured_by}
+use Rattle.relays.specs.Holding.{clock_after, held_by, timestamp_of}
 use Rattle.relays.specs.Leaving.{GoesTo, octets_of}
 use Rattle.relays.specs.Moving.{is_next, is_quiet}
 
@@ -54,6 +56,7 @@ pub record ReceiveSide : Type 0 where
   pub reach : ℕ  -- by how much less a number may lie ahead that shows the far side at another address
   pub player : SocketAddr
   pub numbering : Numbering  -- the SSRC and the sequence numbers that the player sees
+  pub hold : Option Playout  -- the clock by which packets are held for the player, if they are
   pub path : Path  -- the round-trip time, and what it is measured by, and how far packets come behind later ones
   pub is_new : Bool  -- it was measured since the times were set
   pub last : Option ℕ  -- the moment of the last play
@@ -69,8 +72,8 @@ abbrev pub probation_of : (capacity : ℕ) → Probation
 probation_of capacity = record { dropout = dropout_of capacity; misorder = 100; ahead = 2; behind = 256; silence = Some 200 }
 
 -- a relay that took nothing
-abbrev pub new_receive_side : Config → (capacity : ℕ) → (far player : SocketAddr) → Numbering → Bounds → ReceiveSide
-new_receive_side config capacity far player numbering bounds =
+abbrev pub new_receive_side : Config → (capacity : ℕ) → (far player : SocketAddr) → Numbering → Option Playout → Bounds → ReceiveSide
+new_receive_side config capacity far player numbering hold bounds =
     record {
       core = fresh config capacity;
       spare = fresh config capacity;
@@ -82,6 +85,7 @@ new_receive_side config capacity far player numbering bounds =
       reach = dropout_of capacity;
       player = player;
       numbering = numbering;
+      hold = hold;
       path = new_path;
       is_new = false;
       last = None;
@@ -112,7 +116,7 @@ pub record HearsFrom (old : ReceiveSide) (from : SocketAddr) (octets : List ℕ)
   pub hears : HearsDatagram old.probation (ends_of old.core old.spare old.run) octets now answer (ends_of new.core new.spare new.run)
   pub standing : Standing
   pub stood : IsStanding old.core octets standing
-  pub rest : new ≡ record old { core = new.core; spare = new.spare; run = new.run; counts = count_heard answer old.counts; far = from; came = Some now; numbering = numbering_after answer old.numbering; path = (measured_by answer standing old.path now).1; is_new = old.is_new || (measured_by answer standing old.path now).0 }
+  pub rest : new ≡ record old { core = new.core; spare = new.spare; run = new.run; counts = count_heard answer old.counts; far = from; came = Some now; numbering = numbering_after answer old.numbering; hold = clock_after answer (timestamp_of octets) now old.hold; path = (measured_by answer standing old.path now).1; is_new = old.is_new || (measured_by answer standing old.path now).0 }
 
 -- What is done with a datagram at the far side's socket: the endpoint hears what the far side sent, or what shows it at another
 -- address, which is its address from then on, and nobody else's.
@@ -160,7 +164,7 @@ patience_left s = left_at s.path.arrivals s.core.config.patience s.core.span.cur
 
 -- what a play would give at this moment
 abbrev pub next_play : ReceiveSide → (now : ℕ) → Played
-next_play s now = play_of (patience_left s) now s.core.span
+next_play s now = held_by s.hold s.core.config.patience now (play_of (patience_left s) now s.core.span)
 
 -- places that are due are asked for at the far side, at most 256 in one datagram
 pub record AsksFar (old : ReceiveSide) (now : ℕ) (d : Departure) (out : List ℕ) (new : ReceiveSide) : Type 0 where

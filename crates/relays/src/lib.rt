@@ -4,6 +4,7 @@
 mod bounds;
 mod driving;
 mod dropout;
+mod holding;
 mod laws;
 mod measuring;
 mod media_rate;
@@ -15,6 +16,7 @@ mod receiving;
 mod relay;
 mod sending;
 mod stream;
+mod writing;
 
 pub use bounds::Bounds;
 pub use driving::run;

@@ -14,22 +14,22 @@ ghost use Rattle.relays.specs.ReceiveRelay.{Asks, AsksAgain, GoesOn, HearsFar, H
 
 use crate::bounds::Bounds;
 use crate::dropout::{dropout, probation};
+use crate::holding::{hear_clock, release, timestamp_of};
 use crate::measuring::{follow, standing_before};
 use crate::moving::{is_next, is_quiet, media_number};
 use crate::numbering::Numbering;
 use crate::outside::Side;
 use crate::relay::{Departure, Note, Relay, Turn, silent};
+use crate::writing::{copy_of, write};
 use endpoint::{Heard, ReceiveCounts, ReceivingEndpoint};
 use places::{Place, near};
 use receiver::{HasStarted, Peeked, ReceiveFault, ReceiverConfig};
-use rtpwire::{
-    Carried, Content, Datagram, MAX_DATAGRAM, Session, media_len, u16_at, write_media_into,
-};
+use rtpwire::{Datagram, MAX_DATAGRAM, Session, u16_at};
 use std::alloc::Global;
 use std::marker::Model;
 use std::net::SocketAddr;
-use stores::{OutOfMemory, SlotRef, Window, sooner};
-use timing::Path;
+use stores::{AskRule, OutOfMemory, SlotRef, Window, sooner, window_by_place};
+use timing::{Path, Playout};
 
 /// How many places one ask names at most.
 const MOST: usize = 256;
@@ -47,6 +47,8 @@ pub struct ReceiveRelay<W: Window> {
     reach: u16,
     player: SocketAddr,
     numbering: Numbering,
+    /// The clock by which packets are held for the player, if they are.
+    hold: Option<Playout>,
     path: Path,
     /// Whether the path was measured since the times were set.
     is_new: bool,
@@ -62,12 +64,13 @@ impl<W: Window> Model for ReceiveRelay<W> {
 
     ghost Value = { ReceiveSide };
 
-    ghost view = { λ r. record { core = r.endpoint.core; spare = r.endpoint.spare; run = r.endpoint.run; probation = r.endpoint.probation; counts = r.endpoint.counts; far = r.far; came = r.came; reach = r.reach; player = r.player; numbering = r.numbering; path = r.path; is_new = r.is_new; last = r.last; copy = r.copy; bounds = r.bounds } };
+    ghost view = { λ r. record { core = r.endpoint.core; spare = r.endpoint.spare; run = r.endpoint.run; probation = r.endpoint.probation; counts = r.endpoint.counts; far = r.far; came = r.came; reach = r.reach; player = r.player; numbering = r.numbering; hold = r.hold; path = r.path; is_new = r.is_new; last = r.last; copy = r.copy; bounds = r.bounds } };
 }
 
 impl<W: Window> ReceiveRelay<W> {
     /// A relay from a far side to a player that took nothing so far. Its windows keep up to `capacity` places each, from 1 to 8192
-    /// of them. The player's sequence numbers go on from `numbering`.
+    /// of them. The player's sequence numbers go on from `numbering`. By a clock to `hold` packets they leave for the player as long
+    /// after they were sent as the patience is, and without one as soon as all before them did.
     ///
     /// `OutOfMemory`: the allocator refused the memory.
     pub fn new(
@@ -77,11 +80,12 @@ impl<W: Window> ReceiveRelay<W> {
         far: SocketAddr,
         player: SocketAddr,
         numbering: Numbering,
+        hold: Option<Playout>,
         bounds: Bounds,
     ) -> Result<ReceiveRelay<W>, OutOfMemory>
         requires nonzero { 0 < capacity }
         requires limit { capacity ≤ 8192 }
-        ensures { IfOk result (λ made. made ≡ new_receive_side config capacity far player numbering bounds) }
+        ensures { IfOk result (λ made. made ≡ new_receive_side config capacity far player numbering hold bounds) }
     {
         Ok(ReceiveRelay {
             endpoint: ReceivingEndpoint::new(alloc, config, probation(capacity), capacity)?,
@@ -90,6 +94,7 @@ impl<W: Window> ReceiveRelay<W> {
             reach: dropout(capacity),
             player,
             numbering,
+            hold,
             path: Path::new(),
             is_new: false,
             last: None,
@@ -121,13 +126,17 @@ impl<W: Window> ReceiveRelay<W> {
             .end(counts.played.saturating_add(counts.gaps), self.last)
     }
 
-    /// From when on something is to be played or asked for.
-    #[tactic(auto, using(crate::proofs::Waking::waits, crate::proofs::Waking::asks_nothing))]
-    fn core_moment(&self) -> Option<u64>
-        ensures plays { (now : ℕ) → now < 2 ^ 64 → has_come result now ≡ false → play_of self.now.core.config.patience now self.now.core.span ≡ Wait }
-        ensures asks { (now : ℕ) → now < 2 ^ 64 → has_come result now ≡ false → NothingDue self.now now }
+    /// From when on something is to be asked for.
+    fn ask_moment(&self) -> Option<u64>
+        ensures { (now : ℕ) → now < 2 ^ 64 → has_come result now ≡ false → NothingDue self.now now }
     {
-        self.endpoint.core().next_moment()
+        window_by_place();
+        let config = self.endpoint.core().config();
+        self.endpoint.core().window().next_due(AskRule {
+            delay: config.delay(),
+            retry: config.retry(),
+            asks: config.asks(),
+        })
     }
 
     /// How long the next place to play is waited for since it was noticed to be missing: the patience, but for how long before that its
@@ -143,15 +152,20 @@ impl<W: Window> ReceiveRelay<W> {
         }
     }
 
-    /// The moment at which the next place to play is given up, if it is missing.
+    /// From when on something is to be played: the next place is given up then if it is missing, and leaves if it is held.
     fn front_moment(&self) -> Option<u64>
-        ensures { (now : ℕ) → now < 2 ^ 64 → has_come result now ≡ false → play_of self.now.core.config.patience now self.now.core.span ≡ Wait → next_play self.now now ≡ Wait }
+        ensures { (now : ℕ) → now < 2 ^ 64 → has_come result now ≡ false → next_play self.now now ≡ Wait }
     {
-        match self.endpoint.core().window().front() {
-            Some(SlotRef::Missing { noticed, .. }) => {
+        let core = self.endpoint.core();
+        match core.window().front()? {
+            SlotRef::Held(content) => Some(release(
+                &self.hold,
+                content.timestamp,
+                core.config().patience(),
+            )),
+            SlotRef::Missing { noticed, .. } => {
                 Some(noticed.saturating_add(self.patience_left()))
             }
-            _ => None,
         }
     }
 
@@ -225,6 +239,7 @@ impl<W: Window> ReceiveRelay<W> {
         self.came = Some(now);
         let answer = self.endpoint.on_datagram(octets, now);
         renumber(&mut self.numbering, &answer);
+        hear_clock(&mut self.hold, &answer, timestamp_of(octets), now);
         self.is_new = follow(&mut self.path, self.is_new, &answer, &standing, now);
         answer
     }
@@ -274,6 +289,10 @@ impl<W: Window> ReceiveRelay<W> {
         match self.endpoint.core().peek(now) {
             Peeked::Wait | Peeked::Gap(_) => self.give_up(now),
             Peeked::Packet(place, content) => {
+                let patience = self.endpoint.core().config().patience();
+                if now < release(&self.hold, content.timestamp, patience) {
+                    return None;
+                }
                 let session = self.endpoint.core().config().session();
                 let len = write(
                     content,
@@ -405,29 +424,6 @@ fn renumber(numbering: &mut Numbering, answer: &Result<Heard, ReceiveFault>)
     }
 }
 
-/// The same octets, which fit.
-fn copy_of(octets: &[u8]) -> Datagram
-    requires { length octets.now ≤ MAX_DATAGRAM }
-    ensures { result.items ≡ octets.now }
-{
-    let mut copy = Datagram::new();
-    copy.try_extend_from_slice(octets).unwrap();
-    copy
-}
-
-/// Writes a packet for the player, and answers how many octets it has.
-fn write(content: &Content, number: u16, session: &Session, ssrc: u32, out: &mut [u8]) -> usize
-    requires { length out.old ≡ MAX_DATAGRAM }
-    ensures spells { RtpSpells (packet_of content.now 0 number session.now.media_type ssrc) (take result out.new) }
-    ensures within { result ≤ MAX_DATAGRAM }
-    ensures room { length out.new ≡ MAX_DATAGRAM }
-{
-    let carried = Carried::of_content(content);
-    let len = media_len(&carried, 0);
-    prove!(len <= out.len());
-    write_media_into(out, &carried, 0, number, session.media_type(), ssrc)
-}
-
 impl<W: Window> Relay for ReceiveRelay<W> {
     ghost use Rattle.relays.specs.ReceiveRelay.{Hears, Speaks, is_done};
 
@@ -468,7 +464,7 @@ impl<W: Window> Relay for ReceiveRelay<W> {
         if self.is_new || self.copy.is_some() {
             return Some(0);
         }
-        sooner(sooner(self.core_moment(), self.front_moment()), self.end())
+        sooner(sooner(self.front_moment(), self.ask_moment()), self.end())
     }
 
     fn is_done(&self, now: u64) -> bool {

@@ -3,6 +3,7 @@ pub mod RoundTrip
 pub mod Lately
 pub mod AskTimes
 pub mod Silence
+pub mod Playout
 pub mod Arrivals
 pub mod Path
 pub mod Sightings

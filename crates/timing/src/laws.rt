@@ -1,9 +1,11 @@
 //! Laws on what is measured of a path and on the times of asks. These functions compute nothing: their contracts are the laws.
-ghost use Rattle.std.specs.Prelude.{◌≡◌, ◌<◌, ◌≤◌, ◌+◌, ◌-◌, ◌*◌, ◌/◌, ◌⊎◌, ℕ, List};
+ghost use Rattle.std.specs.Prelude.{◌≡◌, ◌<◌, ◌≤◌, ◌+◌, ◌-◌, ◌*◌, ◌/◌, ◌^◌, ◌⊎◌, ℕ, List};
 ghost use Rattle.timing.specs.declared.round_trip.Smoothed.{Smoothed};
+ghost use Rattle.timing.specs.declared.playout.Playout.{Playout};
 ghost use Rattle.timing.specs.declared.silence.Silence.{Silence};
 ghost use Rattle.timing.specs.AskTimes.{ask_times, answer_of, spacing_of};
 ghost use Rattle.timing.specs.Lately.{greatest_at};
+ghost use Rattle.timing.specs.Playout.{heard_at, ms_of, release_at, ticks_of};
 ghost use Rattle.timing.specs.Silence.{lead_of};
 ghost use Rattle.timing.specs.Sightings.{Sighting, seen_of, IsInOrder, AreWithin, AreLatelyWithin};
 
@@ -43,4 +45,15 @@ pub fn losses_were_sent_in_order()
     ensures in_order { (s : Silence) (place later : ℕ) → s.below < place → place ≤ later → lead_of s later ≤ lead_of s place }
     // At the peak's rate no fewer packets are sent from then on than there were: so a pause of the stream is not taken for its packets.
     ensures no_slower { (s : Silence) (place : ℕ) → place < s.above → lead_of s place * s.peak ≤ (s.above - place) * 1000 }
+{}
+
+/// Of packets that are held for a player.
+#[tactic(auto, using(crate::proofs::Held::no_longer, crate::proofs::Held::apart))]
+pub fn packets_leave_as_they_were_sent()
+    // None is held for longer than the latency behind the moment at which it came.
+    ensures no_longer { (p : Playout) (timestamp latency now : ℕ) → p.start ≤ now → release_at (heard_at p timestamp now) timestamp latency ≤ now + latency }
+    // Between two packets there is as much time as between their timestamps.
+    ensures apart { (p : Playout) (one other latency : ℕ) → let at : ℕ → ℕ = λ t. ms_of p.rate (ticks_of p.latest t) in
+        p.most ≤ at one → p.most ≤ at other → p.start + latency + at one < 2 ^ 64 → p.start + latency + at other < 2 ^ 64 →
+        release_at p one latency + at other ≡ release_at p other latency + at one }
 {}

@@ -1,5 +1,5 @@
 //! What a path needs of who asks over it for what is lost: how long an answer takes, how far packets come behind later ones, when
-//! those were sent that were lost in a silence, and the times of asks that follow.
+//! those were sent that were lost in a silence, and the times of asks that follow; and when packets leave that are held for a player.
 #![tactic(auto)]
 
 mod arrivals;
@@ -7,13 +7,18 @@ mod ask_times;
 mod lately;
 mod laws;
 mod path;
+mod playout;
 mod round_trip;
 mod silence;
 
 pub use arrivals::Arrivals;
 pub use ask_times::AskTimes;
 pub use lately::Lately;
-pub use laws::{asks_fit_the_time, losses_were_sent_in_order, the_greatest_is_of_late};
+pub use laws::{
+    asks_fit_the_time, losses_were_sent_in_order, packets_leave_as_they_were_sent,
+    the_greatest_is_of_late,
+};
 pub use path::Path;
+pub use playout::{Playout, Stamp};
 pub use round_trip::{Probe, RoundTrip, Smoothed};
 pub use silence::Silence;
