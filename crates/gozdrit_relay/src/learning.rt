@@ -13,8 +13,9 @@ use std::net::SocketAddr;
 use stores::{History, OutOfMemory, Window};
 use timing::Playout;
 
-/// How often a packet is retransmitted, and a place asked for, at most.
-const MOST: u8 = 32;
+/// How often a packet is retransmitted, and a place asked for, at most: as often as can be, since the patience and the pace bound both.
+/// With a long latency and a short round trip 32 times were over long before the patience was.
+const MOST: u8 = 255;
 
 /// How long a retransmission is waited for until the round-trip time is known, in milliseconds.
 const RETRY: u64 = 250;

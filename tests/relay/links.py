@@ -1,0 +1,163 @@
+#!/usr/bin/env python3
+"""What comes in time over a path that loses, by relays, by no relays, and by librist where it is installed (ristsender and ristreceiver
+of Debian's rist-tools, main profile).
+
+    links.py PROGRAM
+
+A stream of 208 packets a second (2 megabits, of 1200 octets) goes over a path with a round trip of 50 milliseconds and a latency of 200
+behind that. A packet is in time that comes no later than 50 milliseconds after that. It fails where less comes in time than by no
+relays, than by librist (less two in a thousand, for the draws), or than a floor of its own."""
+import random
+import shutil
+import struct
+import subprocess
+import threading
+import time
+
+from base import part
+from net import App, End, Path, udp
+from rtp import index, plain
+
+RATE, SECONDS, DELAY, LATENCY, SLACK = 208, 14, 0.025, 0.2, 0.05
+MANY, OUT = RATE * SECONDS, (4.0, 5.0)  # packets, and when an outage is, in seconds since the first one
+RIST = [shutil.which("ristsender"), shutil.which("ristreceiver")]
+
+
+class Rule:
+    """Loses what a seed draws: so much of what passes, in bursts of so many in the mean, both ways; and everything in an outage."""
+
+    def __init__(self, seed, loss, burst=1, out=None):
+        self.draw, self.loss, self.burst, self.out, self.began = random.Random(seed), loss, burst, out, None
+        self.is_bad = {"forth": False, "back": False}
+
+    def __call__(self, way, octets):
+        self.began = self.began or time.monotonic()
+        if self.out and self.out[0] <= time.monotonic() - self.began < self.out[1]:
+            return ()
+        leaves = 1 / self.burst if self.is_bad[way] else 1 - self.loss / ((1 - self.loss) * self.burst)
+        self.is_bad[way] = (self.draw.random() >= leaves) if self.burst > 1 else self.draw.random() < self.loss
+        return () if self.is_bad[way] else (DELAY,)
+
+
+def in_time(sent, came):
+    """How many of those that were sent came in time, by number."""
+    last = DELAY + LATENCY + SLACK
+    return sum(1 for number, moment in sent.items() if number in came and came[number] - moment <= last)
+
+
+def streamed(send, player, number_of):
+    """Sends the stream, and gives when each packet was sent and when it came first."""
+    sent, due = {}, time.monotonic()
+    for number in range(MANY):
+        due += 1 / RATE
+        time.sleep(max(0, due - time.monotonic()))
+        sent[number] = time.monotonic()
+        send(number)
+    time.sleep(1.5)
+    came = {}
+    for moment, _, octets in list(player.came):
+        came.setdefault(number_of(octets), moment)
+    return sent, came
+
+
+def by_relays(stage, rule):
+    """How much comes in time by relays."""
+    player, contents = End(stage), plain(MANY, 1200)
+    receiver = stage.receive(player.at, "--latency", round(LATENCY * 1000), log=False)
+    path = Path(stage, receiver.at, rule)
+    sender = stage.send(path.at, log=False)
+    app = App(stage, sender.at, number=0)
+    sent, came = streamed(lambda number: app.send(contents[number]), player, lambda octets: struct.unpack(">I", octets[12:16])[0])
+    return in_time(sent, came)
+
+
+def by_nothing(stage, rule):
+    """How much comes in time by no relays."""
+    player, contents = End(stage), plain(MANY, 1200)
+    path = Path(stage, player.at, rule)
+    app = App(stage, path.at, number=0)
+    sent, came = streamed(lambda number: app.send(contents[number]), player, lambda octets: struct.unpack(">I", octets[12:16])[0])
+    return in_time(sent, came)
+
+
+def free_port():
+    """A port that nobody has."""
+    with udp() as one:
+        return one.getsockname()[1]
+
+
+def by_librist(stage, rule):
+    """How much comes in time by librist."""
+    player, near, far = End(stage), free_port(), free_port()
+    path = Path(stage, ("127.0.0.1", far), rule)
+    common = ["-p", "1", "-b", str(round(LATENCY * 1000)), "-v", "3"]
+    runs = [subprocess.Popen([RIST[1], *common, "-i", f"rist://@127.0.0.1:{far}", "-o", f"udp://127.0.0.1:{player.at[1]}"],
+                             stdout=subprocess.DEVNULL, stderr=subprocess.DEVNULL),
+            subprocess.Popen([RIST[0], *common, "-i", f"udp://@127.0.0.1:{near}", "-o", f"rist://127.0.0.1:{path.at[1]}"],
+                             stdout=subprocess.DEVNULL, stderr=subprocess.DEVNULL)]
+    time.sleep(2)
+    app = stage.keep(udp())
+    rule.began = None
+    sent, came = streamed(lambda number: app.sendto(struct.pack(">I", number) + bytes(1196), ("127.0.0.1", near)), player,
+                          lambda octets: struct.unpack(">I", octets[:4])[0])
+    for one in runs:
+        one.kill()
+        one.wait()
+    return in_time(sent, came)
+
+
+def beside(stage, seed, **rule):
+    """How much comes in time by each of them, over paths of their own with the same draws."""
+    ways = {"relays": by_relays, "nothing": by_nothing, **({"librist": by_librist} if all(RIST) else {})}
+    came = dict.fromkeys(ways, 0)
+
+    def one(way):
+        came[way] = ways[way](stage, Rule(seed, **rule))
+
+    threads = [threading.Thread(target=one, args=(way,)) for way in ways]
+    for thread in threads:
+        thread.start()
+    for thread in threads:
+        thread.join()
+    return came
+
+
+def faults(came, floor):
+    """What is wrong with a row."""
+    ours = came["relays"]
+    return [what for what, bad in ((f"{ours} are below {floor}", ours < floor), ("no better than nothing", ours <= came["nothing"]),
+                                   ("worse than librist", ours < came.get("librist", 0) - MANY * 0.002)) if bad]
+
+
+def row(checks, stage, name, floor, **rule):
+    """One path. A machine that halts for some milliseconds loses more than the path, so it has three tries, each with other draws."""
+    for seed in (7, 8, 9):
+        came = beside(stage, seed, **rule)
+        print(f"{name}: in time of {MANY}: " + ", ".join(f"{way} {many}" for way, many in came.items()), flush=True)
+        wrong = faults(came, floor * MANY)
+        if not wrong:
+            break
+    checks.same(wrong, [], f"{name}: {came}")
+    if not all(RIST):
+        print(f"{name}: librist is not installed: not beside it", flush=True)
+
+
+def one_in_ten(checks, stage):
+    row(checks, stage, "10 % lost", 0.995, loss=0.1)
+
+
+def two_in_ten(checks, stage):
+    row(checks, stage, "20 % lost", 0.985, loss=0.2)
+
+
+def bursts(checks, stage):
+    row(checks, stage, "5 % lost in bursts of 20", 0.97, loss=0.05, burst=20)
+
+
+def outage(checks, stage):
+    """What was sent in all but the last 200 milliseconds of it can't be in time."""
+    row(checks, stage, "2 % lost and a second's outage", (SECONDS - 1) / SECONDS, loss=0.02, out=OUT)
+
+
+if __name__ == "__main__":
+    part(one_in_ten, two_in_ten, bursts, outage, beside=False)
