@@ -232,7 +232,8 @@ typedef struct gozdrit_receiver_config {
     gozdrit_bool learns;   /* the SSRC of the retransmissions is learnt; rtx_ssrc is then not used */
     /* When a media packet is believed whose sequence number has jumped (RFC 3550, appendix A.1): one that lies
      * max_dropout or more ahead of the highest one, or max_misorder or more behind it, is held back until so many
-     * came, and then the stream restarts with them: by `silence`, below. 0 is the usual number: 3000, 100, 2 and 256. */
+     * came, and then the stream restarts with them: by `silence`, below. 0 is the usual number: 3000, or the window
+     * where that is more, so that a gap that it bridges is no restart; 100; 2; and 256. */
     uint16_t max_dropout;
     uint16_t max_misorder;
     uint16_t min_ahead;

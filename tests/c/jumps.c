@@ -34,6 +34,16 @@ static void test_ahead(void) {
     ANSWERS(GOZDRIT_OK, gozdrit_receiver_free(&r));
 }
 
+/* The usual jump ahead over a window of more than 3000: as many as it keeps. */
+static void test_wide(void) {
+    gozdrit_receiver_config config = CONFIG;
+    config.window = 8192;
+    gozdrit_receiver r = started(&config, 100);
+    HEARS_MEDIA(&r, 8291, 1, MEDIA(73827));
+    HEARS_MEDIA(&r, 16483, 2, HELD_BACK(1));
+    ANSWERS(GOZDRIT_OK, gozdrit_receiver_free(&r));
+}
+
 /* The usual jump behind: 100 or more, of which 256 in sequence are believed. */
 static void test_behind(void) {
     gozdrit_receiver_config config = CONFIG;
@@ -229,6 +239,7 @@ static void test_silence(void) {
 
 void test_jumps(void) {
     test_ahead();
+    test_wide();
     test_behind();
     test_numbers();
     test_runs();

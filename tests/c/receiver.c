@@ -28,7 +28,7 @@ static void test_defaults(void) {
     CHECK(config.session.media_type == 0 && config.session.rtx_type == 0 && config.session.any_media_type == 0);
     CHECK(config.window == 512 && config.patience == 200 && config.delay == 20 && config.retry == 40);
     CHECK(config.nacks == 4 && config.learns == 0 && config.silence == 200);
-    CHECK(config.max_dropout == 3000 && config.max_misorder == 100);
+    CHECK(config.max_dropout == 0 && config.max_misorder == 100);
     CHECK(config.min_ahead == 2 && config.min_behind == 256);
     /* the session is still to be set */
     ANSWERS(GOZDRIT_BAD_TYPE, gozdrit_receiver_new(&config, &receiver));

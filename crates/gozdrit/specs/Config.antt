@@ -1,6 +1,6 @@
 -- The configurations that C says, and which of their checks fails first: the types (51), the SSRCs (52), and the limits
 -- of the end and of its store (53).
-use Rattle.std.specs.Prelude.{◌≡◌, ℕ, zero, suc, ◌<◌, ◌≤◌, ◌==◌, not, Option, Some, None}
+use Rattle.std.specs.Prelude.{◌≡◌, ℕ, zero, suc, ◌<◌, ◌≤◌, ◌==◌, max, min, not, Option, Some, None}
 use Rattle.rtpwire.specs.declared.fault.ConfigFault.{ConfigFault}
 use Rattle.rtpwire.specs.declared.fault.ConfigFault.TheVariants.{BadType, SameSsrc, BadLimit}
 use Rattle.rtpwire.specs.Session.{Streams, HasTypes, HasAnyMediaType, HasSsrcs, streams}
@@ -49,6 +49,10 @@ abbrev pub or_usual : (number usual : ℕ) → ℕ
 or_usual zero usual = usual
 or_usual (suc n) usual = suc n
 
+-- the usual jump ahead: 3000, or as many as the window keeps, up to the greatest one
+abbrev pub usual_dropout : (window : ℕ) → ℕ
+usual_dropout window = max 3000 (min window 8192)
+
 -- how long nothing is taken of a stream that is silent; 0: the rule in sequence
 abbrev pub silence_of : ℕ → Option ℕ
 silence_of zero = None
@@ -58,7 +62,7 @@ silence_of (suc n) = Some (suc n)
 abbrev pub probation_of : ReceiverFields → Probation
 probation_of f =
     record {
-      dropout = or_usual f.max_dropout 3000;
+      dropout = or_usual f.max_dropout (usual_dropout f.window);
       misorder = or_usual f.max_misorder 100;
       ahead = or_usual f.min_ahead 2;
       behind = or_usual f.min_behind 256;

@@ -1,6 +1,6 @@
 //! How C says the configurations of both ends.
 ghost use Rattle.std.specs.Prelude.{◌≡◌, ⊤, MatchResult};
-ghost use Rattle.gozdrit.specs.Config.{IsCapacity, IsSession, HasSenderLimits, HasReceiverLimits, Fails, streams_of, sender_config, receiver_config, probation_of, or_usual};
+ghost use Rattle.gozdrit.specs.Config.{IsCapacity, IsSession, HasSenderLimits, HasReceiverLimits, Fails, streams_of, sender_config, receiver_config, probation_of, or_usual, usual_dropout};
 
 use endpoint::Probation;
 use receiver::ReceiverConfig;
@@ -129,7 +129,7 @@ impl ReceiverFields {
         ensures { MatchResult result (λ made. made ≡ probation_of self.now) (λ fault. ⊥) }
     {
         let made = Probation::new(
-            or_usual(self.max_dropout, Probation::DROPOUT),
+            or_usual(self.max_dropout, usual_dropout(self.window)),
             or_usual(self.max_misorder, Probation::MISORDER),
             or_usual(self.min_ahead, Probation::AHEAD),
             or_usual(self.min_behind, Probation::BEHIND),
@@ -140,6 +140,13 @@ impl ReceiverFields {
             made.with_silence(self.silence)
         })
     }
+}
+
+/// The usual jump ahead: 3000, or as many as the window keeps. A gap that a window bridges is no restart.
+fn usual_dropout(window: u32) -> u16
+    ensures { result ≡ usual_dropout window }
+{
+    (window.min(MAX_STORE) as u16).max(Probation::DROPOUT)
 }
 
 /// A number, or the usual one in the place of 0.

@@ -29,7 +29,7 @@ pub(crate) fn receiver_defaults(config: &mut ReceiverFields) -> i32
         window: 512,
         nacks: 4,
         learns: 0,
-        max_dropout: Probation::DROPOUT,
+        max_dropout: 0,
         max_misorder: Probation::MISORDER,
         min_ahead: Probation::AHEAD,
         min_behind: Probation::BEHIND,

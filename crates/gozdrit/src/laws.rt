@@ -1,5 +1,5 @@
 //! Laws on the configurations that C says, field by field. These functions compute nothing: their contracts are the laws.
-ghost use Rattle.std.specs.Prelude.{◌≡◌, ◌↔◌, ℕ, ◌<◌, true, false, Some, None};
+ghost use Rattle.std.specs.Prelude.{◌≡◌, ◌↔◌, ℕ, ◌<◌, ◌≤◌, true, false, Some, None};
 ghost use Rattle.gozdrit.specs.declared.config.SessionFields.{SessionFields};
 ghost use Rattle.gozdrit.specs.declared.config.SenderFields.{SenderFields};
 ghost use Rattle.gozdrit.specs.declared.config.ReceiverFields.{ReceiverFields};
@@ -22,7 +22,8 @@ pub fn fields_say_configurations()
     // A number of the probation is the field's, and the usual one where that is 0.
     ensures probation { (f : ReceiverFields) → 0 < f.max_dropout → 0 < f.max_misorder → 0 < f.min_ahead → 0 < f.min_behind → let p = probation_of f in
         (p.dropout ≡ f.max_dropout) × (p.misorder ≡ f.max_misorder) × (p.ahead ≡ f.min_ahead) × (p.behind ≡ f.min_behind) }
-    ensures usual_dropout { (f : ReceiverFields) → f.max_dropout ≡ 0 → (probation_of f).dropout ≡ 3000 }
+    ensures usual_dropout { (f : ReceiverFields) → f.max_dropout ≡ 0 → f.window ≤ 3000 → (probation_of f).dropout ≡ 3000 }
+    ensures wide_dropout { (f : ReceiverFields) → f.max_dropout ≡ 0 → 3000 ≤ f.window → f.window ≤ 8192 → (probation_of f).dropout ≡ f.window }
     ensures usual_misorder { (f : ReceiverFields) → f.max_misorder ≡ 0 → (probation_of f).misorder ≡ 100 }
     ensures usual_ahead { (f : ReceiverFields) → f.min_ahead ≡ 0 → (probation_of f).ahead ≡ 2 }
     ensures usual_behind { (f : ReceiverFields) → f.min_behind ≡ 0 → (probation_of f).behind ≡ 256 }

@@ -66,7 +66,7 @@ static unsigned or_usual(unsigned number, unsigned usual) { return number ? numb
 /* Whether a number has jumped from the highest one of a window. */
 static bool has_jumped(const struct receiver *it, const struct window *window, uint16_t number) {
     unsigned ahead = (uint16_t)(number - (uint16_t)window->highest);
-    return window->has_started && ahead >= or_usual(it->config.max_dropout, 3000)
+    return window->has_started && ahead >= or_usual(it->config.max_dropout, it->config.window > 3000 ? it->config.window : 3000)
            && 65536 - ahead >= or_usual(it->config.max_misorder, 100);
 }
 

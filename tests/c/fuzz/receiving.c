@@ -134,7 +134,7 @@ static void call_defaults(void) {
     same(20, config->delay, "delay");
     same(40, config->retry, "retry");
     same(4, config->nacks, "nacks");
-    holds(config->max_dropout == 0 || config->max_dropout == 3000, "max_dropout is the usual number");
+    same(0, config->max_dropout, "max_dropout, which is the usual number");
     holds(config->max_misorder == 0 || config->max_misorder == 100, "max_misorder is the usual number");
     holds(config->min_ahead == 0 || config->min_ahead == 2, "min_ahead is the usual number");
     holds(config->min_behind == 0 || config->min_behind == 256, "min_behind is the usual number");
