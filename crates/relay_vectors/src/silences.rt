@@ -124,6 +124,27 @@ fn what_is_too_late_is_not_asked_for(rt: HostRuntime) -> Result<(), Fail> {
     }
 }
 
+/// The path is dead for 240 milliseconds, in which 12 packets are lost. That is no quarter longer than the patience: all are waited for
+/// since they were noticed to be missing.
+#[test]
+fn a_short_outage_is_waited_for(rt: HostRuntime) -> Result<(), Fail> {
+    let mut relay = relay_with(rt.alloc(), 73, 256)?;
+    let mut script = Script::new(rt.alloc());
+    sixty(&mut script)?;
+    script.comes(1420, Side::Far, FAR, &media(72, 1))?;
+    for i in 60..72_u16 {
+        script.comes(1619, Side::Far, FAR, &repair(i, 1))?;
+    }
+    if run(&mut script, &mut relay).is_err() {
+        return Err(Fail::from("it ends by its bounds"));
+    }
+    if relay.counts().gaps == 0 && relay.counts().played == 73 {
+        Ok(())
+    } else {
+        Err(Fail::from("what was given up"))
+    }
+}
+
 /// The stream pauses for two seconds, and the first two packets behind that are lost: they were sent right before the one that comes.
 #[test]
 fn a_pause_is_no_outage(rt: HostRuntime) -> Result<(), Fail> {

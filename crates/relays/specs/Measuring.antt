@@ -1,5 +1,5 @@
 -- What a receiving relay measures of the path by what comes.
-use Rattle.std.specs.Prelude.{◌≡◌, ℕ, ◌-◌, ◌^◌, ◌<◌, ◌≤◌, ◌==◌, Bool, false, nat_lt, List, length, drop, Option, Some, None, Result, Ok, if◌then◌else◌}
+use Rattle.std.specs.Prelude.{◌≡◌, ℕ, ◌+◌, ◌-◌, ◌/◌, ◌^◌, ◌<◌, ◌≤◌, ◌==◌, Bool, false, nat_lt, List, length, drop, Option, Some, None, Result, Ok, if◌then◌else◌}
 use Rattle.byteorder.specs.Endian.{big_number}
 use Rattle.places.specs.Place.{IsNear}
 use Rattle.stores.specs.declared.slot.Slot.TheVariants.{Missing}
@@ -13,6 +13,7 @@ use Rattle.timing.specs.declared.path.Path.{Path}
 use Rattle.timing.specs.RoundTrip.{heard_at}
 use Rattle.timing.specs.Lately.{greatest_at, seen_at}
 use Rattle.timing.specs.Arrivals.{came_at, restarted_at}
+use Rattle.timing.specs.Capped.{capped}
 use Rattle.relays.specs.declared.measuring.Awaited.{Awaited}
 use Rattle.relays.specs.declared.measuring.Standing.{Standing}
 
@@ -33,11 +34,16 @@ abbrev pub IsWaitedFor : Span → (octets : List ℕ) → Option Awaited → Typ
 IsWaitedFor s octets None = (place noticed : ℕ) → IsMissed s octets place noticed → ⊥
 IsWaitedFor s octets (Some a) = IsMissed s octets a.place a.noticed
 
+-- How long a silence is at least of which something is too late: by a quarter longer than a place is waited for. Of what was lost in a
+-- shorter one all but the first few packets can still be in time, and these are late by little.
+abbrev pub least_silence : (patience : ℕ) → ℕ
+least_silence patience = capped (patience + patience / 4)
+
 -- where a receiver stood, before a packet with these octets
 pub record IsStanding (core : Receiving) (octets : List ℕ) (standing : Standing) : Type 0 where
   pub highest : standing.highest ≡ highest_of core.span
   pub cursor : standing.cursor ≡ core.span.cursor
-  pub patience : standing.patience ≡ core.config.patience
+  pub least : standing.least ≡ least_silence core.config.patience
   pub awaited : IsWaitedFor core.span octets standing.awaited
 
 -- A media packet that was waited for came late: so far packets come behind later ones. The times of asks follow where that is farther
@@ -49,10 +55,9 @@ seen_by (Some a) p place now =
     then (nat_lt (greatest_at p.reordering now) (now - a.noticed), record p { reordering = seen_at p.reordering (now - a.noticed) now })
     else (false, p)
 
--- A media packet came, and tells of a silence that it may end, if that was no shorter than the patience: all that was lost in a shorter one
--- can still be in time.
+-- A media packet came, and tells of a silence that it may end.
 abbrev pub path_came : Standing → Path → (place now : ℕ) → Path
-path_came s p place now = record p { arrivals = came_at p.arrivals s.highest s.cursor s.patience place now }
+path_came s p place now = record p { arrivals = came_at p.arrivals s.highest s.cursor s.least place now }
 
 -- A retransmission that was taken may be a measurement of the round-trip time.
 abbrev pub measured_by : Result Heard ReceiveFault → Standing → Path → (now : ℕ) → Bool × Path

@@ -1,6 +1,6 @@
 //! What a receiving relay measures of the path by what comes.
 ghost use Rattle.std.specs.Prelude.{◌≡◌, ◌||◌};
-ghost use Rattle.relays.specs.Measuring.{IsStanding, IsWaitedFor, measured_by, seen_by};
+ghost use Rattle.relays.specs.Measuring.{IsStanding, IsWaitedFor, least_silence, measured_by, seen_by};
 
 use endpoint::Heard;
 use places::{Place, near};
@@ -40,10 +40,17 @@ pub struct Standing {
     pub highest: Option<Place>,
     /// The next place to play.
     pub cursor: Option<u64>,
-    /// How long a place is waited for, in milliseconds.
-    pub patience: u64,
+    /// How long a silence is at least of which something is too late, in milliseconds.
+    pub least: u64,
     /// The missing place that the datagram has.
     pub awaited: Option<Awaited>,
+}
+
+/// How long a silence is at least of which something is too late, where a place is waited for so long: by a quarter longer.
+fn least_silence(patience: u64) -> u64
+    ensures { result ≡ least_silence patience }
+{
+    patience.saturating_add(patience / 4)
 }
 
 /// Where a receiver stands, before a packet with these octets.
@@ -53,7 +60,7 @@ pub(crate) fn standing_before<W: Window>(core: &Receiver<W>, octets: &[u8]) -> S
     Standing {
         highest: core.window().highest(),
         cursor: core.window().cursor(),
-        patience: core.config().patience(),
+        least: least_silence(core.config().patience()),
         awaited: place_missed(core, octets),
     }
 }
@@ -88,7 +95,7 @@ fn measure(
             path.arrivals.come(
                 standing.highest,
                 standing.cursor,
-                standing.patience,
+                standing.least,
                 taken.place,
                 now,
             );
