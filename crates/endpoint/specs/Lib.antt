@@ -1,6 +1,8 @@
+pub mod Asked
 pub mod Counts
 pub mod Demultiplex
 pub mod Events
+pub mod Kinds
 pub mod Ledger
 pub mod Silence
 pub mod Padding

@@ -2,12 +2,16 @@
 //! restarts then, that takes whatever datagram comes from the far side, and that counts.
 #![tactic(auto)]
 
+mod asked_places;
 mod asking;
+mod asking_endpoint;
 mod config_laws;
 mod demultiplex;
 mod heard;
 mod holding;
 mod judging;
+mod kind;
+mod kind_counts;
 mod laws;
 mod moments;
 mod padding;
@@ -22,9 +26,13 @@ mod timely;
 mod timely_laws;
 mod told;
 
+pub use asked_places::AskedPlaces;
+pub use asking_endpoint::AskingEndpoint;
 pub use config_laws::new_receivers_are_as_configured;
 pub use demultiplex::is_control;
 pub use heard::{Heard, Restart};
+pub use kind::Kind;
+pub use kind_counts::KindCounts;
 pub use laws::{
     core_has_what_is_believed, counts_are_exact, counts_are_in_full, restarts_are_founded,
     sending_counts_are_exact,

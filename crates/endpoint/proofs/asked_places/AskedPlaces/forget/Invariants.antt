@@ -1,0 +1,10 @@
+use Rattle.std.proofs.Common.{◌≡◌, ◌≤◌, length}
+use Rattle.std.specs.Vec.{vec_capacity}
+use Rattle.endpoint.specs.Asked.{none_asked}
+use Rattle.endpoint.proofs.asked_places.AskedPlaces.forget.Given as goal
+
+abbrev pub invariant-blank : goal.invariant-blank
+invariant-blank l = record {
+  blank : l.self-inside.cells.items ≡ none_asked l.counter;
+  room : l.count ≤ vec_capacity l.self-inside.cells;
+}
