@@ -9,3 +9,9 @@ pub mod InTime
 pub mod TimelyKept
 pub mod TimelyRun
 pub mod Always
+pub mod Remembered
+pub mod AskingRun
+pub mod KindsTallied
+pub mod KindsTold
+pub mod PaddingTold
+pub mod RepairsFound

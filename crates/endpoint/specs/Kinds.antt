@@ -22,15 +22,19 @@ use Rattle.endpoint.specs.Padding.{IsStripped}
 abbrev pub IsAllPadding : List ℕ → Type 0
 IsAllPadding octets = (plain : List ℕ) × IsStripped octets plain
 
--- By its payload type the octets are a retransmission, and near the highest place the number of its original has the place q.
-pub record IsRepairOf (s : Streams) (highest : ℕ) (octets : List ℕ) (q : ℕ) : Type 0 where
-  pub packet : RtpPacket
-  pub spelled : RtpSpells packet octets
+-- By its payload type the packet is a retransmission, and near the highest place the number of its original has the place q.
+pub record IsRepairIn (s : Streams) (highest : ℕ) (packet : RtpPacket) (q : ℕ) : Type 0 where
   pub typed : packet.payload_type ≡ s.repair_type
   pub repair : Repair
   pub is : IsRepair repair packet
   pub near : IsNear highest repair.original q
   pub place : q < 2 ^ 48
+
+-- the octets are such a packet
+pub record IsRepairOf (s : Streams) (highest : ℕ) (octets : List ℕ) (q : ℕ) : Type 0 where
+  pub packet : RtpPacket
+  pub spelled : RtpSpells packet octets
+  pub original : IsRepairIn s highest packet q
 
 -- it is one of a place that is not remembered
 pub record IsForeign (cells : List (Option ℕ)) (s : Streams) (highest : ℕ) (octets : List ℕ) : Type 0 where

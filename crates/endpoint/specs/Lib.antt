@@ -1,4 +1,5 @@
 pub mod Asked
+pub mod AskingRuns
 pub mod Counts
 pub mod Demultiplex
 pub mod Events

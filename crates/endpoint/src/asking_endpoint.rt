@@ -83,8 +83,7 @@ impl<W: Window> AskingEndpoint<W> {
         ensures wait { result ≡ Played.Wait → self.new.endpoint.core ≡ self.old.endpoint.core }
         ensures stays { Stays self.old.endpoint.core self.new.endpoint.core }
         ensures counts { self.new.endpoint.counts ≡ count_played result self.old.endpoint.counts }
-        ensures below { self.new.endpoint ≡ record self.old.endpoint { core = self.new.endpoint.core; counts = self.new.endpoint.counts } }
-        ensures rest { self.new ≡ record self.old { endpoint = self.new.endpoint } }
+        ensures rest { self.new ≡ record self.old { endpoint = record self.old.endpoint { core = self.new.endpoint.core; counts = self.new.endpoint.counts } } }
     {
         self.endpoint.play(now)
     }
@@ -95,8 +94,7 @@ impl<W: Window> AskingEndpoint<W> {
         ensures plays { PlaysAny self.old.endpoint.core.config.patience (state_of self.old.endpoint.core) now (play_of self.old.endpoint.core.config.patience now self.old.endpoint.core.span) (state_of self.new.endpoint.core) }
         ensures stays { Stays self.old.endpoint.core self.new.endpoint.core }
         ensures counts { self.new.endpoint.counts ≡ count_played (play_of self.old.endpoint.core.config.patience now self.old.endpoint.core.span) self.old.endpoint.counts }
-        ensures below { self.new.endpoint ≡ record self.old.endpoint { core = self.new.endpoint.core; counts = self.new.endpoint.counts } }
-        ensures rest { self.new ≡ record self.old { endpoint = self.new.endpoint } }
+        ensures rest { self.new ≡ record self.old { endpoint = record self.old.endpoint { core = self.new.endpoint.core; counts = self.new.endpoint.counts } } }
     {
         self.endpoint.pass(now);
     }
@@ -107,9 +105,8 @@ impl<W: Window> AskingEndpoint<W> {
         ensures none { IsNone result → self.new.endpoint.core ≡ self.old.endpoint.core }
         ensures stays { Stays self.old.endpoint.core self.new.endpoint.core }
         ensures counts { CountsAsk result self.old.endpoint.counts self.new.endpoint.counts }
-        ensures below { self.new.endpoint ≡ record self.old.endpoint { core = self.new.endpoint.core; counts = self.new.endpoint.counts } }
         ensures asked { RemembersAsk (highest_of self.old.endpoint.core.span) result self.old.asked self.new.asked }
-        ensures rest { self.new ≡ record self.old { endpoint = self.new.endpoint; asked = self.new.asked } }
+        ensures rest { self.new ≡ record self.old { endpoint = record self.old.endpoint { core = self.new.endpoint.core; counts = self.new.endpoint.counts }; asked = self.new.asked } }
     {
         let highest = self.endpoint.core().window().highest();
         let nack = self.endpoint.ask_most(now, most);
@@ -134,9 +131,8 @@ impl<W: Window> AskingEndpoint<W> {
         ensures none { result ≡ Ok None → self.new.endpoint.core ≡ self.old.endpoint.core }
         ensures stays { Stays self.old.endpoint.core self.new.endpoint.core }
         ensures counts { CountsAskInto out.new result self.old.endpoint.counts self.new.endpoint.counts }
-        ensures below { self.new.endpoint ≡ record self.old.endpoint { core = self.new.endpoint.core; counts = self.new.endpoint.counts } }
         ensures asked { RemembersAskInto (highest_of self.old.endpoint.core.span) out.new result self.old.asked self.new.asked }
-        ensures rest { self.new ≡ record self.old { endpoint = self.new.endpoint; asked = self.new.asked } }
+        ensures rest { self.new ≡ record self.old { endpoint = record self.old.endpoint { core = self.new.endpoint.core; counts = self.new.endpoint.counts }; asked = self.new.asked } }
     {
         let highest = self.endpoint.core().window().highest();
         let nack = self.endpoint.ask_most_into(out, now, most);
@@ -153,8 +149,7 @@ impl<W: Window> AskingEndpoint<W> {
         ensures ok { OnOk result (self.new.endpoint.core ≡ begun self.old.endpoint.core (65536 + first)) }
         ensures unstarted { IsOk result ↔ (state_of self.old.endpoint.core ≡ None) }
         ensures err { OnErr result (self.new ≡ self.old) }
-        ensures below { self.new.endpoint ≡ record self.old.endpoint { core = self.new.endpoint.core } }
-        ensures rest { self.new ≡ record self.old { endpoint = self.new.endpoint } }
+        ensures rest { self.new ≡ record self.old { endpoint = record self.old.endpoint { core = self.new.endpoint.core } } }
     {
         self.endpoint.begin(first)
     }
@@ -163,9 +158,8 @@ impl<W: Window> AskingEndpoint<W> {
     pub fn restart(&mut self)
         ensures core { self.new.endpoint.core ≡ restarted self.old.endpoint.core }
         ensures run { self.new.endpoint.run ≡ no_run }
-        ensures below { self.new.endpoint ≡ record self.old.endpoint { core = self.new.endpoint.core; run = self.new.endpoint.run } }
         ensures asked { self.new.asked ≡ none_asked (length self.old.asked) }
-        ensures rest { self.new ≡ record self.old { endpoint = self.new.endpoint; asked = self.new.asked } }
+        ensures rest { self.new ≡ record self.old { endpoint = record self.old.endpoint { core = self.new.endpoint.core; run = self.new.endpoint.run }; asked = self.new.asked } }
     {
         self.endpoint.restart();
         self.asked.forget();
@@ -180,8 +174,7 @@ impl<W: Window> AskingEndpoint<W> {
         ensures succeeds { IsOk result ↔ (0 < retry) }
         ensures bad_limit { OnErr result (result ≡ Err ConfigFault.BadLimit) }
         ensures err { OnErr result (self.new ≡ self.old) }
-        ensures below { self.new.endpoint ≡ record self.old.endpoint { core = self.new.endpoint.core; spare = self.new.endpoint.spare } }
-        ensures rest { self.new ≡ record self.old { endpoint = self.new.endpoint } }
+        ensures rest { self.new ≡ record self.old { endpoint = record self.old.endpoint { core = self.new.endpoint.core; spare = self.new.endpoint.spare } } }
     {
         self.endpoint.set_times(patience, delay, retry)
     }

@@ -1,13 +1,16 @@
 //! What a datagram is beside what an endpoint answers to it.
-ghost use Rattle.std.specs.Prelude.{◌≡◌, ◌↔◌, ℕ, IsTrue, MatchOption};
-ghost use Rattle.endpoint.specs.Kinds.{IsAllPadding, IsKind, IsKindOfRefused, IsKindOfShort, IsRepairOf, IsUnasked};
+ghost use Rattle.std.specs.Prelude.{◌↔◌, ◌^◌, ◌<◌, ℕ, IsTrue, MatchOption};
+ghost use Rattle.places.specs.Place.{IsNear};
+ghost use Rattle.endpoint.specs.Kinds.{IsForeign, IsKind, IsKindOfRefused, IsKindOfShort, IsRepairIn, IsRepairOf, IsUnasked};
 
 use crate::asked_places::AskedPlaces;
 use crate::heard::Heard;
 use crate::padding::without_padding;
-use places::{Place, near};
+use places::{Place, near, near_is_determined};
 use receiver::ReceiveFault;
-use rtpwire::{RtpFault, RtpView, RtxView, Session};
+use rtpwire::{
+    RtpFault, RtpView, RtxView, Session, repair_is_determined, spelling_is_determined,
+};
 
 /// What a datagram is: [`AskingEndpoint::on_datagram`](crate::AskingEndpoint::on_datagram) tells it.
 #[derive(Clone, Copy, Debug, PartialEq, Eq)]
@@ -65,18 +68,23 @@ fn kind_of_refused(
     }
 }
 
-/// Whether a datagram is a retransmission of a place that is not remembered.
-fn is_unasked(
-    asked: &AskedPlaces,
-    session: &Session,
-    highest: Option<Place>,
-    octets: &[u8],
-) -> bool
+/// Whether a datagram is a retransmission of a place that is not remembered, once there is a highest place.
+fn is_unasked(asked: &AskedPlaces, session: &Session, highest: Option<Place>, octets: &[u8]) -> bool
     ensures { IsTrue result ↔ IsUnasked asked.now session.now highest octets.now }
 {
-    let Some(highest) = highest else {
-        return false;
-    };
+    match highest {
+        Some(highest) => is_foreign(asked, session, highest, octets),
+        None => false,
+    }
+}
+
+/// Whether it is one, by this highest place.
+fn is_foreign(asked: &AskedPlaces, session: &Session, highest: Place, octets: &[u8]) -> bool
+    ensures { IsTrue result ↔ IsForeign asked.now session.now highest octets.now }
+{
+    spelling_is_determined();
+    repair_is_determined();
+    near_is_determined();
     match repaired(session, highest, octets) {
         Some(place) => !asked.remembers(place),
         None => false,
@@ -87,10 +95,31 @@ fn is_unasked(
 fn repaired(session: &Session, highest: Place, octets: &[u8]) -> Option<Place>
     ensures { MatchOption result ((q : ℕ) → IsRepairOf session.now highest octets.now q → ⊥) (λ q. IsRepairOf session.now highest octets.now q) }
 {
-    let view = RtpView::read(octets).ok()?;
+    match RtpView::read(octets) {
+        Ok(view) => repaired_by(session, highest, &view),
+        Err(_) => None,
+    }
+}
+
+/// The same of a packet.
+fn repaired_by(session: &Session, highest: Place, view: &RtpView<'_>) -> Option<Place>
+    ensures { MatchOption result ((q : ℕ) → IsRepairIn session.now highest view.now q → ⊥) (λ q. IsRepairIn session.now highest view.now q) }
+{
     if view.payload_type() != session.repair_type() {
         return None;
     }
-    let repair = RtxView::read(&view).ok()?;
-    near(highest, repair.original()).ok()
+    match RtxView::read(view) {
+        Ok(repair) => near_to(highest, repair.original()),
+        Err(_) => None,
+    }
+}
+
+/// The place near this one that has this number, if there is one.
+fn near_to(highest: Place, seq: u16) -> Option<Place>
+    ensures { MatchOption result ((q : ℕ) → q < 2 ^ 48 → IsNear highest seq q → ⊥) (λ q. (q < 2 ^ 48) × IsNear highest seq q) }
+{
+    match near(highest, seq) {
+        Ok(place) => Some(place),
+        Err(_) => None,
+    }
 }

@@ -5,6 +5,7 @@
 mod asked_places;
 mod asking;
 mod asking_endpoint;
+mod asking_laws;
 mod config_laws;
 mod demultiplex;
 mod heard;
@@ -28,6 +29,7 @@ mod told;
 
 pub use asked_places::AskedPlaces;
 pub use asking_endpoint::AskingEndpoint;
+pub use asking_laws::{kinds_are_told, what_was_asked_is_remembered};
 pub use config_laws::new_receivers_are_as_configured;
 pub use demultiplex::is_control;
 pub use heard::{Heard, Restart};
