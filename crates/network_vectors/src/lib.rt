@@ -30,4 +30,6 @@ mod tails;
 #[cfg(test)]
 mod times;
 #[cfg(test)]
+mod unasked;
+#[cfg(test)]
 mod waking;
