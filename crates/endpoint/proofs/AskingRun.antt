@@ -1,9 +1,9 @@
 -- Over all its calls an endpoint that knows what it asked for remembers the last place of each cell that it named.
-use Rattle.std.proofs.Common.{◌≡◌, ℕ, ◌%◌, ◌<◌, Bool, true, false, List, [], ◌∷◌, length, Option, Some, None, Result, Ok, Err, refl, sym, ap, subst, ◌∙◌}
+use Rattle.std.proofs.Common.{◌≡◌, ℕ, ◌%◌, ◌<◌, true, false, List, [], ◌∷◌, length, Option, Some, None, Result, Ok, Err, sym, ap, subst, ◌∙◌}
 use Rattle.arrayvec.specs.ArrayVec.{ArrayVec}
 use Rattle.fbwire.specs.Nack.{Nack, NackSpells}
 use Rattle.places.specs.Among.{is_among}
-use Rattle.stores.specs.Span.{Span, highest_of}
+use Rattle.stores.specs.Span.{highest_of}
 use Rattle.receiver.specs.Asks.{AsksMost}
 use Rattle.receiver.specs.Config.{Config}
 use Rattle.receiver.specs.Window.{ReceiverState}
@@ -13,7 +13,7 @@ use Rattle.endpoint.specs.declared.heard.Heard.TheVariants.{Control, Media, Repa
 use Rattle.endpoint.specs.declared.kind.Kind.{Kind}
 use Rattle.endpoint.specs.declared.probation.Probation.{Probation}
 use Rattle.endpoint.specs.Asked.{RemembersAsk, is_place, kept_after, none_asked, remembers, with_places}
-use Rattle.endpoint.specs.AskingRuns.{Asking, AskStep, Event, NamesPlaces, RunsOver, Steps, asked, first_with, heard, in_turn, named, other, restarted_by_call}
+use Rattle.endpoint.specs.AskingRuns.{Asking, Event, NamesPlaces, RunsOver, Steps, asked, first_with, heard, in_turn, named, other, restarted_by_call}
 use Rattle.endpoint.proofs.Remembered.{Has, all_more, is_first, known, never_first, nothing}
 
 module _ (count : ℕ) (some : 0 < count) where

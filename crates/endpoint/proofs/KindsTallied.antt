@@ -1,5 +1,5 @@
 -- The counts of the kinds are those of all that was heard.
-use Rattle.std.proofs.Common.{◌≡◌, ℕ, List, [], ◌∷◌, Result, Ok, Err, refl, sym, ap, subst, ◌∙◌}
+use Rattle.std.proofs.Common.{◌≡◌, ℕ, List, [], ◌∷◌, Result, Ok, Err, refl, ap, ◌∙◌}
 use Rattle.std.specs.List.{sum_by}
 use Rattle.places.specs.declared.nearness.PlaceFault.TheVariants.{Far, PastEnd}
 use Rattle.rtpwire.specs.declared.fault.RtpFault.TheVariants as rtp
@@ -14,7 +14,7 @@ use Rattle.endpoint.specs.declared.kind.Kind.TheVariants.{Padding, Unasked, Usua
 use Rattle.endpoint.specs.declared.kind_counts.KindCounts.{KindCounts}
 use Rattle.endpoint.specs.declared.probation.Probation.{Probation}
 use Rattle.endpoint.specs.Counts.{count_in_64, more}
-use Rattle.endpoint.specs.Kinds.{count_kind, no_kinds}
+use Rattle.endpoint.specs.Kinds.{count_kind}
 use Rattle.endpoint.specs.AskingRuns.{Asking, Event, RunsOver, Steps, asked, heard, other, restarted_by_call, padding_in, unasked_in, usual_as, usual_else}
 use Rattle.endpoint.proofs.Adding.{adds}
 

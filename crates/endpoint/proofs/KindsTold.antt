@@ -1,31 +1,16 @@
 -- Which kind is told of what.
-use Rattle.std.proofs.Common.{rules, not, IsTrue, ◌≡◌, ◌≢◌, ℕ, ◌%◌, ◌+◌, ◌-◌, ◌<◌, ◌≤◌, ◌==◌, ◌&&◌, cond, Bool, true, false, List, [], length, Option, Some, None, Result, Ok, Err, refl, sym, ap, subst, ◌∙◌, arith, inl, inr}
-use Rattle.std.proofs.lemmas.Bool.{cases_Bool}
+use Rattle.std.proofs.Common.{rules, not, IsTrue, ◌≡◌, ◌≢◌, ℕ, Bool, true, false, List, Option, Some, None, Err, refl, sym, ap, subst, ◌∙◌}
 use Rattle.places.specs.Place.{IsNear}
-use Rattle.rtpwire.specs.declared.fault.RtpFault.{RtpFault}
 use Rattle.rtpwire.specs.declared.fault.RtpFault.TheVariants as rtp
 use Rattle.rtpwire.specs.Retransmission.{Repair, IsRepair}
 use Rattle.rtpwire.specs.Rtp.{RtpPacket, RtpSpells}
-use Rattle.rtpwire.specs.RtpChecks.{rtp_fault}
 use Rattle.rtpwire.specs.Session.{Streams}
 use Rattle.stores.specs.declared.slot.PutFault.{PutFault}
-use Rattle.stores.specs.Span.{highest_of}
-use Rattle.receiver.specs.declared.answer.Taken.{Taken}
-use Rattle.receiver.specs.declared.fault.ReceiveFault.{ReceiveFault}
 use Rattle.receiver.specs.declared.fault.ReceiveFault.TheVariants as refused
-use Rattle.receiver.specs.declared.stream.Stream.{Stream}
-use Rattle.receiver.specs.declared.stream.Stream.TheVariants.{Media, Repair as Repaired, Candidate}
-use Rattle.receiver.specs.Config.{Config}
-use Rattle.receiver.specs.Heard.{HearsSaid, HearsStream, ReadsPacket}
-use Rattle.receiver.specs.Receiver.{Receiving, state_of}
-use Rattle.receiver.specs.Streams.{source_of, stream_of, stream_under, typed, repair_under}
-use Rattle.receiver.specs.Window.{ReceiverState}
-use Rattle.endpoint.specs.declared.heard.Heard.{Heard}
 use Rattle.endpoint.specs.declared.kind.Kind.{Kind}
 use Rattle.endpoint.specs.declared.kind.Kind.TheVariants.{Padding, Unasked, Usual}
-use Rattle.endpoint.specs.declared.probation.Probation.{Probation}
 use Rattle.endpoint.specs.Asked.{remembers}
-use Rattle.endpoint.specs.Kinds.{IsAllPadding, IsForeign, IsKind, IsKindOfRefused, IsKindOfShort, IsRepairOf, IsUnasked}
+use Rattle.endpoint.specs.Kinds.{IsAllPadding, IsForeign, IsKind, IsRepairOf, IsUnasked}
 
 -- octets spell one packet, which is one retransmission, whose original has one place near the highest
 abbrev pub One : Type 0

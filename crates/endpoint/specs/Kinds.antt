@@ -1,6 +1,6 @@
 -- What a peer's stack sends that answers no ask, told as what it is: padding in the stream of the retransmissions (RFC 3550,
 -- section 5.1, and RFC 4588), and retransmissions of places that were not asked for. Browsers probe for bandwidth with both.
-use Rattle.std.specs.Prelude.{◌≡◌, ℕ, ◌^◌, ◌<◌, ◌≤◌, ◌==◌, ◌&&◌, false, nat_le, List, length, Option, Some, None, Result, Ok, Err, if◌then◌else◌}
+use Rattle.std.specs.Prelude.{◌≡◌, ℕ, ◌^◌, ◌<◌, false, List, Option, Some, None, Result, Ok, Err}
 use Rattle.places.specs.Place.{IsNear}
 use Rattle.places.specs.declared.nearness.PlaceFault.TheVariants.{Far}
 use Rattle.rtpwire.specs.declared.fault.RtpFault.TheVariants.{NoOsn}

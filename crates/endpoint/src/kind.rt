@@ -8,9 +8,7 @@ use crate::heard::Heard;
 use crate::padding::without_padding;
 use places::{Place, near, near_is_determined};
 use receiver::ReceiveFault;
-use rtpwire::{
-    RtpFault, RtpView, RtxView, Session, repair_is_determined, spelling_is_determined,
-};
+use rtpwire::{RtpFault, RtpView, RtxView, Session, repair_is_determined, spelling_is_determined};
 
 /// What a datagram is: [`AskingEndpoint::on_datagram`](crate::AskingEndpoint::on_datagram) tells it.
 #[derive(Clone, Copy, Debug, PartialEq, Eq)]

@@ -1,5 +1,4 @@
 use Rattle.std.proofs.Common.{◌≡◌, ℕ, Result, Err, ap, subst, ◌∙◌, arith}
-use Rattle.rtpwire.specs.declared.fault.RtpFault.TheVariants as rtp
 use Rattle.rtpwire.specs.Rtp.{RtpPacket}
 use Rattle.stores.specs.Span.{highest_of}
 use Rattle.receiver.specs.declared.fault.ReceiveFault.{ReceiveFault}

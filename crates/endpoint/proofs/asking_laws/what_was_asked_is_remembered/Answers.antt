@@ -1,4 +1,4 @@
-use Rattle.std.proofs.Common.{ℕ, arith}
+use Rattle.std.proofs.Common.{arith}
 use Rattle.endpoint.proofs.AskingRun.{knows}
 use Rattle.endpoint.proofs.Remembered.{newest}
 use Rattle.endpoint.proofs.asking_laws.what_was_asked_is_remembered.Goals as goal

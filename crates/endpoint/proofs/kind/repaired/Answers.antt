@@ -8,9 +8,9 @@ pub returns-in-Ok : goal.returns-in-Ok
 returns-in-Ok c =
     of_packet c.args.session.now c.args.highest c.args.octets.now c.in-Ok.view c.in-Ok.ensures.spelled
     (λ p spelled.
-        let one : ◌≡◌ {A = Result RtpPacket RtpFault} (Ok c.in-Ok.view) (Ok p) = c.in-Ok.ensures.only p spelled in
-        let same : c.in-Ok.view ≡ p = cc in
-        same)
+    let one : ◌≡◌ {A = Result RtpPacket RtpFault} (Ok c.in-Ok.view) (Ok p) = c.in-Ok.ensures.only p spelled in
+    let same : c.in-Ok.view ≡ p = cc in
+    same)
     c.repaired_by.result c.repaired_by.ensures
 
 pub returns-in-Err : goal.returns-in-Err

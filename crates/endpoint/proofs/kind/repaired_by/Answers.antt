@@ -9,9 +9,9 @@ pub returns-in-Ok : goal.returns-in-Ok
 returns-in-Ok c =
     of_repair c.args.session.now c.args.highest c.args.view.now (search rules) c.in-Ok.repair c.in-Ok.ensures.is
     (λ r is.
-        let one : ◌≡◌ {A = Result Repair RtpFault} (Ok c.in-Ok.repair) (Ok r) = c.in-Ok.ensures.only r is in
-        let same : c.in-Ok.repair ≡ r = cc in
-        same)
+    let one : ◌≡◌ {A = Result Repair RtpFault} (Ok c.in-Ok.repair) (Ok r) = c.in-Ok.ensures.only r is in
+    let same : c.in-Ok.repair ≡ r = cc in
+    same)
     c.near_to.result
     (subst (λ (n : ℕ). MatchOption c.near_to.result ((q : ℕ) → q < 2 ^ 48 → IsNear c.args.highest n q → ⊥) (λ q. (q < 2 ^ 48) × IsNear c.args.highest n q)) c.original.ensures c.near_to.ensures)
 

@@ -1,4 +1,4 @@
-use Rattle.std.proofs.Common.{◌≡◌, ◌≤◌, length}
+use Rattle.std.proofs.Common.{◌≡◌, ◌≤◌}
 use Rattle.std.specs.Vec.{vec_capacity}
 use Rattle.endpoint.specs.Asked.{none_asked}
 use Rattle.endpoint.proofs.asked_places.AskedPlaces.forget.Given as goal
