@@ -332,8 +332,8 @@ typedef struct gozdrit_receive_counts {
     uint64_t held_back;       /* media packets that were held back */
     uint64_t restarts;        /* of the stream */
     uint64_t rtcp;            /* datagrams */
-    uint64_t duplicate;       /* 36 */
-    uint64_t late;            /* 35 */
+    uint64_t duplicate;       /* 36; gozdrit_receive_kinds has those of media and of answers to NACKs alone */
+    uint64_t late;            /* 35; the same */
     uint64_t far;             /* 34 */
     uint64_t refused;         /* for another reason */
     uint64_t overrun;         /* packets that the window dropped for good to make room, but for those of a run held back */
@@ -344,7 +344,22 @@ typedef struct gozdrit_receive_counts {
     uint64_t nacked;          /* packets that they named, each as often as it was */
 } gozdrit_receive_counts;
 
-/* The same of a sender. The first two are the packet and the octet count of a sender report (RFC 3550, section 6.4.1). */
+/*
+ * Of which kind those datagrams were, since a sender also sends what nobody asked for: padding in the stream of the
+ * retransmissions (RFC 3550, section 5.1), and retransmissions by which it probes for bandwidth. These are apart here, and the
+ * last three are the counts above without them. So where `late` rises here, patience is too short for the round trip; a rise of
+ * gozdrit_receive_counts' `late` alone may be probes. A place counts as asked for while it is among the last `window` that a NACK
+ * named, and until the stream restarts.
+ */
+typedef struct gozdrit_receive_kinds {
+    uint64_t padding;   /* padding in the stream of the retransmissions: refused with 6 */
+    uint64_t unasked;   /* retransmissions that no NACK asked for, refused with 35, 36 or 38 */
+    uint64_t duplicate; /* 36: media, and answers to NACKs */
+    uint64_t late;      /* 35: the same */
+    uint64_t refused;   /* for another reason, and not with 34 */
+} gozdrit_receive_kinds;
+
+/* What a sender counted. The first two are the packet and the octet count of a sender report (RFC 3550, section 6.4.1). */
 typedef struct gozdrit_send_counts {
     uint64_t sent;            /* media packets */
     uint64_t octets;          /* of their payloads, without headers and padding */
@@ -551,6 +566,9 @@ int32_t gozdrit_highest_sequence(const gozdrit_receiver *receiver, gozdrit_seque
 
 /* What it counted. */
 int32_t gozdrit_receiver_counts(const gozdrit_receiver *receiver, gozdrit_receive_counts *counts);
+
+/* Of which kind that was. */
+int32_t gozdrit_receiver_kinds(const gozdrit_receiver *receiver, gozdrit_receive_kinds *kinds);
 
 /* ---- one RTP packet, for programs that have one to hand on (RFC 3550, section 5.1) */
 

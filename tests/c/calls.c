@@ -80,6 +80,7 @@ int main(void) {
     test_times();
     test_begin();
     test_jumps();
+    test_kinds();
     test_refused_media();
     test_learning();
     test_sessions();

@@ -92,6 +92,7 @@ void tells(const char *file, int line, const gozdrit_receiver *r, uint64_t next,
 void calls_at(const char *file, int line, const gozdrit_receiver *r, bool known, uint64_t moment);
 
 bool is_counted(const gozdrit_receiver *r, gozdrit_receive_counts expected);
+bool is_told_apart(const gozdrit_receiver *r, gozdrit_receive_kinds expected);
 bool is_counted_sent(const gozdrit_sender *s, gozdrit_send_counts expected);
 
 /* Each is a file. */
@@ -101,6 +102,7 @@ void test_receiver(void);
 void test_times(void);
 void test_begin(void);
 void test_jumps(void);
+void test_kinds(void);
 void test_refused_media(void);
 void test_learning(void);
 void test_sessions(void);

@@ -150,6 +150,13 @@ bool is_counted(const gozdrit_receiver *r, gozdrit_receive_counts expected) {
     return memcmp(&counts, &expected, sizeof counts) == 0;
 }
 
+bool is_told_apart(const gozdrit_receiver *r, gozdrit_receive_kinds expected) {
+    gozdrit_receive_kinds kinds;
+    FILL(kinds);
+    ANSWERS(GOZDRIT_OK, gozdrit_receiver_kinds(r, &kinds));
+    return memcmp(&kinds, &expected, sizeof kinds) == 0;
+}
+
 bool is_counted_sent(const gozdrit_sender *s, gozdrit_send_counts expected) {
     gozdrit_send_counts counts;
     FILL(counts);

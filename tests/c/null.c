@@ -14,6 +14,7 @@ static struct lent {
     gozdrit_sequence sequence;
     gozdrit_moment moment;
     gozdrit_receive_counts received;
+    gozdrit_receive_kinds kinds;
     gozdrit_send_counts counted;
     gozdrit_packet packet;
     size_t length;
@@ -128,6 +129,8 @@ static void test_asking(void) {
     ANSWERS(GOZDRIT_NULL, gozdrit_highest_sequence(&receiver, NULL));
     ANSWERS(GOZDRIT_NULL, gozdrit_next_moment(NULL, &l.moment));
     ANSWERS(GOZDRIT_NULL, gozdrit_next_moment(&receiver, NULL));
+    ANSWERS(GOZDRIT_NULL, gozdrit_receiver_kinds(NULL, &l.kinds));
+    ANSWERS(GOZDRIT_NULL, gozdrit_receiver_kinds(&receiver, NULL));
     ANSWERS(GOZDRIT_NULL, gozdrit_receiver_counts(NULL, &l.received));
     ANSWERS(GOZDRIT_NULL, gozdrit_receiver_counts(&receiver, NULL));
     CHECK(UNTOUCHED(l));

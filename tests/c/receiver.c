@@ -14,6 +14,7 @@ typedef struct lent {
     gozdrit_sequence sequence;
     gozdrit_moment moment;
     gozdrit_receive_counts counts;
+    gozdrit_receive_kinds kinds;
     size_t length;
     uint8_t payload[GOZDRIT_MAX_PAYLOAD];
     uint8_t out[GOZDRIT_MAX_NACK];
@@ -59,6 +60,7 @@ static void test_no_end(void) {
     ANSWERS(GOZDRIT_NO_END, gozdrit_highest_sequence(&none, &l.sequence));
     ANSWERS(GOZDRIT_NO_END, gozdrit_next_moment(&none, &l.moment));
     ANSWERS(GOZDRIT_NO_END, gozdrit_receiver_counts(&none, &l.counts));
+    ANSWERS(GOZDRIT_NO_END, gozdrit_receiver_kinds(&none, &l.kinds));
     ANSWERS(GOZDRIT_NO_END, gozdrit_receiver_free(&none));
     CHECK(UNTOUCHED(l));
     CHECK(none.at == NULL && none.held == 0);

@@ -1,7 +1,9 @@
 -- What both ends counted, as C is told it.
+use Rattle.endpoint.specs.declared.kind_counts.KindCounts.{KindCounts}
 use Rattle.endpoint.specs.declared.receive_counts.ReceiveCounts.{ReceiveCounts}
 use Rattle.endpoint.specs.declared.send_counts.SendCounts.{SendCounts}
 use Rattle.gozdrit.specs.declared.counts.ReceiverCounts.{ReceiverCounts}
+use Rattle.gozdrit.specs.declared.counts.ReceiverKinds.{ReceiverKinds}
 use Rattle.gozdrit.specs.declared.counts.SenderCounts.{SenderCounts}
 
 abbrev pub receiver_counts : ReceiveCounts → ReceiverCounts
@@ -22,6 +24,16 @@ receiver_counts c =
       gaps = c.gaps;
       nacks = c.asks;
       nacked = c.places_asked;
+    }
+
+abbrev pub receiver_kinds : KindCounts → ReceiverKinds
+receiver_kinds c =
+    record {
+      padding = c.padding;
+      unasked = c.unasked;
+      duplicate = c.duplicate;
+      late = c.late;
+      refused = c.refused;
     }
 
 abbrev pub sender_counts : SendCounts → SenderCounts

@@ -10,6 +10,7 @@ use Rattle.gozdrit.specs.declared.answers.SentPacket.{SentPacket}
 use Rattle.gozdrit.specs.declared.config.ReceiverFields.{ReceiverFields}
 use Rattle.gozdrit.specs.declared.config.SenderFields.{SenderFields}
 use Rattle.gozdrit.specs.declared.counts.ReceiverCounts.{ReceiverCounts}
+use Rattle.gozdrit.specs.declared.counts.ReceiverKinds.{ReceiverKinds}
 use Rattle.gozdrit.specs.declared.counts.SenderCounts.{SenderCounts}
 use Rattle.gozdrit.specs.declared.handle.Handle.{Handle}
 use Rattle.gozdrit.specs.declared.header.Header.{Header}
@@ -21,7 +22,7 @@ use Rattle.gozdrit.specs.Defaults.{usual_receiver, usual_sender}
 use Rattle.gozdrit.specs.Ends.{Receiver, Sender}
 use Rattle.gozdrit.specs.Freeing.{AnswersFree}
 use Rattle.gozdrit.specs.Packets.{AnswersRead, AnswersWrite}
-use Rattle.gozdrit.specs.Reading.{AnswersMissing, AnswersSource, AnswersNext, AnswersHighest, AnswersMoment, AnswersReceiverCounts, AnswersSenderCounts}
+use Rattle.gozdrit.specs.Reading.{AnswersMissing, AnswersSource, AnswersNext, AnswersHighest, AnswersMoment, AnswersReceiverCounts, AnswersReceiverKinds, AnswersSenderCounts}
 use Rattle.gozdrit.specs.Receiving.{AnswersReceiverNew, AnswersReceive, AnswersPlay, AnswersNack, AnswersBegin, AnswersRestart, AnswersTimes}
 use Rattle.gozdrit.specs.Sending.{AnswersSenderNew, AnswersSend, AnswersFeedback, AnswersRetransmit, AnswersMarkLast}
 
@@ -162,6 +163,12 @@ abbrev pub ReceiverCountsFor : Option (Handle Receiver) → Option ReceiverCount
 ReceiverCountsFor =
     Answers2 null_pointer (λ receiver counts code receiver' counts'.
     (receiver' ≡ receiver) × AnswersReceiverCounts receiver.inside counts code receiver'.inside counts')
+
+-- `gozdrit_receiver_kinds`
+abbrev pub ReceiverKindsFor : Option (Handle Receiver) → Option ReceiverKinds → ℤ → Option (Handle Receiver) → Option ReceiverKinds → Type 0
+ReceiverKindsFor =
+    Answers2 null_pointer (λ receiver kinds code receiver' kinds'.
+    (receiver' ≡ receiver) × AnswersReceiverKinds receiver.inside kinds code receiver'.inside kinds')
 
 -- `gozdrit_rtp_read`
 abbrev pub ReadFor : Option (List ℕ) → Option PacketFields → ℤ → Option (List ℕ) → Option PacketFields → Type 0

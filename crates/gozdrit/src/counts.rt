@@ -1,8 +1,8 @@
 //! What both ends counted, as C is told it.
 ghost use Rattle.std.specs.Prelude.{◌≡◌};
-ghost use Rattle.gozdrit.specs.Counted.{receiver_counts, sender_counts};
+ghost use Rattle.gozdrit.specs.Counted.{receiver_counts, receiver_kinds, sender_counts};
 
-use endpoint::{ReceiveCounts, SendCounts};
+use endpoint::{KindCounts, ReceiveCounts, SendCounts};
 
 /// What a receiver counted: the counts of its endpoint.
 #[repr(C)]
@@ -23,6 +23,17 @@ pub struct ReceiverCounts {
     pub gaps: u64,
     pub nacks: u64,
     pub nacked: u64,
+}
+
+/// What a receiver counted of the kinds of what came.
+#[repr(C)]
+#[derive(Clone, Copy)]
+pub struct ReceiverKinds {
+    pub padding: u64,
+    pub unasked: u64,
+    pub duplicate: u64,
+    pub late: u64,
+    pub refused: u64,
 }
 
 /// What a sender counted: the counts of its endpoint.
@@ -62,6 +73,20 @@ impl ReceiverCounts {
             gaps: counts.gaps,
             nacks: counts.asks,
             nacked: counts.places_asked,
+        }
+    }
+}
+
+impl ReceiverKinds {
+    pub(crate) fn of(counts: KindCounts) -> ReceiverKinds
+        ensures { result ≡ receiver_kinds counts }
+    {
+        ReceiverKinds {
+            padding: counts.padding,
+            unasked: counts.unasked,
+            duplicate: counts.duplicate,
+            late: counts.late,
+            refused: counts.refused,
         }
     }
 }

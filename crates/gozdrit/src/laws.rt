@@ -1,5 +1,5 @@
 //! Laws on the configurations that C says, field by field. These functions compute nothing: their contracts are the laws.
-ghost use Rattle.std.specs.Prelude.{◌≡◌, ◌↔◌, ℕ, ◌<◌, ◌≤◌, true, false, Some, None};
+ghost use Rattle.std.specs.Prelude.{◌≡◌, ◌↔◌, ℕ, ◌<◌, ◌≤◌, true, false, length, Some, None};
 ghost use Rattle.gozdrit.specs.declared.config.SessionFields.{SessionFields};
 ghost use Rattle.gozdrit.specs.declared.config.SenderFields.{SenderFields};
 ghost use Rattle.gozdrit.specs.declared.config.ReceiverFields.{ReceiverFields};
@@ -36,6 +36,7 @@ pub fn new_ends_are_as_configured()
     ensures sender { (f : SenderFields) → let s = new_sender f in
         (s.core.config ≡ sender_config f) × (s.core.past.capacity ≡ f.history) }
     ensures receiver { (f : ReceiverFields) → let r = new_receiver f in
-        (r.core.config ≡ receiver_config f) × (r.core.span.capacity ≡ f.window)
-        × (r.spare.config ≡ receiver_config f) × (r.spare.span.capacity ≡ f.window) × (r.probation ≡ probation_of f) }
+        (r.endpoint.core.config ≡ receiver_config f) × (r.endpoint.core.span.capacity ≡ f.window)
+        × (r.endpoint.spare.config ≡ receiver_config f) × (r.endpoint.spare.span.capacity ≡ f.window) × (r.endpoint.probation ≡ probation_of f)
+        × (length r.asked ≡ f.window) }
 {}

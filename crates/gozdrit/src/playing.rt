@@ -7,7 +7,7 @@ ghost use Rattle.gozdrit.specs.Told.{HasRoom, TellsPlayed};
 
 use crate::answers::PlayedPacket;
 use crate::code::{NO_ROOM, OK};
-use endpoint::ReceivingEndpoint;
+use endpoint::AskingEndpoint;
 use places::Place;
 use receiver::Peeked;
 use rtpwire::{Content, fill_front};
@@ -15,7 +15,7 @@ use stores::RingWindow;
 
 /// Plays, and tells what came. A content is copied once, from where the window keeps it.
 pub(crate) fn play_to(
-    receiver: &mut ReceivingEndpoint<RingWindow>,
+    receiver: &mut AskingEndpoint<RingWindow>,
     now: u64,
     played: &mut PlayedPacket,
     payload: &mut [u8],
@@ -25,7 +25,7 @@ pub(crate) fn play_to(
     ensures short { (HasRoom (next_play receiver.old now) payload.old → ⊥) → result ≡ no_room }
     ensures refused { result ≢ ok → (receiver.new ≡ receiver.old) × (played.new ≡ played.old) × (payload.new ≡ payload.old) }
 {
-    match receiver.core().peek(now) {
+    match receiver.endpoint().core().peek(now) {
         Peeked::Wait => played.kind = 0,
         Peeked::Packet(place, content) => {
             if payload.len() < content.payload.len() {

@@ -1,10 +1,10 @@
 //! What C may ask of an end, which stays as it is.
 ghost use Rattle.std.specs.Prelude.{◌≡◌};
-ghost use Rattle.gozdrit.specs.Reading.{AnswersMissing, AnswersSource, AnswersNext, AnswersHighest, AnswersMoment, AnswersReceiverCounts, AnswersSenderCounts};
+ghost use Rattle.gozdrit.specs.Reading.{AnswersMissing, AnswersSource, AnswersNext, AnswersHighest, AnswersMoment, AnswersReceiverCounts, AnswersReceiverKinds, AnswersSenderCounts};
 
 use crate::answers::{KnownMoment, KnownSequence, KnownSource};
 use crate::code::{NO_END, OK};
-use crate::counts::{ReceiverCounts, SenderCounts};
+use crate::counts::{ReceiverCounts, ReceiverKinds, SenderCounts};
 use crate::receiving::ReceiverHandle;
 use crate::sending::SenderHandle;
 use stores::Window;
@@ -16,7 +16,7 @@ pub(crate) fn missing(receiver: &mut ReceiverHandle, count: &mut usize) -> i32
     if !receiver.is_held() {
         return NO_END;
     }
-    *count = receiver.lend().core().missing();
+    *count = receiver.lend().endpoint().core().missing();
     OK
 }
 
@@ -27,7 +27,7 @@ pub(crate) fn rtx_source(receiver: &mut ReceiverHandle, source: &mut KnownSource
     if !receiver.is_held() {
         return NO_END;
     }
-    source.tell(receiver.lend().core().repair_source());
+    source.tell(receiver.lend().endpoint().core().repair_source());
     OK
 }
 
@@ -38,7 +38,7 @@ pub(crate) fn next_sequence(receiver: &mut ReceiverHandle, sequence: &mut KnownS
     if !receiver.is_held() {
         return NO_END;
     }
-    sequence.tell(receiver.lend().core().window().cursor());
+    sequence.tell(receiver.lend().endpoint().core().window().cursor());
     OK
 }
 
@@ -49,7 +49,7 @@ pub(crate) fn highest_sequence(receiver: &mut ReceiverHandle, sequence: &mut Kno
     if !receiver.is_held() {
         return NO_END;
     }
-    let highest = receiver.lend().core().window().highest();
+    let highest = receiver.lend().endpoint().core().window().highest();
     sequence.tell(highest.map(|highest| highest.value()));
     OK
 }
@@ -61,7 +61,7 @@ pub(crate) fn next_moment(receiver: &mut ReceiverHandle, moment: &mut KnownMomen
     if !receiver.is_held() {
         return NO_END;
     }
-    moment.tell(receiver.lend().core().next_moment());
+    moment.tell(receiver.lend().endpoint().core().next_moment());
     OK
 }
 
@@ -72,7 +72,18 @@ pub(crate) fn receiver_counts(receiver: &mut ReceiverHandle, counts: &mut Receiv
     if !receiver.is_held() {
         return NO_END;
     }
-    *counts = ReceiverCounts::of(receiver.lend().counts());
+    *counts = ReceiverCounts::of(receiver.lend().endpoint().counts());
+    OK
+}
+
+pub(crate) fn receiver_kinds(receiver: &mut ReceiverHandle, kinds: &mut ReceiverKinds) -> i32
+    ensures answers { AnswersReceiverKinds receiver.old.inside kinds.old result receiver.new.inside kinds.new }
+    ensures same { receiver.new ≡ receiver.old }
+{
+    if !receiver.is_held() {
+        return NO_END;
+    }
+    *kinds = ReceiverKinds::of(receiver.lend().kinds());
     OK
 }
 

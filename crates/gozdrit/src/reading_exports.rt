@@ -15,18 +15,20 @@ ghost use Rattle.gozdrit.specs.contracts.answers.KnownSource.{the_row as source_
 ghost use Rattle.gozdrit.specs.declared.answers.KnownSource.{KnownSource};
 ghost use Rattle.gozdrit.specs.contracts.counts.ReceiverCounts.{the_row as receiver_counts_row};
 ghost use Rattle.gozdrit.specs.declared.counts.ReceiverCounts.{ReceiverCounts};
+ghost use Rattle.gozdrit.specs.contracts.counts.ReceiverKinds.{the_row as receiver_kinds_row};
+ghost use Rattle.gozdrit.specs.declared.counts.ReceiverKinds.{ReceiverKinds};
 ghost use Rattle.gozdrit.specs.contracts.counts.SenderCounts.{the_row as sender_counts_row};
 ghost use Rattle.gozdrit.specs.declared.counts.SenderCounts.{SenderCounts};
-ghost use Rattle.gozdrit.specs.Lent.{MissingFor, SourceFor, NextFor, HighestFor, MomentFor, ReceiverCountsFor, SenderCountsFor};
+ghost use Rattle.gozdrit.specs.Lent.{MissingFor, SourceFor, NextFor, HighestFor, MomentFor, ReceiverCountsFor, ReceiverKindsFor, SenderCountsFor};
 
 use crate::answers::{KnownMoment, KnownSequence, KnownSource};
 use crate::blocks::{ReceiverBlock, SenderBlock};
 use crate::code::NULL;
-use crate::counts::{ReceiverCounts, SenderCounts};
+use crate::counts::{ReceiverCounts, ReceiverKinds, SenderCounts};
 use crate::lent::Lent;
 use crate::reading::{
-    highest_sequence, missing, next_moment, next_sequence, receiver_counts, rtx_source,
-    sender_counts,
+    highest_sequence, missing, next_moment, next_sequence, receiver_counts, receiver_kinds,
+    rtx_source, sender_counts,
 };
 use crate::receiving::ReceiverHandle;
 use crate::sending::SenderHandle;
@@ -249,6 +251,43 @@ fn receiver_counts_lent(
     }
     let code = receiver_counts(receiver.get(), counts.get());
     (code, receiver, counts)
+}
+
+/// `AskingEndpoint::kinds`.
+#[unsafe(no_mangle)]
+pub unsafe extern "C" fn gozdrit_receiver_kinds(
+    receiver: *mut ReceiverBlock,
+    kinds: *mut ReceiverKinds,
+) -> i32
+    ghost before: { Option (Handle Receiver) × Option ReceiverKinds }
+    requires* { sem 𝓛 (value_lies_at ReceiverRow receiver before.0)
+        ∗ sem 𝓛 (value_lies_at receiver_kinds_row kinds before.1) }
+    ensures* { ∃ₛ (λ (after : Option (Handle Receiver) × Option ReceiverKinds).
+        sem 𝓛 (value_lies_at ReceiverRow receiver after.0)
+        ∗ sem 𝓛 (value_lies_at receiver_kinds_row kinds after.1)
+        ∗ ⌜ ReceiverKindsFor before.0 before.1 result after.0 after.1 ⌝) }
+{
+    receiver_kinds_lent(
+        Lent {
+            at: receiver as *mut ReceiverHandle,
+        },
+        Lent { at: kinds },
+    )
+    .0
+}
+
+fn receiver_kinds_lent(
+    mut receiver: Lent<ReceiverHandle>,
+    mut kinds: Lent<ReceiverKinds>,
+) -> (i32, Lent<ReceiverHandle>, Lent<ReceiverKinds>)
+    ensures { ((result.1.at ≡ receiver.at) × (result.2.at ≡ kinds.at))
+        × ReceiverKindsFor receiver.value kinds.value result.0 result.1.value result.2.value }
+{
+    if receiver.is_null() || kinds.is_null() {
+        return (NULL, receiver, kinds);
+    }
+    let code = receiver_kinds(receiver.get(), kinds.get());
+    (code, receiver, kinds)
 }
 
 /// `SendingEndpoint::counts`.

@@ -8,12 +8,12 @@ use crate::config::ReceiverFields;
 use crate::handle::Handle;
 use crate::heard::HeardFields;
 use crate::playing::play_to;
-use endpoint::ReceivingEndpoint;
+use endpoint::AskingEndpoint;
 use std::alloc::Global;
 use stores::{RingWindow, Window};
 
 /// What C holds of a receiver.
-pub type ReceiverHandle = Handle<ReceivingEndpoint<RingWindow>>;
+pub type ReceiverHandle = Handle<AskingEndpoint<RingWindow>>;
 
 pub(crate) fn receiver_new(
     alloc: Global,
@@ -30,7 +30,7 @@ pub(crate) fn receiver_new(
         (Err(fault), _) | (_, Err(fault)) => return i32::from(fault.number()),
     };
     let window = config.window as usize;
-    let Ok(endpoint) = ReceivingEndpoint::new(alloc, made, probation, window) else {
+    let Ok(endpoint) = AskingEndpoint::new(alloc, made, probation, window) else {
         return OUT_OF_MEMORY;
     };
     let Ok(inside) = Box::new(alloc, endpoint) else {
@@ -61,7 +61,8 @@ pub(crate) fn receive(
     if !receiver.is_held() {
         return NO_END;
     }
-    *heard = HeardFields::of(receiver.lend().on_datagram(octets, now));
+    let (answer, _) = receiver.lend().on_datagram(octets, now);
+    *heard = HeardFields::of(answer);
     OK
 }
 

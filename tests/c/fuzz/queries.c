@@ -75,6 +75,19 @@ static void ask_counts(struct receiver *it) {
     same(it->counts.nacked, counts->nacked, "counts->nacked");
 }
 
+/* Each late, double or refused datagram is of one kind; what is kept apart leaves the rest no larger. */
+static void ask_kinds(struct receiver *it) {
+    const gozdrit_receive_counts *counts = &it->counts;
+    gozdrit_receive_kinds *kinds;
+    begin_call(CALL_receiver_kinds);
+    kinds = lend_out(AREA_TOLD, sizeof *kinds);
+    if (!ends_query(it, gozdrit_receiver_kinds(lend_receiver(it, false), pointer(kinds)), sizeof *kinds)) return;
+    same(counts->duplicate + counts->late + counts->refused,
+         kinds->padding + kinds->unasked + kinds->duplicate + kinds->late + kinds->refused, "the sum of the kinds");
+    holds(kinds->duplicate <= counts->duplicate && kinds->late <= counts->late && kinds->refused <= counts->refused,
+          "no kind of more than was counted");
+}
+
 /* Whether a play or a NACK does something at a moment. */
 static bool acts(struct receiver *it, uint64_t now) {
     if (play(it, now, GOZDRIT_MAX_PAYLOAD, true) != GOZDRIT_WAIT) return true;
@@ -104,7 +117,7 @@ static void ask_moment(struct receiver *it) {
 
 void call_query(struct receiver *it) {
     static void (*const queries[])(struct receiver *) = {ask_missing, ask_source, ask_next,
-                                                         ask_highest, ask_counts, ask_moment};
+                                                         ask_highest, ask_counts, ask_kinds, ask_moment};
     void (*query)(struct receiver *) = queries[below(sizeof queries / sizeof *queries)];
     query(it);
     query(it);
