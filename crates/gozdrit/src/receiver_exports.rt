@@ -98,7 +98,7 @@ fn receiver_free_lent(
     (code, receiver)
 }
 
-/// `ReceivingEndpoint::on_datagram` at the moment `now`, in milliseconds. `heard` is told what the datagram was.
+/// `AskingEndpoint::on_datagram` at the moment `now`, in milliseconds. `heard` is told what the datagram was.
 #[unsafe(no_mangle)]
 pub unsafe extern "C" fn gozdrit_receive(
     receiver: *mut ReceiverBlock,
@@ -147,7 +147,7 @@ fn receive_lent(
     (code, receiver, octets, heard)
 }
 
-/// A play at the moment `now`, in milliseconds: what `Receiver::peek` lends, and then `ReceivingEndpoint::pass`. `played` is told
+/// A play at the moment `now`, in milliseconds: what `Receiver::peek` lends, and then `AskingEndpoint::pass`. `played` is told
 /// what came, and a payload stands at the front of `payload`.
 #[unsafe(no_mangle)]
 pub unsafe extern "C" fn gozdrit_play(
@@ -197,7 +197,7 @@ fn play_lent(
     (code, receiver, played, payload)
 }
 
-/// `ReceivingEndpoint::ask_most_into` at the moment `now`, in milliseconds. `length` is told how many octets the datagram has, or 0 where there
+/// `AskingEndpoint::ask_most_into` at the moment `now`, in milliseconds. `length` is told how many octets the datagram has, or 0 where there
 /// is none, and the datagram stands at the front of `out`.
 #[unsafe(no_mangle)]
 pub unsafe extern "C" fn gozdrit_nack(
@@ -247,7 +247,7 @@ fn nack_lent(
     (code, receiver, length, out)
 }
 
-/// `ReceivingEndpoint::begin`.
+/// `AskingEndpoint::begin`.
 #[unsafe(no_mangle)]
 pub unsafe extern "C" fn gozdrit_begin(receiver: *mut ReceiverBlock, first: u16) -> i32
     ghost before: { Option (Handle Receiver) }
@@ -276,7 +276,7 @@ fn begin_lent(mut receiver: Lent<ReceiverHandle>, first: u16) -> (i32, Lent<Rece
     (code, receiver)
 }
 
-/// `ReceivingEndpoint::restart`.
+/// `AskingEndpoint::restart`.
 #[unsafe(no_mangle)]
 pub unsafe extern "C" fn gozdrit_restart(receiver: *mut ReceiverBlock) -> i32
     ghost before: { Option (Handle Receiver) }
@@ -302,7 +302,7 @@ fn restart_lent(mut receiver: Lent<ReceiverHandle>) -> (i32, Lent<ReceiverHandle
     (code, receiver)
 }
 
-/// `ReceivingEndpoint::set_times`, in milliseconds.
+/// `AskingEndpoint::set_times`, in milliseconds.
 #[unsafe(no_mangle)]
 pub unsafe extern "C" fn gozdrit_set_times(
     receiver: *mut ReceiverBlock,
