@@ -291,6 +291,7 @@ bool expect_moment(const struct receiver *it, uint64_t *moment) {
 void restart(struct receiver *it) {
     clear_window(&it->window);
     it->held_back = 0;
+    it->heard_at = 0;
     it->has_learnt = false;
     it->has_played = false;
 }
