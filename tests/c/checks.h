@@ -79,9 +79,10 @@ typedef struct state {
     gozdrit_moment moment;
     size_t missing;
     gozdrit_receive_counts counts;
+    gozdrit_receive_kinds kinds;
 } state;
 state state_of(const gozdrit_receiver *r);
-/* Both but for the counts. */
+/* Both but for the counts and the kinds. */
 bool is_same_state(const state *a, const state *b);
 
 /* What a receiver must tell: the next and the highest one, 0 for none, and how many are missing. */

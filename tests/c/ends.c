@@ -106,6 +106,7 @@ state state_of(const gozdrit_receiver *r) {
     ANSWERS(GOZDRIT_OK, gozdrit_next_moment(r, &s.moment));
     ANSWERS(GOZDRIT_OK, gozdrit_missing(r, &s.missing));
     ANSWERS(GOZDRIT_OK, gozdrit_receiver_counts(r, &s.counts));
+    ANSWERS(GOZDRIT_OK, gozdrit_receiver_kinds(r, &s.kinds));
     return s;
 }
 

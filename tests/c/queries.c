@@ -11,11 +11,16 @@ static uint32_t draw(uint32_t below) {
     return (drawn >> 16) % below;
 }
 
+/* Whether two receivers counted the same. */
+static bool has_counted_same(const state *a, const state *b) {
+    return memcmp(&a->counts, &b->counts, sizeof a->counts) == 0 && memcmp(&a->kinds, &b->kinds, sizeof a->kinds) == 0;
+}
+
 /* Asks a receiver all that can be asked. Its handle is lent as a constant. */
 static void ask_receiver(const gozdrit_receiver *r) {
     const gozdrit_receiver before = *r;
     const state once = state_of(r), twice = state_of(r);
-    CHECK(is_same_state(&once, &twice) && memcmp(&once.counts, &twice.counts, sizeof once.counts) == 0);
+    CHECK(is_same_state(&once, &twice) && has_counted_same(&once, &twice));
     CHECK(before.at == r->at && before.held == r->held);
 }
 
@@ -79,7 +84,7 @@ static void test_receivers(void) {
         CHECK(memcmp(s.came, other.came, sizeof s.came) == 0);
     }
     const state one = state_of(&asked), two = state_of(&left);
-    CHECK(is_same_state(&one, &two) && memcmp(&one.counts, &two.counts, sizeof one.counts) == 0);
+    CHECK(is_same_state(&one, &two) && has_counted_same(&one, &two));
     /* much of everything has happened */
     CHECK(one.counts.media > 500 && one.counts.retransmissions > 50 && one.counts.restarts > 2);
     CHECK(one.counts.played > 300 && one.counts.gaps > 100 && one.counts.nacked > 500);
