@@ -41,39 +41,67 @@ fn losses_lie_evenly_or_right_before_the_end(_rt: HostRuntime) -> Result<(), Fai
     }
 }
 
-/// Packets of fifty a second for four seconds, from place 70000 on, each played as it came.
-fn fifty_a_second() -> Result<Arrivals, Fail> {
-    let mut arrivals = Arrivals::new();
+/// What came behind fifty packets a second for four seconds, of places 70000 to 70199: the highest place before it, the next one to play,
+/// its place and its moment.
+const LATER: [(u64, u64, u64, u64); 5] = [
+    // Five seconds, in which 249 were lost.
+    (70199, 70200, 70449, 8980),
+    // One more is lost, while places of that silence are waited for.
+    (70449, 70440, 70451, 9020),
+    // A packet that comes late.
+    (70451, 70440, 70445, 9030),
+    // One behind 20 milliseconds, when all of those were passed.
+    (70451, 70452, 70453, 9040),
+    // It paused for five seconds.
+    (70453, 70454, 70456, 14040),
+];
+
+/// They come, up to so many of these.
+fn come(arrivals: &mut Arrivals, later: usize) -> Result<(), Fail> {
     let mut highest = None;
     for i in 0..200_u64 {
         let next = place(70000_u64.saturating_add(i))?;
         arrivals.come(highest, Some(next.value()), 30, next, i.saturating_mul(20));
         highest = Some(next);
     }
-    Ok(arrivals)
+    for (index, (highest, cursor, value, now)) in LATER.iter().enumerate() {
+        if index < later {
+            arrivals.come(
+                Some(place(*highest)?),
+                Some(*cursor),
+                30,
+                place(*value)?,
+                *now,
+            );
+        }
+    }
+    Ok(())
+}
+
+/// How long before its notice the packet of a place was sent, after so many of these.
+fn lead(later: usize, place: u64) -> Result<u64, Fail> {
+    let mut arrivals = Arrivals::new();
+    come(&mut arrivals, later)?;
+    Ok(arrivals.lead(place))
+}
+
+/// The same after all of these and a restart.
+fn lead_anew(place: u64) -> Result<u64, Fail> {
+    let mut arrivals = Arrivals::new();
+    come(&mut arrivals, 5)?;
+    arrivals.restart(14050);
+    Ok(arrivals.lead(place))
 }
 
 #[test]
 fn the_longest_silence_is_told(_rt: HostRuntime) -> Result<(), Fail> {
-    let mut arrivals = fifty_a_second()?;
-    let nothing = arrivals.lead(70199) == 0;
-    // Five seconds, in which 249 were lost.
-    arrivals.come(Some(place(70199)?), Some(70200), 30, place(70449)?, 8980);
-    let told = arrivals.lead(70439) == 200 && arrivals.lead(70200) == 4980;
-    // One more is lost, while places of that silence are waited for.
-    arrivals.come(Some(place(70449)?), Some(70440), 30, place(70451)?, 9020);
-    let still = arrivals.lead(70439) == 200 && arrivals.lead(70450) == 0;
-    // A packet that comes late ends none.
-    arrivals.come(Some(place(70451)?), Some(70440), 30, place(70445)?, 9030);
-    let late = arrivals.lead(70439) == 200;
-    // Nor does one behind 20 milliseconds, when all of those were passed.
-    arrivals.come(Some(place(70451)?), Some(70452), 30, place(70453)?, 9040);
-    let short = arrivals.lead(70452) == 0;
-    // It paused for five seconds.
-    arrivals.come(Some(place(70453)?), Some(70454), 30, place(70456)?, 14040);
-    let paused = arrivals.lead(70454) == 40 && arrivals.lead(70455) == 20;
-    arrivals.restart(14050);
-    if nothing && told && still && late && short && paused && arrivals.lead(70454) == 0 {
+    let nothing = lead(0, 70199)? == 0;
+    let told = lead(1, 70439)? == 200 && lead(1, 70200)? == 4980;
+    let still = lead(2, 70439)? == 200 && lead(2, 70450)? == 0;
+    let late = lead(3, 70439)? == 200;
+    let short = lead(4, 70452)? == 0;
+    let paused = lead(5, 70454)? == 40 && lead(5, 70455)? == 20;
+    if nothing && told && still && late && short && paused && lead_anew(70454)? == 0 {
         Ok(())
     } else {
         Err(Fail::from("what a silence tells"))
