@@ -9,14 +9,18 @@
 
 static uint64_t state;
 
-void set_seed(uint64_t seed) { state = seed * 0x9e3779b97f4a7c15u + 1; }
-
 /* splitmix64 */
 uint64_t random_bits(void) {
     uint64_t bits = state += 0x9e3779b97f4a7c15u;
     bits = (bits ^ (bits >> 30)) * 0xbf58476d1ce4e5b9u;
     bits = (bits ^ (bits >> 27)) * 0x94d049bb133111ebu;
     return bits ^ (bits >> 31);
+}
+
+/* Each seed begins elsewhere in the generator's one cycle: a multiple of its step would be the same numbers, some steps on. */
+void set_seed(uint64_t seed) {
+    state = seed;
+    state = random_bits();
 }
 
 uint32_t below(uint32_t bound) { return (uint32_t)(((random_bits() >> 32) * bound) >> 32); }
