@@ -156,7 +156,7 @@ def bursts(checks, stage):
 
 def outage(checks, stage):
     """What was sent in all but the last 200 milliseconds of it can't be in time."""
-    row(checks, stage, "2 % lost and a second's outage", (SECONDS - 1) / SECONDS, loss=0.02, out=OUT)
+    row(checks, stage, "2 % lost and a second's outage", 1 - 0.92 / SECONDS, loss=0.02, out=OUT)
 
 
 if __name__ == "__main__":
