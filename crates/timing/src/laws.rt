@@ -43,7 +43,7 @@ pub fn losses_were_sent_in_order()
     ensures none_before { (s : Silence) (place : ℕ) → lead_of s place ≤ s.length }
     // Each was sent no later than those behind it.
     ensures in_order { (s : Silence) (place later : ℕ) → s.below < place → place ≤ later → lead_of s later ≤ lead_of s place }
-    // At the peak's rate no fewer packets are sent from then on than there were: so a pause of the stream is not taken for its packets.
+    // At the peak's rate no more packets are sent from then on than there were: so a pause of the stream is not taken for its packets.
     ensures no_slower { (s : Silence) (place : ℕ) → place < s.above → lead_of s place * s.peak ≤ (s.above - place) * 1000 }
 {}
 
