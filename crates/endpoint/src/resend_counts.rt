@@ -1,5 +1,5 @@
 //! What an endpoint counts of the retransmissions that did not fit the time.
-ghost use Rattle.std.specs.Prelude.{◌≡◌};
+ghost use Rattle.std.specs.Prelude.{◌≡◌, ◌^◌, ◌<◌};
 ghost use Rattle.endpoint.specs.ResendCounts.{count_verdict};
 
 use crate::receive_counts::add;
@@ -21,6 +21,11 @@ impl ResendCounts {
         early: 0,
         expired: 0,
     };
+
+    /// No count is greater than it can be. (It computes nothing.)
+    pub(crate) fn have_64_bits(self)
+        ensures { (self.early < 2 ^ 64) × (self.expired < 2 ^ 64) }
+    {}
 
     /// Counts a packet that was passed over for this.
     pub(crate) fn count(&mut self, verdict: Verdict)

@@ -1,6 +1,6 @@
 //! Which retransmissions fit the time.
-ghost use Rattle.std.specs.Prelude.{◌≡◌};
-ghost use Rattle.endpoint.specs.Resending.{is_early, is_expired, verdict};
+ghost use Rattle.std.specs.Prelude.{◌≡◌, ◌↔◌, IsTrue};
+ghost use Rattle.endpoint.specs.Resending.{always, is_early, is_expired, verdict};
 
 /// When a packet is retransmitted once more, and until when. Spans of time are in milliseconds.
 #[derive(Clone, Copy, Debug, PartialEq, Eq)]
@@ -39,6 +39,13 @@ impl ResendRule {
         min_resend: 0,
         deadline: None,
     };
+
+    /// Whether it is [`ALWAYS`](ResendRule::ALWAYS).
+    pub fn is_always(&self) -> bool
+        ensures { IsTrue result ↔ (self.now ≡ always) }
+    {
+        self.min_resend == 0 && self.deadline.is_none()
+    }
 
     /// Whether a packet with these moments may be retransmitted at the moment `now`. One that was sent too long ago is
     /// expired, whenever it was retransmitted. A moment that is still to come is no time ago.

@@ -2,6 +2,7 @@
 ghost use Rattle.std.specs.Prelude.{◌≡◌, ◌<◌, ◌≤◌, None, Ok, IsOk, IfOk, OnErr, length, []};
 ghost use Rattle.rtpwire.specs.declared.limits.TheConstants.{MAX_DATAGRAM};
 ghost use Rattle.stores.specs.Past.{empty_past};
+ghost use Rattle.sender.specs.Repairing.{RepairsInto};
 ghost use Rattle.sender.specs.Sender.{Stays, new_sending, state_of};
 ghost use Rattle.sender.specs.Sending.{SendsInto};
 ghost use Rattle.sender.specs.Tail.{MarksLast};
@@ -9,6 +10,7 @@ ghost use Rattle.endpoint.specs.Demultiplex.{is_control};
 ghost use Rattle.endpoint.specs.Moments.{told_sent, told_resent};
 ghost use Rattle.endpoint.specs.Passing.{PassesWhatMayNot, Retransmits};
 ghost use Rattle.endpoint.specs.ResendCounts.{none_passed};
+ghost use Rattle.endpoint.specs.Resending.{always};
 ghost use Rattle.endpoint.specs.SendCounts.{count_told, no_counts};
 ghost use Rattle.endpoint.specs.Sending.{CountsSent, CountsRepaired, TellsKind};
 
@@ -104,6 +106,8 @@ impl<H: History> TimelyEndpoint<H> {
     /// the least marked place that may go by the rule. The marked places below it, which may not, or all of them where none may,
     /// lose their marks and are counted; they take no number of the retransmissions, count no repeat, and may be named again.
     ///
+    /// By [`ResendRule::ALWAYS`] it is `next_repair_into` itself.
+    ///
     /// `TooShort` (75): the slice is shorter than this retransmission. The slice is then as it was, and the retransmission is
     /// still the next; what may not go was passed over.
     pub fn retransmit_into(
@@ -117,8 +121,12 @@ impl<H: History> TimelyEndpoint<H> {
         ensures counts { CountsRepaired result self.old.endpoint.counts self.new.endpoint.counts }
         ensures moments { self.new.moments ≡ told_resent result now self.old.moments }
         ensures rule { self.new.rule ≡ self.old.rule }
+        ensures plain { self.old.rule ≡ always → RepairsInto self.old.endpoint.core.config.session (state_of self.old.endpoint.core) out.old result out.new (state_of self.new.endpoint.core) }
+        ensures plain_none { self.old.rule ≡ always → result ≡ Ok None → self.new.endpoint.core ≡ self.old.endpoint.core }
+        ensures plain_err { self.old.rule ≡ always → OnErr result (self.new ≡ self.old) }
+        ensures plain_passed { self.old.rule ≡ always → self.new.passed ≡ self.old.passed }
     {
-        pass_over(
+        pass_by(
             &mut self.endpoint,
             &mut self.passed,
             &self.moments,
@@ -163,6 +171,27 @@ impl<H: History> TimelyEndpoint<H> {
     {
         self.passed
     }
+}
+
+/// Passes over what may not go by the rule, and over nothing by the one that lets each go.
+fn pass_by<H: History>(
+    endpoint: &mut SendingEndpoint<H>,
+    passed: &mut ResendCounts,
+    moments: &Moments,
+    rule: ResendRule,
+    now: u64,
+)
+    ensures passes { PassesWhatMayNot rule moments.now now (state_of endpoint.old.core) passed.old (state_of endpoint.new.core) passed.new }
+    ensures config { endpoint.new.core.config ≡ endpoint.old.core.config }
+    ensures capacity { endpoint.new.core.past.capacity ≡ endpoint.old.core.past.capacity }
+    ensures counts { endpoint.new.counts ≡ endpoint.old.counts }
+    ensures plain { rule ≡ always → (endpoint.new ≡ endpoint.old) × (passed.new ≡ passed.old) }
+{
+    (*passed).have_64_bits();
+    if rule.is_always() {
+        return;
+    }
+    pass_over(endpoint, passed, moments, rule, now);
 }
 
 /// Passes over the marked places that may not go at the moment `now`, up to the first that may.
