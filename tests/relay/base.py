@@ -15,7 +15,7 @@ LONG = 40  # seconds that anything may take: the machine may be busy with proofs
 FIRST_LINE = re.compile(r"^listening at (\S+):(\d+),? sending to (\S+):(\d+) from (\S+):(\d+)$")
 COUNTS = {
     "send": "sent unsent marked retransmitted early expired refused stray lost".split(),
-    "receive": "taken repaired played gaps overrun abandoned asked refused restarts moved stray lost rtt".split(),
+    "receive": "taken repaired played gaps overrun abandoned asked refused padding unasked restarts moved stray lost rtt".split(),
 }
 
 

@@ -4,7 +4,7 @@ from rtp import packet, parse
 
 FORMS = {
     "send": {"sent": 4, "repair": 4, "lost": 2, "marked": 2, "tail": 2, "refused": 2, "unsent": 1, "passed": 1, "stray": 1, "session": 6},
-    "receive": {"taken": 3, "held": 1, "restarted": 2, "overrun": 2, "abandoned": 2, "refused": 2, "play": 7, "gap": 2, "ask": 3, "lost": 2, "rtt": 2, "stray": 1,
+    "receive": {"taken": 3, "held": 1, "restarted": 2, "overrun": 2, "abandoned": 2, "refused": 2, "padding": 2, "unasked": 2, "play": 7, "gap": 2, "ask": 3, "lost": 2, "rtt": 2, "stray": 1,
                 "moved": 1, "session": 6},
 }
 
@@ -54,7 +54,7 @@ def sums(checks, name, relay):
         overran = sum(int(one[2]) for one in lines if one[0] == "taken")
         checks.count(behind["overrun"] >= overran, f"{name}: {behind} in the log, where {overran} were overrun")
         told = {**behind, "played": many["play"], "gaps": many["gap"], "asked": many["ask"], "refused": many["refused"],
-                "stray": many["stray"], "lost": many["lost"], "taken": many["taken"], "moved": many["moved"],
+                "padding": many["padding"], "unasked": many["unasked"], "stray": many["stray"], "lost": many["lost"], "taken": many["taken"], "moved": many["moved"],
                 "restarts": many["restarted"] + max(0, many["session"] - 1)}
     for word, number in told.items():
         checks.same(counts.get(word), number, f"{name}: the count {word} of {relay.side}, beside its log")

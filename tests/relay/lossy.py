@@ -30,7 +30,8 @@ def agree(checks, name, sender, receiver):
     """What the receiving relay took and refused is what the sending one let go, but for what the system dropped."""
     left, lost = ledger.wire(checks, name, sender)
     asks, _ = ledger.wire(checks, name, receiver)
-    counts, heard = receiver.counts(), receiver.counts()["taken"] + receiver.counts()["refused"]
+    counts = receiver.counts()
+    heard = sum(counts[one] for one in ("taken", "refused", "padding", "unasked"))
     went = len(left) - len(lost)
     checks.count(went >= heard >= went * 0.97, f"{name}: {heard} heard of {went} that left and were not lost")
     checks.count(counts["repaired"] <= sender.counts()["retransmitted"], f"{name}: {counts} beside {sender.counts()}")

@@ -127,7 +127,7 @@ def application(checks, stage):
 
 
 def forged(checks, stage):
-    """Retransmissions: one from elsewhere is stray, one that nobody asked for is refused, one that was asked for is played once."""
+    """Retransmissions: one from elsewhere is stray, one that nobody asked for, as padding, is told apart, one that was asked for is played once."""
     name, player, far, third = "retransmissions", End(stage), End(stage), stage.keep(udp())
     receiver = stage.receive(player.at, "--packets", 20, "--latency", 5000)
     contents = plain(20)
@@ -137,6 +137,7 @@ def forged(checks, stage):
     third.sendto(repair(97, 0, OTHER, 10, Content(1, 1, b"forged")), receiver.at)
     far.send(repair(97, 0, OTHER, 30, Content(1, 1, b"nobody asked for it")), receiver.at)
     far.send(repair(98, 0, OTHER, 10, Content(1, 1, b"of another type")), receiver.at)
+    far.send(packet(97, 0, OTHER, Content(1, 1, b""), padding=4), receiver.at)
     far.send(repair(97, 1, OTHER, 10, contents[10]), receiver.at)
     far.send(repair(97, 2, OTHER, 10, Content(1, 1, b"once more")), receiver.at)
     far.send(repair(97, 3, OTHER + 1, 10, Content(1, 1, b"of another source")), receiver.at)
@@ -144,7 +145,7 @@ def forged(checks, stage):
     ends(checks, name, receiver)
     checks.same([index(one) for one in player.packets()], list(range(20)), f"{name}: what came")
     checks.count([one.content for one in player.packets()] == contents, f"{name}: the contents")
-    wanted = {"taken": 20, "repaired": 1, "played": 20, "gaps": 0, "refused": 4, "stray": 1}
+    wanted = {"taken": 20, "repaired": 1, "played": 20, "gaps": 0, "refused": 3, "padding": 1, "unasked": 1, "stray": 1}
     checks.same({one: receiver.counts().get(one) for one in wanted}, wanted, f"{name}: counts")
 
 

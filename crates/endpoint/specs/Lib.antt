@@ -4,6 +4,7 @@ pub mod Counts
 pub mod Demultiplex
 pub mod Events
 pub mod Kinds
+pub mod Measuring
 pub mod Ledger
 pub mod Silence
 pub mod Padding

@@ -1,21 +1,29 @@
--- What a receiving relay measures of the path by what comes.
-use Rattle.std.specs.Prelude.{◌≡◌, ℕ, ◌+◌, ◌-◌, ◌/◌, ◌^◌, ◌<◌, ◌≤◌, ◌==◌, Bool, false, nat_lt, List, length, drop, Option, Some, None, Result, Ok, if◌then◌else◌}
+-- What a receiving endpoint measures of the path by what comes, and by what it asks for.
+use Rattle.std.specs.Prelude.{◌≡◌, ℕ, ◌+◌, ◌-◌, ◌/◌, ◌^◌, ◌<◌, ◌≤◌, ◌==◌, ◌||◌, Bool, false, nat_lt, List, length, drop, Option, Some, None, Result, Ok, if◌then◌else◌}
 use Rattle.byteorder.specs.Endian.{big_number}
 use Rattle.places.specs.Place.{IsNear}
+use Rattle.stores.specs.declared.slot.Slot.{Slot}
 use Rattle.stores.specs.declared.slot.Slot.TheVariants.{Missing}
 use Rattle.stores.specs.Span.{Span, highest_of}
 use Rattle.stores.specs.ByPlace.{slot_at}
-use Rattle.receiver.specs.Receiver.{Receiving}
+use Rattle.receiver.specs.Receiver.{Receiving, with_times}
 use Rattle.receiver.specs.declared.fault.ReceiveFault.{ReceiveFault}
 use Rattle.endpoint.specs.declared.heard.Heard.{Heard}
 use Rattle.endpoint.specs.declared.heard.Heard.TheVariants as heard
+use Rattle.endpoint.specs.declared.path_meter.PathMeter.{PathMeter}
+use Rattle.endpoint.specs.declared.standing.Awaited.{Awaited}
+use Rattle.endpoint.specs.declared.standing.Standing.{Standing}
+use Rattle.endpoint.specs.Asked.{asked_at}
+use Rattle.timing.specs.declared.ask_times.AskTimes.{AskTimes}
 use Rattle.timing.specs.declared.path.Path.{Path}
-use Rattle.timing.specs.RoundTrip.{heard_at}
+use Rattle.timing.specs.declared.arrivals.Arrivals.{Arrivals}
+use Rattle.timing.specs.declared.round_trip.Probe.{Probe}
+use Rattle.timing.specs.declared.round_trip.RoundTrip.{RoundTrip}
+use Rattle.timing.specs.Path.{new_path, times_over}
+use Rattle.timing.specs.RoundTrip.{doubted, heard_at, passed_at, probed}
 use Rattle.timing.specs.Lately.{greatest_at, seen_at}
-use Rattle.timing.specs.Arrivals.{came_at, restarted_at}
+use Rattle.timing.specs.Arrivals.{came_at, lead_at, none_came, restarted_at}
 use Rattle.timing.specs.Capped.{capped}
-use Rattle.relays.specs.declared.measuring.Awaited.{Awaited}
-use Rattle.relays.specs.declared.measuring.Standing.{Standing}
 
 -- The window misses this place since this moment, and it is the one that the sequence number in these octets stands for (RFC 3550,
 -- section 5.1, has it at the third octet).
@@ -65,3 +73,63 @@ measured_by (Ok (heard.Repair taken)) s p now = ((heard_at p.trip taken.place no
 measured_by (Ok (heard.Media taken)) s p now = seen_by s.awaited (path_came s p taken.place now) taken.place now
 measured_by (Ok (heard.Restarted restart)) s p now = (false, record p { arrivals = restarted_at p.arrivals now })
 measured_by answer s p now = (false, p)
+
+-- nothing was measured
+abbrev pub new_meter : PathMeter
+new_meter = record { path = new_path; is_new = false }
+
+-- what was heard is measured, and is more than was known where it says so
+abbrev pub meter_heard : Result Heard ReceiveFault → Standing → (now : ℕ) → PathMeter → PathMeter
+meter_heard answer s now m = record { path = (measured_by answer s m.path now).1; is_new = m.is_new || (measured_by answer s m.path now).0 }
+
+-- how often a place was asked for, if it is missing
+abbrev pub asks_of : Option Slot → Option ℕ
+asks_of (Some (Missing noticed asks last)) = Some asks
+asks_of o = None
+
+abbrev pub is_once : (asks : Option ℕ) → Bool
+is_once None = false
+is_once (Some asks) = asks == 1
+
+-- The first place that a NACK names is measured, where it is asked for the first time (RFC 4585, section 6.2.1, has its number at the
+-- thirteenth octet).
+abbrev pub trip_probed : Span → (highest : ℕ) → (nack : List ℕ) → (now : ℕ) → RoundTrip → RoundTrip
+trip_probed s highest nack now t =
+    if nat_lt (length nack) 14 then t
+    else (if is_once (asks_of (slot_at s (asked_at highest (big_number 2 (drop 12 nack))))) then probed t (asked_at highest (big_number 2 (drop 12 nack))) now else t)
+
+-- What is measured is in doubt from its second ask on; what is missing no longer is measured no longer.
+abbrev pub trip_watched : (asks : Option ℕ) → Span → (place highest : ℕ) → (nack : List ℕ) → (now : ℕ) → RoundTrip → RoundTrip
+trip_watched None s place highest nack now t = trip_probed s highest nack now (passed_at t place)
+trip_watched (Some asks) s place highest nack now t = if nat_lt 1 asks then doubted t else t
+
+abbrev pub trip_after : Option Probe → Span → (highest : ℕ) → (nack : List ℕ) → (now : ℕ) → RoundTrip → RoundTrip
+trip_after None s highest nack now t = trip_probed s highest nack now t
+trip_after (Some p) s highest nack now t = trip_watched (asks_of (slot_at s p.place)) s p.place highest nack now t
+
+-- what a NACK leaves of a round trip, over the window as it is after the ask
+abbrev pub trip_asked : (highest : Option ℕ) → Span → (nack : List ℕ) → (now : ℕ) → RoundTrip → RoundTrip
+trip_asked None s nack now t = t
+trip_asked (Some highest) s nack now t = trip_after t.probe s highest nack now t
+
+abbrev pub meter_asked : Span → (nack : List ℕ) → (now : ℕ) → PathMeter → PathMeter
+meter_asked s nack now m = record m { path = record m.path { trip = trip_asked (highest_of s) s nack now m.path.trip } }
+
+-- a place is played or given up
+abbrev pub meter_passed : (place : ℕ) → PathMeter → PathMeter
+meter_passed place m = record m { path = record m.path { trip = passed_at m.path.trip place } }
+
+-- all places are others, and none is measured any more
+abbrev pub meter_restarted : PathMeter → PathMeter
+meter_restarted m = record m { path = record m.path { trip = record m.path.trip { probe = None }; arrivals = none_came } }
+
+-- the times follow what was measured, as many asks as fit into the patience, which stays
+abbrev pub times_set : Option AskTimes → (patience : ℕ) → Receiving → Receiving
+times_set None patience core = core
+times_set (Some times) patience core = with_times core patience times.delay times.retry
+
+-- How long a place is waited for since it was noticed to be missing: the patience, but for how long before that its packet was sent, as
+-- far as a silence tells it. So what was lost in a long one, and can't be played in time any more, is given up at once.
+abbrev pub left_at : Arrivals → (patience : ℕ) → (cursor : Option ℕ) → ℕ
+left_at a patience None = patience
+left_at a patience (Some place) = patience - lead_at a place

@@ -97,7 +97,7 @@ impl AskedPlaces {
 }
 
 /// The place that an ask names by this number.
-fn asked_at(highest: Place, seq: u16) -> Place
+pub(crate) fn asked_at(highest: Place, seq: u16) -> Place
     ensures { result ≡ asked_at highest seq }
 {
     let behind = highest.number().wrapping_sub(seq);

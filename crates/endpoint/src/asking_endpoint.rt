@@ -99,6 +99,17 @@ impl<W: Window> AskingEndpoint<W> {
         self.endpoint.pass(now);
     }
 
+    /// [`ReceivingEndpoint::pass_within`].
+    pub fn pass_within(&mut self, patience: u64, now: u64)
+        ensures passes { self.new.endpoint.core ≡ receiver_passed (play_of patience now self.old.endpoint.core.span) self.old.endpoint.core }
+        ensures plays { PlaysAny patience (state_of self.old.endpoint.core) now (play_of patience now self.old.endpoint.core.span) (state_of self.new.endpoint.core) }
+        ensures stays { Stays self.old.endpoint.core self.new.endpoint.core }
+        ensures counts { self.new.endpoint.counts ≡ count_played (play_of patience now self.old.endpoint.core.span) self.old.endpoint.counts }
+        ensures rest { self.new ≡ record self.old { endpoint = record self.old.endpoint { core = self.new.endpoint.core; counts = self.new.endpoint.counts } } }
+    {
+        self.endpoint.pass_within(patience, now);
+    }
+
     /// [`ReceivingEndpoint::ask_most`]. The places that the NACK names are remembered.
     pub fn ask_most(&mut self, now: u64, most: usize) -> Option<Datagram>
         ensures asks { AsksMost self.old.endpoint.core.config (state_of self.old.endpoint.core) now most result (state_of self.new.endpoint.core) }

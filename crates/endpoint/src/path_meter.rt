@@ -1,83 +1,127 @@
-//! What a receiving relay measures of the path by what comes.
-ghost use Rattle.std.specs.Prelude.{◌≡◌, ◌||◌};
-ghost use Rattle.relays.specs.Measuring.{IsStanding, IsWaitedFor, least_silence, measured_by, seen_by};
+//! How a path is measured by what a receiving endpoint hears of it, and asks there.
+ghost use Rattle.std.specs.Prelude.{◌≡◌, false, true};
+ghost use Rattle.stores.specs.ByPlace.{slot_at};
+ghost use Rattle.endpoint.specs.Measuring.{asks_of, left_at, measured_by, meter_asked, meter_heard, meter_passed, meter_restarted, new_meter, seen_by, times_set, trip_after, trip_probed};
+ghost use Rattle.timing.specs.Path.{times_over};
 
-use endpoint::Heard;
-use places::{Place, near};
+use crate::asked_places::asked_at;
+use crate::asking_endpoint::AskingEndpoint;
+use crate::heard::Heard;
+use crate::standing::{Awaited, Standing};
+use places::Place;
 use receiver::{ReceiveFault, Receiver};
 use rtpwire::u16_at;
 use stores::{SlotRef, Window};
-use timing::Path;
+use timing::{Arrivals, Path, RoundTrip};
 
-/// A place that is missing, and the moment at which that was noticed.
+/// Where the number of the first place of a NACK ends (RFC 4585, section 6.2.1), in octets.
+const FIRST_END: usize = 14;
+
+/// What a receiving endpoint measured of the path to its far side: how long a retransmission takes, how far packets come behind later
+/// ones, and how they came. By it the times of asks follow the path, so that as many fit into the patience as can be answered in time
+/// ([`timing::AskTimes`]), and a place is given up by when its packet was sent.
+///
+/// It is handed what its endpoint answers: each datagram, with where the receiver stood before it ([`Standing::before`]), each NACK,
+/// and each place that is played or given up. Moments and spans are in milliseconds.
 #[derive(Clone, Copy, Debug, PartialEq, Eq)]
-pub struct Awaited {
-    pub place: Place,
-    pub noticed: u64,
-}
-
-/// The missing place that a packet with these octets has, if it is media.
-fn place_missed<W: Window>(core: &Receiver<W>, octets: &[u8]) -> Option<Awaited>
-    ensures { IsWaitedFor core.now.span octets.now result }
-{
-    let highest = core.window().highest()?;
-    if octets.len() < 4 {
-        return None;
-    }
-    let Ok(place) = near(highest, u16_at(octets, 2)) else {
-        return None;
-    };
-    match core.window().slot(place) {
-        Some(SlotRef::Missing { noticed, .. }) => Some(Awaited { place, noticed }),
-        _ => None,
-    }
-}
-
-/// Where a receiver stood before a datagram came, for its path to be measured by that.
-#[derive(Clone, Copy, Debug, PartialEq, Eq)]
-pub struct Standing {
-    /// The highest place that was taken.
-    pub highest: Option<Place>,
-    /// The next place to play.
-    pub cursor: Option<u64>,
-    /// How long a silence is at least of which something is too late, in milliseconds.
-    pub least: u64,
-    /// The missing place that the datagram has.
-    pub awaited: Option<Awaited>,
-}
-
-/// How long a silence is at least of which something is too late, where a place is waited for so long: by a quarter longer.
-fn least_silence(patience: u64) -> u64
-    ensures { result ≡ least_silence patience }
-{
-    patience.saturating_add(patience / 4)
-}
-
-/// Where a receiver stands, before a packet with these octets.
-pub(crate) fn standing_before<W: Window>(core: &Receiver<W>, octets: &[u8]) -> Standing
-    ensures { IsStanding core.now octets.now result }
-{
-    Standing {
-        highest: core.window().highest(),
-        cursor: core.window().cursor(),
-        least: least_silence(core.config().patience()),
-        awaited: place_missed(core, octets),
-    }
-}
-
-/// Measures the path by what was heard, and answers whether the times of asks are to follow it anew, as they may have been to before.
-pub(crate) fn follow(
-    path: &mut Path,
+pub struct PathMeter {
+    path: Path,
+    /// Whether something was measured since the times were set.
     is_new: bool,
-    answer: &Result<Heard, ReceiveFault>,
-    standing: &Standing,
-    now: u64,
-) -> bool
-    ensures path { path.new ≡ (measured_by answer.now standing.now path.old now).1 }
-    ensures is_new { result ≡ (is_new || (measured_by answer.now standing.now path.old now).0) }
-{
-    let is_more = measure(path, answer, standing, now);
-    is_new || is_more
+}
+
+impl PathMeter {
+    /// Nothing was measured so far.
+    pub fn new() -> PathMeter
+        ensures { result ≡ new_meter }
+    {
+        PathMeter {
+            path: Path::new(),
+            is_new: false,
+        }
+    }
+
+    /// The endpoint answered so to a datagram, before which its receiver stood so.
+    pub fn hear(&mut self, answer: &Result<Heard, ReceiveFault>, standing: &Standing, now: u64)
+        ensures { self.new ≡ meter_heard answer.now standing.now now self.old }
+    {
+        let is_more = measure(&mut self.path, answer, standing, now);
+        self.is_new = self.is_new || is_more;
+    }
+
+    /// The endpoint made this NACK, and its receiver stands so since. The round-trip time is measured by the first place that the NACK
+    /// names, if that is asked for for the first time and no other one is measured. One that is asked for again is in doubt.
+    pub fn ask<W: Window>(&mut self, core: &Receiver<W>, nack: &[u8], now: u64)
+        ensures { self.new ≡ meter_asked core.now.span nack.now now self.old }
+    {
+        if let Some(highest) = core.window().highest() {
+            watch(&mut self.path.trip, core, highest, nack, now);
+        }
+    }
+
+    /// A place was played or given up.
+    pub fn pass(&mut self, place: Place)
+        ensures { self.new ≡ meter_passed place self.old }
+    {
+        self.path.trip.pass(place);
+    }
+
+    /// The endpoint was made one that took nothing: what was measured of the path stays, and what was of the stream goes.
+    pub fn restart(&mut self)
+        ensures { self.new ≡ meter_restarted self.old }
+    {
+        if let Some(place) = self.path.trip.place() {
+            self.path.trip.pass(place);
+        }
+        self.path.arrivals = Arrivals::new();
+    }
+
+    /// The endpoint was told other times, which are to follow what was measured anew.
+    pub fn renew(&mut self)
+        ensures { self.new ≡ record self.old { is_new = true } }
+    {
+        self.is_new = true;
+    }
+
+    /// Whether something was measured since [`follow`](PathMeter::follow) had the times follow it.
+    pub fn is_new(&self) -> bool
+        ensures { result ≡ self.now.is_new }
+    {
+        self.is_new
+    }
+
+    /// Has the times of asks of an endpoint follow what was measured at the moment `now`. They stay until a round trip was measured.
+    pub fn follow<W: Window>(&mut self, endpoint: &mut AskingEndpoint<W>, now: u64)
+        ensures meter { self.new ≡ record self.old { is_new = false } }
+        ensures core { endpoint.new.endpoint.core ≡ times_set (times_over self.old.path endpoint.old.endpoint.core.config.patience now) endpoint.old.endpoint.core.config.patience endpoint.old.endpoint.core }
+        ensures spare { endpoint.new.endpoint.spare ≡ times_set (times_over self.old.path endpoint.old.endpoint.core.config.patience now) endpoint.old.endpoint.core.config.patience endpoint.old.endpoint.spare }
+        ensures rest { endpoint.new ≡ record endpoint.old { endpoint = record endpoint.old.endpoint { core = endpoint.new.endpoint.core; spare = endpoint.new.endpoint.spare } } }
+    {
+        self.is_new = false;
+        let patience = endpoint.endpoint().core().config().patience();
+        if let Some(times) = self.path.times(patience, now) {
+            let _ = endpoint.set_times(patience, times.delay, times.retry);
+        }
+    }
+
+    /// How long the next place to play is waited for since it was noticed to be missing: the patience, but for how long before that its
+    /// packet was sent, as far as a silence tells it.
+    pub fn patience_left<W: Window>(&self, core: &Receiver<W>) -> u64
+        ensures { result ≡ left_at self.now.path.arrivals core.now.config.patience core.now.span.cursor }
+    {
+        let patience = core.config().patience();
+        match core.window().cursor() {
+            Some(place) => patience.saturating_sub(self.path.arrivals.lead(place)),
+            None => patience,
+        }
+    }
+
+    /// What was measured.
+    pub fn path(&self) -> Path
+        ensures { result ≡ self.now.path }
+    {
+        self.path
+    }
 }
 
 /// Measures the path by what was heard, and answers whether that is more than was known.
@@ -123,4 +167,44 @@ fn see(path: &mut Path, awaited: &Option<Awaited>, place: Place, now: u64) -> bo
     let is_more = path.reordering.greatest(now) < late;
     path.see(late, now);
     is_more
+}
+
+/// A NACK was made, with this place as the highest: what is measured already is watched, or else its first place is measured.
+fn watch<W: Window>(trip: &mut RoundTrip, core: &Receiver<W>, highest: Place, nack: &[u8], now: u64)
+    ensures { trip.new ≡ trip_after trip.old.probe core.now.span highest nack.now now trip.old }
+{
+    if let Some(place) = trip.place() {
+        if let Some(asks) = asks_for(core, place) {
+            if asks > 1 {
+                trip.doubt();
+            }
+            return;
+        }
+        // It has left the window, and no retransmission of it is taken any more.
+        trip.pass(place);
+    }
+    probe(trip, core, highest, nack, now);
+}
+
+/// The first place that a NACK names is measured, if it is asked for for the first time.
+fn probe<W: Window>(trip: &mut RoundTrip, core: &Receiver<W>, highest: Place, nack: &[u8], now: u64)
+    ensures { trip.new ≡ trip_probed core.now.span highest nack.now now trip.old }
+{
+    if nack.len() < FIRST_END {
+        return;
+    }
+    let place = asked_at(highest, u16_at(nack, FIRST_END - 2));
+    if asks_for(core, place) == Some(1) {
+        trip.ask(place, now);
+    }
+}
+
+/// How often a place was asked for, if it is missing.
+fn asks_for<W: Window>(core: &Receiver<W>, place: Place) -> Option<u8>
+    ensures { result ≡ asks_of (slot_at core.now.span place) }
+{
+    match core.window().slot(place) {
+        Some(SlotRef::Missing { asks, .. }) => Some(asks),
+        _ => None,
+    }
 }

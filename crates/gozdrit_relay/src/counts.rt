@@ -1,5 +1,5 @@
 //! What a run came to, in counts.
-use endpoint::{Heard, Told};
+use endpoint::{Heard, Kind, Told};
 use lines::{Word, push_line};
 use receiver::ReceiveFault;
 use relays::Note;
@@ -29,8 +29,11 @@ pub struct Counts {
     pub abandoned: u64,
     /// NACKs.
     pub asked: u64,
-    /// Datagrams of the far side that were refused.
+    /// Datagrams of the far side that were refused, but for the next two.
     pub refused: u64,
+    /// Padding in the stream of the retransmissions, and retransmissions that no NACK asked for: a sender may probe with both.
+    pub padding: u64,
+    pub unasked: u64,
     /// Restarts of the stream within a session.
     pub restarts: u64,
     /// How often the far side was heard at another address within a session.
@@ -62,6 +65,8 @@ impl Counts {
         abandoned: 0,
         asked: 0,
         refused: 0,
+        padding: 0,
+        unasked: 0,
         restarts: 0,
         moved: 0,
         sessions: 0,
@@ -88,10 +93,10 @@ impl Counts {
                 self.expired = passed.expired;
             }
             Note::Marked(_) => {}
-            Note::Heard(answer) => self.hear(answer),
-            Note::Moved(_, answer) => {
+            Note::Heard(answer, kind) => self.hear(answer, *kind),
+            Note::Moved(_, answer, kind) => {
                 add(&mut self.moved, 1);
-                self.hear(answer);
+                self.hear(answer, *kind);
             }
             Note::Timed(time) => self.time = *time,
             Note::Began(..) => add(&mut self.sessions, 1),
@@ -101,7 +106,7 @@ impl Counts {
         }
     }
 
-    fn hear(&mut self, answer: &Result<Heard, ReceiveFault>) {
+    fn hear(&mut self, answer: &Result<Heard, ReceiveFault>, kind: Kind) {
         match answer {
             Ok(Heard::Media(taken)) => {
                 add(&mut self.taken, 1);
@@ -119,7 +124,15 @@ impl Counts {
                 add(&mut self.abandoned, restart.abandoned);
             }
             Ok(Heard::Control | Heard::HeldBack(_)) => {}
-            Err(_) => add(&mut self.refused, 1),
+            Err(_) => self.refuse(kind),
+        }
+    }
+
+    fn refuse(&mut self, kind: Kind) {
+        match kind {
+            Kind::Padding => add(&mut self.padding, 1),
+            Kind::Unasked => add(&mut self.unasked, 1),
+            Kind::Usual => add(&mut self.refused, 1),
         }
     }
 
@@ -175,7 +188,7 @@ impl Counts {
     }
 
     /// The words of a relay behind the network, with its restarts and the round-trip time as they are shown.
-    fn receiver_words<'x>(&self, restarts: u64, time: Word<'x>) -> [Word<'x>; 26] {
+    fn receiver_words<'x>(&self, restarts: u64, time: Word<'x>) -> [Word<'x>; 30] {
         [
             Word::Text(b"taken"),
             Word::Decimal(self.taken),
@@ -193,6 +206,10 @@ impl Counts {
             Word::Decimal(self.asked),
             Word::Text(b"refused"),
             Word::Decimal(self.refused),
+            Word::Text(b"padding"),
+            Word::Decimal(self.padding),
+            Word::Text(b"unasked"),
+            Word::Decimal(self.unasked),
             Word::Text(b"restarts"),
             Word::Decimal(restarts),
             Word::Text(b"moved"),

@@ -185,7 +185,7 @@ impl<'a> Host<'a> {
                 *far,
                 self.shows_repair,
             ),
-            Note::Moved(far, _) => push_moved(self.rt, &mut self.line, *far),
+            Note::Moved(far, ..) => push_moved(self.rt, &mut self.line, *far),
             _ => return,
         };
         if pushed.is_ok() {

@@ -1,7 +1,7 @@
 //! The log of a relay: a line for each event, in the words of the simulator's log behind the moment at which it happened.
 ghost use Rattle.std.specs.Prelude.{◌≤◌};
 
-use endpoint::{Heard, Told};
+use endpoint::{Heard, Kind, Told};
 use lines::{Word, push_line};
 use receiver::ReceiveFault;
 use relays::Note;
@@ -68,10 +68,10 @@ impl Journal {
             Note::Told(Ok(_)) => {}
             Note::Told(Err(fault)) => self.count(now, b"refused", u64::from(fault.number())),
             Note::Marked(marked) => self.count(now, b"tail", u64::from(marked.places)),
-            Note::Heard(answer) => self.hear(now, answer),
-            Note::Moved(_, answer) => {
+            Note::Heard(answer, kind) => self.hear(now, answer, *kind),
+            Note::Moved(_, answer, kind) => {
                 self.write(&[Word::Decimal(now), Word::Text(b"moved")]);
-                self.hear(now, answer);
+                self.hear(now, answer, *kind);
             }
             Note::Timed(time) => self.count(now, b"rtt", time.unwrap_or(0)),
             Note::Began(session, first, _) => self.begin(now, session, *first),
@@ -85,7 +85,7 @@ impl Journal {
         self.count(now, b"lost", index);
     }
 
-    fn hear(&mut self, now: u64, answer: &Result<Heard, ReceiveFault>) {
+    fn hear(&mut self, now: u64, answer: &Result<Heard, ReceiveFault>, kind: Kind) {
         match answer {
             Ok(Heard::Media(taken) | Heard::Repair(taken)) => {
                 let place = Word::Decimal(taken.place.value());
@@ -104,7 +104,7 @@ impl Journal {
                 self.leave_behind(now, b"abandoned", restart.abandoned);
             }
             Ok(Heard::Control) => {}
-            Err(fault) => self.count(now, b"refused", u64::from(fault.number())),
+            Err(fault) => self.count(now, refused_as(kind), u64::from(fault.number())),
         }
     }
 
@@ -186,4 +186,13 @@ fn session_words<'x>(
         Word::Decimal(u64::from(session.repair_type())),
         Word::Decimal(u64::from(first)),
     ]
+}
+
+/// The word of a datagram that was refused: what nobody asked for has its own.
+fn refused_as(kind: Kind) -> &'static [u8] {
+    match kind {
+        Kind::Padding => b"padding",
+        Kind::Unasked => b"unasked",
+        Kind::Usual => b"refused",
+    }
 }

@@ -85,7 +85,7 @@ impl Load {
                 None
             }
             Note::Told(Ok(Told::Feedback(shared))) => self.asked(u64::from(shared.unknown)),
-            Note::Heard(answer) | Note::Moved(_, answer) => self.take(media_of(answer), now),
+            Note::Heard(answer, _) | Note::Moved(_, answer, _) => self.take(media_of(answer), now),
             _ => None,
         };
         if found.is_none() || self.is_told {

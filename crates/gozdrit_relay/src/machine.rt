@@ -182,7 +182,7 @@ impl<R: Relay + HasFar + Drop, L: Learner<R>> Relay for Machine<L, R> {
 /// The moment at which something was taken last, after a note of this one.
 fn last_taken(note: &Note, last: u64, now: u64) -> u64 {
     match note {
-        Note::Heard(Ok(_)) | Note::Moved(_, Ok(_)) => now,
+        Note::Heard(Ok(_), _) | Note::Moved(_, Ok(_), _) => now,
         _ => last,
     }
 }

@@ -8,7 +8,6 @@ pub mod Ending
 pub mod Following
 pub mod Holding
 pub mod Numbering
-pub mod Measuring
 pub mod Leaving
 pub mod Moving
 pub mod SendRelay

@@ -1,6 +1,6 @@
 -- The relay behind a network that loses: what it does with what comes, and what it does of its own. Each case of what it notes has
 -- its equation, and what stands nowhere is never done.
-use Rattle.std.specs.Prelude.{◌≡◌, ℕ, ◌-◌, ◌&&◌, ◌||◌, max, Bool, true, false, List, Option, Some, None, Result, Ok}
+use Rattle.std.specs.Prelude.{◌≡◌, ℕ, ◌&&◌, max, Bool, true, false, List, Option, Some, None, Result, Ok}
 use Rattle.std.specs.declared.net.socket_addr.SocketAddr.{SocketAddr}
 use Rattle.arrayvec.specs.ArrayVec.{ArrayVec}
 use Rattle.rtpwire.specs.Rtp.{RtpSpells}
@@ -9,16 +9,23 @@ use Rattle.stores.specs.Span.{highest_of}
 use Rattle.receiver.specs.declared.answer.Played.{Played}
 use Rattle.receiver.specs.declared.answer.Played.TheVariants.{Packet, Gap, Wait}
 use Rattle.receiver.specs.declared.fault.ReceiveFault.{ReceiveFault}
-use Rattle.receiver.specs.Receiver.{Receiving, state_of, with_times}
+use Rattle.receiver.specs.Receiver.{Receiving, state_of}
 use Rattle.receiver.specs.Peeking.{play_of, receiver_passed}
 use Rattle.receiver.specs.Asks.{AsksMost}
 use Rattle.receiver.specs.Config.{Config}
 use Rattle.endpoint.specs.declared.holding.Run.{Run}
 use Rattle.endpoint.specs.declared.heard.Heard.{Heard}
 use Rattle.endpoint.specs.declared.heard.Heard.TheVariants as heard
+use Rattle.endpoint.specs.declared.kind.Kind.{Kind}
+use Rattle.endpoint.specs.declared.kind_counts.KindCounts.{KindCounts}
+use Rattle.endpoint.specs.declared.path_meter.PathMeter.{PathMeter}
 use Rattle.endpoint.specs.declared.probation.Probation.{Probation}
 use Rattle.endpoint.specs.declared.receive_counts.ReceiveCounts.{ReceiveCounts}
+use Rattle.endpoint.specs.declared.standing.Standing.{Standing}
+use Rattle.endpoint.specs.Asked.{RemembersAsk, kept_after, none_asked}
 use Rattle.endpoint.specs.Counts.{more}
+use Rattle.endpoint.specs.Kinds.{IsKind, count_kind, no_kinds}
+use Rattle.endpoint.specs.Measuring.{IsStanding, left_at, meter_asked, meter_heard, meter_passed, new_meter, times_set}
 use Rattle.endpoint.specs.ReceiveCounts.{count_heard, count_played, CountsAsk, no_counts}
 use Rattle.endpoint.specs.Receiving.{ends_of, fresh, HearsDatagram, IsMediaNumber, IsSpelledWhere, no_run}
 use Rattle.relays.specs.declared.bounds.Bounds.{Bounds}
@@ -26,20 +33,15 @@ use Rattle.relays.specs.declared.outside.Side.{Side}
 use Rattle.relays.specs.declared.outside.Side.TheVariants.{Near, Far}
 use Rattle.relays.specs.declared.numbering.Numbering.{Numbering}
 use Rattle.timing.specs.declared.ask_times.AskTimes.{AskTimes}
-use Rattle.timing.specs.declared.path.Path.{Path}
 use Rattle.relays.specs.declared.relay.Note.{Note}
 use Rattle.relays.specs.declared.relay.Note.TheVariants as note
 use Rattle.relays.specs.declared.relay.Departure.{Departure}
 use Rattle.relays.specs.declared.relay.Turn.{Turn}
 use Rattle.relays.specs.Ending.{is_over}
 use Rattle.relays.specs.Numbering.{numbered, numbered_after, anew}
-use Rattle.timing.specs.Path.{new_path, times_over}
-use Rattle.timing.specs.RoundTrip.{time_of, passed_at}
-use Rattle.timing.specs.declared.arrivals.Arrivals.{Arrivals}
+use Rattle.timing.specs.Path.{times_over}
+use Rattle.timing.specs.RoundTrip.{time_of}
 use Rattle.timing.specs.declared.playout.Playout.{Playout}
-use Rattle.timing.specs.Arrivals.{lead_at}
-use Rattle.relays.specs.declared.measuring.Standing.{Standing}
-use Rattle.relays.specs.Measuring.{IsStanding, measured_by}
 use Rattle.relays.specs.Holding.{clock_after, held_by, timestamp_of}
 use Rattle.relays.specs.Leaving.{GoesTo, octets_of}
 use Rattle.relays.specs.Moving.{is_next, is_quiet}
@@ -51,14 +53,15 @@ pub record ReceiveSide : Type 0 where
   pub run : Run
   pub probation : Probation
   pub counts : ReceiveCounts
+  pub asked : List (Option ℕ)  -- which places its endpoint asked for, as far as that remembers, and of which kind what came was
+  pub kinds : KindCounts
   pub far : SocketAddr
   pub came : Option ℕ  -- the moment at which the far side's last datagram came
   pub reach : ℕ  -- by how much less a number may lie ahead that shows the far side at another address
   pub player : SocketAddr
   pub numbering : Numbering  -- the SSRC and the sequence numbers that the player sees
   pub hold : Option Playout  -- the clock by which packets are held for the player, if they are
-  pub path : Path  -- the round-trip time, and what it is measured by, and how far packets come behind later ones
-  pub is_new : Bool  -- it was measured since the times were set
+  pub meter : PathMeter  -- what it measured of the path
   pub last : Option ℕ  -- the moment of the last play
   pub copy : Option (ArrayVec ℕ)  -- the NACK that left last, where it is still to leave a second time
   pub bounds : Bounds
@@ -80,14 +83,15 @@ new_receive_side config capacity far player numbering hold bounds =
       run = no_run;
       probation = probation_of capacity;
       counts = no_counts;
+      asked = none_asked capacity;
+      kinds = no_kinds;
       far = far;
       came = None;
       reach = dropout_of capacity;
       player = player;
       numbering = numbering;
       hold = hold;
-      path = new_path;
-      is_new = false;
+      meter = new_meter;
       last = None;
       copy = None;
       bounds = bounds;
@@ -112,18 +116,19 @@ abbrev pub Moves : ReceiveSide → (octets : List ℕ) → (now : ℕ) → Bool 
 Moves s octets now answer = (goes_on : Bool) × GoesOn s octets goes_on × (answer ≡ (is_quiet s.came now && goes_on))
 
 -- The endpoint hears a datagram of the far side; and what it took measures the path, by where its receiver stood.
-pub record HearsFrom (old : ReceiveSide) (from : SocketAddr) (octets : List ℕ) (now : ℕ) (answer : Result Heard ReceiveFault) (new : ReceiveSide) : Type 0 where
+pub record HearsFrom (old : ReceiveSide) (from : SocketAddr) (octets : List ℕ) (now : ℕ) (answer : Result Heard ReceiveFault) (kind : Kind) (new : ReceiveSide) : Type 0 where
   pub hears : HearsDatagram old.probation (ends_of old.core old.spare old.run) octets now answer (ends_of new.core new.spare new.run)
   pub standing : Standing
   pub stood : IsStanding old.core octets standing
-  pub rest : new ≡ record old { core = new.core; spare = new.spare; run = new.run; counts = count_heard answer old.counts; far = from; came = Some now; numbering = numbering_after answer old.numbering; hold = clock_after answer (timestamp_of octets) now old.hold; path = (measured_by answer standing old.path now).1; is_new = old.is_new || (measured_by answer standing old.path now).0 }
+  pub is_kind : IsKind old.asked old.core.config.session (highest_of old.core.span) octets answer kind
+  pub rest : new ≡ record old { core = new.core; spare = new.spare; run = new.run; counts = count_heard answer old.counts; asked = kept_after answer old.asked; kinds = count_kind kind answer old.kinds; far = from; came = Some now; numbering = numbering_after answer old.numbering; hold = clock_after answer (timestamp_of octets) now old.hold; meter = meter_heard answer standing now old.meter }
 
 -- What is done with a datagram at the far side's socket: the endpoint hears what the far side sent, or what shows it at another
 -- address, which is its address from then on, and nobody else's.
 abbrev pub HearsFar : ReceiveSide → (from : SocketAddr) → (octets : List ℕ) → (now : ℕ) → Note → Option Departure → ReceiveSide → Type 0
-HearsFar old from octets now (note.Heard answer) None new = (from ≡ old.far) × HearsFrom old from octets now answer new
-HearsFar old from octets now (note.Moved far answer) None new =
-    (from ≡ old.far → ⊥) × Moves old octets now true × (far ≡ from) × HearsFrom old from octets now answer new
+HearsFar old from octets now (note.Heard answer kind) None new = (from ≡ old.far) × HearsFrom old from octets now answer kind new
+HearsFar old from octets now (note.Moved far answer kind) None new =
+    (from ≡ old.far → ⊥) × Moves old octets now true × (far ≡ from) × HearsFrom old from octets now answer kind new
 HearsFar old from octets now note.Stray None new = (from ≡ old.far → ⊥) × Moves old octets now false × (new ≡ old)
 HearsFar old from octets now n leaves new = ⊥
 
@@ -135,7 +140,7 @@ Hears old Near from octets now turn out new = (turn ≡ record { note = note.Str
 -- a play passes a place, and no retransmission of it is measured any more
 abbrev pub passes : ReceiveSide → Played → (place now : ℕ) → ReceiveSide
 passes old played place now =
-    record old { core = receiver_passed played old.core; counts = count_played played old.counts; path = record old.path { trip = passed_at old.path.trip place }; last = Some now }
+    record old { core = receiver_passed played old.core; counts = count_played played old.counts; meter = meter_passed place old.meter; last = Some now }
 
 -- the place that is given up
 abbrev pub gap_of : Played → Option ℕ
@@ -153,14 +158,9 @@ PlaysOut (Packet place content) old now (note.Played p) (Some d) out new =
 PlaysOut (Gap place) old now (note.Gap p) None out new = (p ≡ place) × (new ≡ passes old (Gap place) place now)
 PlaysOut played old now n leaves out new = ⊥
 
--- How long a place is waited for since it was noticed to be missing: the patience, but for how long before that its packet was sent, as
--- far as a silence tells it. So what was lost in a long one, and can't be played in time any more, is given up at once.
-abbrev pub left_at : Arrivals → (patience : ℕ) → (cursor : Option ℕ) → ℕ
-left_at a patience None = patience
-left_at a patience (Some place) = patience - lead_at a place
-
+-- How long the next place is waited for since it was noticed to be missing.
 abbrev pub patience_left : ReceiveSide → ℕ
-patience_left s = left_at s.path.arrivals s.core.config.patience s.core.span.cursor
+patience_left s = left_at s.meter.path.arrivals s.core.config.patience s.core.span.cursor
 
 -- what a play would give at this moment
 abbrev pub next_play : ReceiveSide → (now : ℕ) → Played
@@ -171,9 +171,8 @@ pub record AsksFar (old : ReceiveSide) (now : ℕ) (d : Departure) (out : List �
   pub asks : AsksMost old.core.config (state_of old.core) now 256 (Some (record { items = octets_of d out })) (state_of new.core)
   pub goes : GoesTo d Far old.far
   pub counted : CountsAsk (Some (record { items = octets_of d out })) old.counts new.counts
-  pub rest : new ≡ record old { core = new.core; counts = new.counts; path = record old.path { trip = new.path.trip }; copy = Some (record { items = octets_of d out }) }
-  pub smoothed : new.path.trip.smoothed ≡ old.path.trip.smoothed  -- which place is measured next, and in doubt or not, is left open
-  pub doubts : new.path.trip.doubts ≡ old.path.trip.doubts
+  pub asked : RemembersAsk (highest_of old.core.span) (Some (record { items = octets_of d out })) old.asked new.asked
+  pub rest : new ≡ record old { core = new.core; counts = new.counts; asked = new.asked; meter = meter_asked new.core.span (octets_of d out) now old.meter; copy = Some (record { items = octets_of d out }) }
 
 abbrev pub Asks : ReceiveSide → (now : ℕ) → Note → Option Departure → (out : List ℕ) → ReceiveSide → Type 0
 Asks old now note.Asked (Some d) out new = AsksFar old now d out new
@@ -184,21 +183,20 @@ abbrev pub AsksAgain : ReceiveSide → Option Departure → (out : List ℕ) →
 AsksAgain old None out new = ⊥
 AsksAgain old (Some d) out new = (old.copy ≡ Some (record { items = octets_of d out })) × GoesTo d Far old.far × (new ≡ record old { copy = None })
 
--- the times follow what was measured, as many asks as fit into the patience, which stays
+-- the times follow what was measured
 abbrev pub TimedBy : ReceiveSide → Option AskTimes → ReceiveSide → Type 0
-TimedBy old (Some times) new =
-    new ≡ record old { core = with_times old.core old.core.config.patience times.delay times.retry; spare = with_times old.spare old.core.config.patience times.delay times.retry; is_new = false }
-TimedBy old None new = new ≡ record old { is_new = false }
+TimedBy old times new =
+    new ≡ record old { core = times_set times old.core.config.patience old.core; spare = times_set times old.core.config.patience old.spare; meter = record old.meter { is_new = false } }
 
 -- what is done of its own: the times are set if something was measured, or else what is to be played is, or else the last NACK leaves a
 -- second time, or else what is due is asked for, or else nothing is to be done
 abbrev pub SpeaksAs : ReceiveSide → (now : ℕ) → Note → Option Departure → (out : List ℕ) → ReceiveSide → Type 0
 SpeaksAs old now (note.Timed time) None out new =
-    (old.is_new ≡ true) × (time ≡ time_of old.path.trip.smoothed) × TimedBy old (times_over old.path old.core.config.patience now) new
-SpeaksAs old now (note.Played place) leaves out new = (old.is_new ≡ false) × PlaysOut (next_play old now) old now (note.Played place) leaves out new
-SpeaksAs old now (note.Gap place) leaves out new = (old.is_new ≡ false) × PlaysOut (next_play old now) old now (note.Gap place) leaves out new
-SpeaksAs old now note.AskedAgain leaves out new = (old.is_new ≡ false) × (next_play old now ≡ Wait) × AsksAgain old leaves out new
-SpeaksAs old now note.Asked leaves out new = (old.is_new ≡ false) × (next_play old now ≡ Wait) × (old.copy ≡ None) × Asks old now note.Asked leaves out new
+    (old.meter.is_new ≡ true) × (time ≡ time_of old.meter.path.trip.smoothed) × TimedBy old (times_over old.meter.path old.core.config.patience now) new
+SpeaksAs old now (note.Played place) leaves out new = (old.meter.is_new ≡ false) × PlaysOut (next_play old now) old now (note.Played place) leaves out new
+SpeaksAs old now (note.Gap place) leaves out new = (old.meter.is_new ≡ false) × PlaysOut (next_play old now) old now (note.Gap place) leaves out new
+SpeaksAs old now note.AskedAgain leaves out new = (old.meter.is_new ≡ false) × (next_play old now ≡ Wait) × AsksAgain old leaves out new
+SpeaksAs old now note.Asked leaves out new = (old.meter.is_new ≡ false) × (next_play old now ≡ Wait) × (old.copy ≡ None) × Asks old now note.Asked leaves out new
 SpeaksAs old now n leaves out new = ⊥
 
 -- nothing is due
@@ -206,5 +204,5 @@ abbrev pub NothingDue : ReceiveSide → (now : ℕ) → Type 0
 NothingDue old now = AsksMost old.core.config (state_of old.core) now 256 None (state_of old.core)
 
 abbrev pub Speaks : ReceiveSide → (now : ℕ) → Option Turn → (out : List ℕ) → ReceiveSide → Type 0
-Speaks old now None out new = (old.is_new ≡ false) × (next_play old now ≡ Wait) × (old.copy ≡ None) × NothingDue old now × (new ≡ old)
+Speaks old now None out new = (old.meter.is_new ≡ false) × (next_play old now ≡ Wait) × (old.copy ≡ None) × NothingDue old now × (new ≡ old)
 Speaks old now (Some turn) out new = SpeaksAs old now turn.note turn.leaves out new

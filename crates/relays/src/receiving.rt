@@ -15,21 +15,20 @@ ghost use Rattle.relays.specs.ReceiveRelay.{Asks, AsksAgain, GoesOn, HearsFar, H
 use crate::bounds::Bounds;
 use crate::dropout::{dropout, probation};
 use crate::holding::{hear_clock, release, timestamp_of};
-use crate::measuring::{follow, standing_before};
 use crate::moving::{is_next, is_quiet, media_number};
 use crate::numbering::Numbering;
 use crate::outside::Side;
 use crate::relay::{Departure, Note, Relay, Turn, silent};
 use crate::writing::{copy_of, write};
-use endpoint::{Heard, ReceiveCounts, ReceivingEndpoint};
-use places::{Place, near};
-use receiver::{HasStarted, Peeked, ReceiveFault, ReceiverConfig};
-use rtpwire::{Datagram, MAX_DATAGRAM, Session, u16_at};
+use endpoint::{AskingEndpoint, Heard, Kind, KindCounts, PathMeter, ReceiveCounts, Standing};
+use places::Place;
+use receiver::{HasStarted, Peeked, ReceiveFault, Receiver, ReceiverConfig};
+use rtpwire::{Datagram, MAX_DATAGRAM, Session};
 use std::alloc::Global;
 use std::marker::Model;
 use std::net::SocketAddr;
 use stores::{AskRule, OutOfMemory, SlotRef, Window, sooner, window_by_place};
-use timing::{Path, Playout};
+use timing::Playout;
 
 /// How many places one ask names at most.
 const MOST: usize = 256;
@@ -39,7 +38,7 @@ const MOST: usize = 256;
 /// follows what it measures of the path. Each NACK leaves twice.
 #[derive(Drop)]
 pub struct ReceiveRelay<W: Window> {
-    endpoint: ReceivingEndpoint<W>,
+    endpoint: AskingEndpoint<W>,
     far: SocketAddr,
     /// The moment at which the far side's last datagram came.
     came: Option<u64>,
@@ -49,9 +48,8 @@ pub struct ReceiveRelay<W: Window> {
     numbering: Numbering,
     /// The clock by which packets are held for the player, if they are.
     hold: Option<Playout>,
-    path: Path,
-    /// Whether the path was measured since the times were set.
-    is_new: bool,
+    /// What it measures of the path, for the times of its asks to follow.
+    meter: PathMeter,
     /// The moment of the last play.
     last: Option<u64>,
     /// The NACK that left last, where it is still to leave a second time.
@@ -64,7 +62,7 @@ impl<W: Window> Model for ReceiveRelay<W> {
 
     ghost Value = { ReceiveSide };
 
-    ghost view = { λ r. record { core = r.endpoint.core; spare = r.endpoint.spare; run = r.endpoint.run; probation = r.endpoint.probation; counts = r.endpoint.counts; far = r.far; came = r.came; reach = r.reach; player = r.player; numbering = r.numbering; hold = r.hold; path = r.path; is_new = r.is_new; last = r.last; copy = r.copy; bounds = r.bounds } };
+    ghost view = { λ r. record { core = r.endpoint.endpoint.core; spare = r.endpoint.endpoint.spare; run = r.endpoint.endpoint.run; probation = r.endpoint.endpoint.probation; counts = r.endpoint.endpoint.counts; asked = r.endpoint.asked; kinds = r.endpoint.kinds; far = r.far; came = r.came; reach = r.reach; player = r.player; numbering = r.numbering; hold = r.hold; meter = r.meter; last = r.last; copy = r.copy; bounds = r.bounds } };
 }
 
 impl<W: Window> ReceiveRelay<W> {
@@ -88,15 +86,14 @@ impl<W: Window> ReceiveRelay<W> {
         ensures { IfOk result (λ made. made ≡ new_receive_side config capacity far player numbering hold bounds) }
     {
         Ok(ReceiveRelay {
-            endpoint: ReceivingEndpoint::new(alloc, config, probation(capacity), capacity)?,
+            endpoint: AskingEndpoint::new(alloc, config, probation(capacity), capacity)?,
             far,
             came: None,
             reach: dropout(capacity),
             player,
             numbering,
             hold,
-            path: Path::new(),
-            is_new: false,
+            meter: PathMeter::new(),
             last: None,
             copy: None,
             bounds,
@@ -107,7 +104,21 @@ impl<W: Window> ReceiveRelay<W> {
     pub fn counts(&self) -> ReceiveCounts
         ensures { result ≡ self.now.counts }
     {
-        self.endpoint.counts()
+        self.endpoint.endpoint().counts()
+    }
+
+    /// Of which kind that was.
+    pub fn kinds(&self) -> KindCounts
+        ensures { result ≡ self.now.kinds }
+    {
+        self.endpoint.kinds()
+    }
+
+    /// The receiver that has what it believes.
+    fn core(&self) -> &Receiver<W>
+        ensures { result.now ≡ self.now.core }
+    {
+        self.endpoint.endpoint().core()
     }
 
     /// The sequence numbers of what is played, for a relay that comes after this one.
@@ -121,7 +132,7 @@ impl<W: Window> ReceiveRelay<W> {
     fn end(&self) -> Option<u64>
         ensures { (now : ℕ) → has_come result now ≡ is_done self.now now }
     {
-        let counts = self.endpoint.counts();
+        let counts = self.counts();
         self.bounds
             .end(counts.played.saturating_add(counts.gaps), self.last)
     }
@@ -131,32 +142,26 @@ impl<W: Window> ReceiveRelay<W> {
         ensures { (now : ℕ) → now < 2 ^ 64 → has_come result now ≡ false → NothingDue self.now now }
     {
         window_by_place();
-        let config = self.endpoint.core().config();
-        self.endpoint.core().window().next_due(AskRule {
+        let config = self.core().config();
+        self.core().window().next_due(AskRule {
             delay: config.delay(),
             retry: config.retry(),
             asks: config.asks(),
         })
     }
 
-    /// How long the next place to play is waited for since it was noticed to be missing: the patience, but for how long before that its
-    /// packet was sent.
+    /// How long the next place to play is waited for since it was noticed to be missing.
     fn patience_left(&self) -> u64
         ensures { result ≡ patience_left self.now }
     {
-        let core = self.endpoint.core();
-        let patience = core.config().patience();
-        match core.window().cursor() {
-            Some(place) => patience.saturating_sub(self.path.arrivals.lead(place)),
-            None => patience,
-        }
+        self.meter.patience_left(self.core())
     }
 
     /// From when on something is to be played: the next place is given up then if it is missing, and leaves if it is held.
     fn front_moment(&self) -> Option<u64>
         ensures { (now : ℕ) → now < 2 ^ 64 → has_come result now ≡ false → next_play self.now now ≡ Wait }
     {
-        let core = self.endpoint.core();
+        let core = self.core();
         match core.window().front()? {
             SlotRef::Held(content) => Some(release(
                 &self.hold,
@@ -173,7 +178,7 @@ impl<W: Window> ReceiveRelay<W> {
     fn expired(&self, now: u64) -> Option<Place>
         ensures { result ≡ gap_of (next_play self.now now) }
     {
-        let window = self.endpoint.core().window();
+        let window = self.core().window();
         let Some(SlotRef::Missing { noticed, .. }) = window.front() else {
             return None;
         };
@@ -205,7 +210,7 @@ impl<W: Window> ReceiveRelay<W> {
     pub fn session(&self) -> Session
         ensures { result ≡ self.now.core.config.session }
     {
-        self.endpoint.core().config().session()
+        self.core().config().session()
     }
 
     /// Hears a datagram at the far side's socket.
@@ -217,11 +222,11 @@ impl<W: Window> ReceiveRelay<W> {
         if !is_far && !self.has_moved(octets, now) {
             return silent(Note::Stray);
         }
-        let answer = self.hear_session(from, octets, now);
+        let (answer, kind) = self.hear_session(from, octets, now);
         if is_far {
-            silent(Note::Heard(answer))
+            silent(Note::Heard(answer, kind))
         } else {
-            silent(Note::Moved(from, answer))
+            silent(Note::Moved(from, answer, kind))
         }
     }
 
@@ -231,17 +236,17 @@ impl<W: Window> ReceiveRelay<W> {
         from: SocketAddr,
         octets: &[u8],
         now: u64,
-    ) -> Result<Heard, ReceiveFault>
-        ensures { HearsFrom self.old from octets.now now result self.new }
+    ) -> (Result<Heard, ReceiveFault>, Kind)
+        ensures { HearsFrom self.old from octets.now now result.0 result.1 self.new }
     {
-        let standing = standing_before(self.endpoint.core(), octets);
+        let standing = Standing::before(self.core(), octets);
         self.far = from;
         self.came = Some(now);
-        let answer = self.endpoint.on_datagram(octets, now);
+        let (answer, kind) = self.endpoint.on_datagram(octets, now);
         renumber(&mut self.numbering, &answer);
         hear_clock(&mut self.hold, &answer, timestamp_of(octets), now);
-        self.is_new = follow(&mut self.path, self.is_new, &answer, &standing, now);
-        answer
+        self.meter.hear(&answer, &standing, now);
+        (answer, kind)
     }
 
     /// Whether a datagram from another address than the far side's shows that it is there now: it goes on with the session, and
@@ -257,23 +262,19 @@ impl<W: Window> ReceiveRelay<W> {
     fn goes_on(&self, octets: &[u8]) -> bool
         ensures { GoesOn self.now octets.now result }
     {
-        let core = self.endpoint.core();
+        let core = self.core();
         let number = media_number(&core.config().session(), octets);
         is_next(core.window().highest(), number, self.reach)
     }
 
     /// Has the times follow what was measured.
     fn set_times(&mut self, now: u64) -> Turn
-        requires { self.old.is_new ≡ true }
+        requires { self.old.meter.is_new ≡ true }
         ensures sets { (out : List ℕ) → SpeaksAs self.old now result.note result.leaves out self.new }
         ensures within { IsWithin result }
     {
-        self.is_new = false;
-        let patience = self.endpoint.core().config().patience();
-        if let Some(times) = self.path.times(patience, now) {
-            let _ = self.endpoint.set_times(patience, times.delay, times.retry);
-        }
-        silent(Note::Timed(self.path.trip.time()))
+        self.meter.follow(&mut self.endpoint, now);
+        silent(Note::Timed(self.meter.path().trip.time()))
     }
 
     /// Plays, and writes what goes to the player.
@@ -286,14 +287,14 @@ impl<W: Window> ReceiveRelay<W> {
         ensures within { IfSome result IsWithin }
         ensures room { length out.new ≡ MAX_DATAGRAM }
     {
-        match self.endpoint.core().peek(now) {
+        match self.endpoint.endpoint().core().peek(now) {
             Peeked::Wait | Peeked::Gap(_) => self.give_up(now),
             Peeked::Packet(place, content) => {
-                let patience = self.endpoint.core().config().patience();
+                let patience = self.endpoint.endpoint().core().config().patience();
                 if now < release(&self.hold, content.timestamp, patience) {
                     return None;
                 }
-                let session = self.endpoint.core().config().session();
+                let session = self.endpoint.endpoint().core().config().session();
                 let len = write(
                     content,
                     self.numbering.number(place),
@@ -303,7 +304,7 @@ impl<W: Window> ReceiveRelay<W> {
                 );
                 self.endpoint.pass(now);
                 self.numbering.play(place);
-                self.path.trip.pass(place);
+                self.meter.pass(place);
                 self.last = Some(now);
                 Some(Turn {
                     note: Note::Played(place),
@@ -328,7 +329,7 @@ impl<W: Window> ReceiveRelay<W> {
         let place = self.expired(now)?;
         let patience = self.patience_left();
         self.endpoint.pass_within(patience, now);
-        self.path.trip.pass(place);
+        self.meter.pass(place);
         self.last = Some(now);
         Some(silent(Note::Gap(place)))
     }
@@ -344,7 +345,8 @@ impl<W: Window> ReceiveRelay<W> {
     {
         match self.endpoint.ask_most_into(out, now, MOST) {
             Ok(Some(len)) => {
-                self.probe(&out[..len], now);
+                self.meter
+                    .ask(self.endpoint.endpoint().core(), &out[..len], now);
                 self.copy = Some(copy_of(&out[..len]));
                 Some(Turn {
                     note: Note::Asked,
@@ -381,38 +383,6 @@ impl<W: Window> ReceiveRelay<W> {
             }),
         })
     }
-
-    /// Has the round-trip time measured by the first place of a NACK, if that asks for it for the first time and no other one is
-    /// measured. One that was asked for again is in doubt.
-    fn probe(&mut self, nack: &[u8], now: u64)
-        ensures rest { self.new ≡ record self.old { path = record self.old.path { trip = self.new.path.trip } } }
-        ensures smoothed { self.new.path.trip.smoothed ≡ self.old.path.trip.smoothed }
-        ensures doubts { self.new.path.trip.doubts ≡ self.old.path.trip.doubts }
-    {
-        let window = self.endpoint.core().window();
-        let Some(highest) = window.highest() else {
-            return;
-        };
-        if let Some(place) = self.path.trip.place() {
-            if let Some(SlotRef::Missing { asks, .. }) = window.slot(place) {
-                if asks > 1 {
-                    self.path.trip.doubt();
-                }
-                return;
-            }
-            // It has left the window, and no retransmission of it is taken any more.
-            self.path.trip.pass(place);
-        }
-        if nack.len() < 14 {
-            return;
-        }
-        let Ok(place) = near(highest, u16_at(nack, 12)) else {
-            return;
-        };
-        if let Some(SlotRef::Missing { asks: 1, .. }) = window.slot(place) {
-            self.path.trip.ask(place, now);
-        }
-    }
 }
 
 /// Where a stream restarts, the numbers of what is played go on.
@@ -448,7 +418,7 @@ impl<W: Window> Relay for ReceiveRelay<W> {
     }
 
     fn speak(&mut self, now: u64, out: &mut [u8]) -> Option<Turn> {
-        if self.is_new {
+        if self.meter.is_new() {
             return Some(self.set_times(now));
         }
         if let Some(turn) = self.play(now, out) {
@@ -461,7 +431,7 @@ impl<W: Window> Relay for ReceiveRelay<W> {
     }
 
     fn next_moment(&self) -> Option<u64> {
-        if self.is_new || self.copy.is_some() {
+        if self.meter.is_new() || self.copy.is_some() {
             return Some(0);
         }
         sooner(sooner(self.front_moment(), self.ask_moment()), self.end())

@@ -8,7 +8,7 @@ ghost use Rattle.relays.specs.Passing.{IsWithin};
 ghost use Rattle.relays.specs.Running.{RestsUntil};
 
 use crate::outside::Side;
-use endpoint::{Heard, ResendCounts, Told};
+use endpoint::{Heard, Kind, ResendCounts, Told};
 use fbwire::FeedbackFault;
 use places::Place;
 use receiver::ReceiveFault;
@@ -33,10 +33,10 @@ pub enum Note {
     PassedOver(ResendCounts),
     /// The stream fell silent, and its last packet is to be retransmitted.
     Marked(Marked),
-    /// The receiving endpoint heard a datagram of the far side.
-    Heard(Result<Heard, ReceiveFault>),
+    /// The receiving endpoint heard a datagram of the far side, of this kind.
+    Heard(Result<Heard, ReceiveFault>, Kind),
     /// The far side is at another address from now on, and the receiving endpoint heard this datagram from there.
-    Moved(SocketAddr, Result<Heard, ReceiveFault>),
+    Moved(SocketAddr, Result<Heard, ReceiveFault>, Kind),
     /// The receiving endpoint has other times. They follow this round-trip time, in milliseconds.
     Timed(Option<u64>),
     /// A session was learnt: its streams, the first sequence number of its media, and its far side.
