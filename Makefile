@@ -8,7 +8,7 @@
 # ARCHIVE and INCLUDE install another build, an archive with the folder of its headers, in the place of `make lib`.
 PAYLOAD ?= 1460
 PREFIX ?= /usr/local
-VERSION = 1.0.0
+VERSION = 1.1.0
 SONAME = libgozdrit.so.1
 SHARED = libgozdrit.so.$(VERSION)
 

@@ -15,8 +15,8 @@
  *   patience        how long a missing packet is waited for at all, from its notice: what a jitter buffer calls its latency.
  *   missing         a packet is missing from the one on that shows that it was passed over, and until it is taken, given up
  *                   or overrun.
- *   moment          a time in milliseconds that the caller hands in as `now`, of one clock for one receiver. Moments need
- *                   not rise: at one before its beginning, no span of time has passed.
+ *   moment          a time in milliseconds that the caller hands in as `now`, of one clock for one end. Moments need not rise:
+ *                   at one before its beginning, no span of time has passed.
  *
  * Answers
  *
@@ -71,7 +71,7 @@ extern "C" {
 /* ---- the version: that of this header, and that of the library that is linked */
 
 #define GOZDRIT_VERSION_MAJOR 1
-#define GOZDRIT_VERSION_MINOR 0
+#define GOZDRIT_VERSION_MINOR 1
 #define GOZDRIT_VERSION_PATCH 0
 #define GOZDRIT_VERSION (GOZDRIT_VERSION_MAJOR * 10000 + GOZDRIT_VERSION_MINOR * 100 + GOZDRIT_VERSION_PATCH)
 
@@ -219,7 +219,9 @@ typedef struct gozdrit_sender_config {
     uint16_t rtx_first;        /* the first retransmission's */
     uint8_t repeats;           /* how often one packet is retransmitted at most: 1 to 255 */
     gozdrit_bool any_reporter; /* NACKs from any SSRC are heard, not the session's receiver's alone */
-    uint64_t reserved;         /* 0 */
+    /* Which retransmissions fit the time, by the moments of gozdrit_sender_time. Both are milliseconds, and 0 is without. */
+    uint64_t min_resend; /* so long after a retransmission its packet is not retransmitted again: about a round trip */
+    uint64_t deadline;   /* so long after it was sent a packet is retransmitted no more: about the far side's patience */
 } gozdrit_sender_config;
 
 /* The same by gozdrit_receiver_defaults. */
@@ -244,6 +246,10 @@ typedef struct gozdrit_receiver_config {
      * milliseconds. 0: only the next number in sequence goes on with it, and min_ahead are believed where the first
      * lies less than half a cycle ahead, min_behind else. The defaults have 200. */
     uint64_t silence;
+    /* `delay` and `retry` hold until a round trip was measured, and follow the path from then on: the first NACK waits as long as
+     * packets were seen to come behind later ones, and as many NACKs follow as have their answers within the patience, no closer
+     * than the round trip with its variation (RFC 6298, section 2). 0: they stay as they are set. */
+    gozdrit_bool follows;
 } gozdrit_receiver_config;
 
 /* What a packet carries beside its payload (RFC 3550, sections 5.1 and 5.3.1). */
@@ -324,6 +330,16 @@ typedef struct gozdrit_moment {
     gozdrit_bool known;
 } gozdrit_moment;
 
+/* The times of NACKs in force, and the round trip from a NACK to its answer, if one was measured: `known` tells. All are
+ * milliseconds. */
+typedef struct gozdrit_times {
+    uint64_t delay;
+    uint64_t retry;
+    uint64_t round_trip; /* smoothed (RFC 6298, section 2), and */
+    uint64_t variation;  /* by how much it varies */
+    gozdrit_bool known;  /* else the two above are as they were; a receiver that does not follow the path measures none */
+} gozdrit_times;
+
 /* What a receiver counted since it was made: a restart starts no count anew, and each stays at 2^64 - 1 once it is there.
  * Each datagram is in one of the first nine. */
 typedef struct gozdrit_receive_counts {
@@ -372,6 +388,8 @@ typedef struct gozdrit_send_counts {
     uint64_t media;           /* RTP datagrams, which were passed over */
     uint64_t reports;         /* RTCP datagrams without a generic NACK */
     uint64_t refused;         /* RTCP datagrams */
+    uint64_t early;           /* retransmissions that were passed over: within `min_resend` of the one before */
+    uint64_t expired;         /* the same: past the `deadline` */
 } gozdrit_send_counts;
 
 /* An RTP packet, and where its payload lies. */
@@ -398,7 +416,7 @@ int32_t gozdrit_sender_defaults(gozdrit_sender_config *config);
  * some 200 octets more than GOZDRIT_MAX_PAYLOAD each.
  *
  *   51, 52  the session, as gozdrit_session says
- *   53      history is not in 1 to GOZDRIT_MAX_STORE, repeats is 0, or reserved is not
+ *   53      history is not in 1 to GOZDRIT_MAX_STORE, or repeats is 0
  *   73      there is no memory for it
  */
 int32_t gozdrit_sender_new(const gozdrit_sender_config *config, gozdrit_sender *sender);
@@ -433,7 +451,11 @@ int32_t gozdrit_feedback(gozdrit_sender *sender, const uint8_t *octets, size_t l
  * be retransmitted. Where there is none, sent->length is 0, and sent->sequence and `out` are as they were. Call it until
  * then.
  *
- *   75  room is less than the retransmission has; GOZDRIT_MAX_DATAGRAM is enough for any
+ * With `min_resend` or a `deadline` it is the least one that fits the time. What is to be retransmitted below it and does not
+ * fit is passed over, and counted: it may be named again.
+ *
+ *   75  room is less than the retransmission has; GOZDRIT_MAX_DATAGRAM is enough for any. With `min_resend` or a `deadline`:
+ *       room is less than GOZDRIT_MAX_DATAGRAM
  */
 int32_t gozdrit_retransmit(gozdrit_sender *sender, gozdrit_sent *sent, uint8_t *out, size_t room);
 
@@ -444,6 +466,12 @@ int32_t gozdrit_retransmit(gozdrit_sender *sender, gozdrit_sent *sent, uint8_t *
  * retransmitted as often as it may be, or where nothing was sent.
  */
 int32_t gozdrit_mark_last(gozdrit_sender *sender, uint32_t *marked);
+
+/*
+ * Tells the moment of what is sent and retransmitted from now on, which is 0 before the first call. Only `min_resend` and
+ * `deadline` look at it.
+ */
+int32_t gozdrit_sender_time(gozdrit_sender *sender, uint64_t now);
 
 /* What it counted. */
 int32_t gozdrit_sender_counts(const gozdrit_sender *sender, gozdrit_send_counts *counts);
@@ -538,12 +566,13 @@ int32_t gozdrit_next_moment(const gozdrit_receiver *receiver, gozdrit_moment *mo
  */
 int32_t gozdrit_begin(gozdrit_receiver *receiver, uint16_t first);
 
-/* Makes the receiver one that took nothing, with the same memory. What it holds is gone, and in no count; the counts go on. */
+/* Makes the receiver one that took nothing, with the same memory. What it holds is gone, and in no count; the counts go on, and
+ * so do the times, and the round trip that was measured. */
 int32_t gozdrit_restart(gozdrit_receiver *receiver);
 
 /*
  * Sets the three times, as a round-trip time changes. What was noticed, and what NACKs named, stays. Ask gozdrit_next_moment
- * again.
+ * again. One that follows the path has `delay` and `retry` follow it again when the next datagram comes.
  *
  *   53  retry is 0
  */
@@ -563,6 +592,9 @@ int32_t gozdrit_next_sequence(const gozdrit_receiver *receiver, gozdrit_sequence
 /* The highest one that was taken, and from gozdrit_begin until then the one before the first: the extended highest sequence
  * number received of a report (RFC 3550, section 6.4.1), but for a multiple of 65536. Else as above. */
 int32_t gozdrit_highest_sequence(const gozdrit_receiver *receiver, gozdrit_sequence *sequence);
+
+/* The times of NACKs in force, and the round trip that they follow. */
+int32_t gozdrit_receiver_times(const gozdrit_receiver *receiver, gozdrit_times *times);
 
 /* What it counted. */
 int32_t gozdrit_receiver_counts(const gozdrit_receiver *receiver, gozdrit_receive_counts *counts);

@@ -76,8 +76,10 @@ void write_nack(uint8_t *out, uint32_t reporter, uint32_t media, uint16_t pid, u
 int main(void) {
     test_sender();
     test_feedback();
+    test_resend();
     test_receiver();
     test_times();
+    test_follows();
     test_begin();
     test_jumps();
     test_kinds();

@@ -99,8 +99,10 @@ bool is_counted_sent(const gozdrit_sender *s, gozdrit_send_counts expected);
 /* Each is a file. */
 void test_sender(void);
 void test_feedback(void);
+void test_resend(void);
 void test_receiver(void);
 void test_times(void);
+void test_follows(void);
 void test_begin(void);
 void test_jumps(void);
 void test_kinds(void);

@@ -13,6 +13,7 @@ static struct lent {
     gozdrit_source source;
     gozdrit_sequence sequence;
     gozdrit_moment moment;
+    gozdrit_times times;
     gozdrit_receive_counts received;
     gozdrit_receive_kinds kinds;
     gozdrit_send_counts counted;
@@ -87,6 +88,7 @@ static void test_sending(void) {
     ANSWERS(GOZDRIT_NULL, gozdrit_retransmit(&sender, &l.sent, NULL, 1));
     ANSWERS(GOZDRIT_NULL, gozdrit_retransmit(&sender, &l.sent, NULL, sizeof l.out));
     ANSWERS(GOZDRIT_NULL, gozdrit_mark_last(NULL, &l.marked));
+    ANSWERS(GOZDRIT_NULL, gozdrit_sender_time(NULL, 1));
     ANSWERS(GOZDRIT_NULL, gozdrit_mark_last(&sender, NULL));
     ANSWERS(GOZDRIT_NULL, gozdrit_sender_counts(NULL, &l.counted));
     ANSWERS(GOZDRIT_NULL, gozdrit_sender_counts(&sender, NULL));
@@ -129,6 +131,8 @@ static void test_asking(void) {
     ANSWERS(GOZDRIT_NULL, gozdrit_highest_sequence(&receiver, NULL));
     ANSWERS(GOZDRIT_NULL, gozdrit_next_moment(NULL, &l.moment));
     ANSWERS(GOZDRIT_NULL, gozdrit_next_moment(&receiver, NULL));
+    ANSWERS(GOZDRIT_NULL, gozdrit_receiver_times(NULL, &l.times));
+    ANSWERS(GOZDRIT_NULL, gozdrit_receiver_times(&receiver, NULL));
     ANSWERS(GOZDRIT_NULL, gozdrit_receiver_kinds(NULL, &l.kinds));
     ANSWERS(GOZDRIT_NULL, gozdrit_receiver_kinds(&receiver, NULL));
     ANSWERS(GOZDRIT_NULL, gozdrit_receiver_counts(NULL, &l.received));

@@ -28,7 +28,7 @@ static void test_defaults(void) {
     CHECK(config.session.media_ssrc == 0 && config.session.rtx_ssrc == 0 && config.session.receiver_ssrc == 0);
     CHECK(config.session.media_type == 0 && config.session.rtx_type == 0 && config.session.any_media_type == 0);
     CHECK(config.window == 512 && config.patience == 200 && config.delay == 20 && config.retry == 40);
-    CHECK(config.nacks == 4 && config.learns == 0 && config.silence == 200);
+    CHECK(config.nacks == 4 && config.learns == 0 && config.silence == 200 && config.follows == 0);
     CHECK(config.max_dropout == 0 && config.max_misorder == 100);
     CHECK(config.min_ahead == 2 && config.min_behind == 256);
     /* the session is still to be set */
@@ -73,25 +73,25 @@ static void test_configs(void) {
         gozdrit_receiver_config config;
         int32_t number;
     } rows[] = {
-        {{{1, 2, 3, 95, 97, 0}, 0, 1, 4, 1, 0, JUMPS, 0, 0}, GOZDRIT_BAD_TYPE},
-        {{{1, 2, 3, 96, 128, 0}, 0, 1, 4, 1, 1, JUMPS, 0, 0}, GOZDRIT_BAD_TYPE},
-        {{{1, 2, 3, 64, 97, 1}, 0, 1, 4, 1, 1, JUMPS, 0, 0}, GOZDRIT_BAD_TYPE},
-        {{{1, 2, 3, 33, 34, 1}, 0, 1, 4, 1, 1, JUMPS, 0, 0}, GOZDRIT_BAD_TYPE},
-        {{{1, 1, 3, 96, 96, 0}, 0, 0, 0, 0, 0, JUMPS, 0, 1}, GOZDRIT_BAD_TYPE}, /* the first check decides */
-        {{{1, 1, 3, 96, 97, 0}, 0, 1, 4, 1, 0, JUMPS, 0, 0}, GOZDRIT_SAME_SSRC},
-        {{{1, 2, 1, 96, 97, 0}, 0, 1, 4, 1, 1, JUMPS, 0, 0}, GOZDRIT_SAME_SSRC},
-        {{{1, 2, 2, 96, 97, 0}, 0, 0, 0, 0, 0, JUMPS, 0, 1}, GOZDRIT_SAME_SSRC},
-        {{{1, 2, 3, 96, 97, 0}, 0, 1, 0, 1, 0, JUMPS, 0, 0}, GOZDRIT_BAD_LIMIT},
-        {{{1, 2, 3, 96, 97, 0}, 0, 1, GOZDRIT_MAX_STORE + 1, 1, 0, JUMPS, 0, 0}, GOZDRIT_BAD_LIMIT},
-        {{{1, 2, 3, 96, 97, 0}, 0, 1, UINT32_MAX, 1, 0, JUMPS, 0, 0}, GOZDRIT_BAD_LIMIT},
-        {{{1, 2, 3, 96, 97, 0}, 0, 0, 4, 1, 0, JUMPS, 0, 0}, GOZDRIT_BAD_LIMIT},
-        {{{1, 2, 3, 96, 97, 0}, 0, 1, 4, 0, 1, JUMPS, 0, 0}, GOZDRIT_BAD_LIMIT},
-        {{{1, 2, 3, 96, 97, 0}, 0, 1, 4, 1, 0, JUMPS, 0, 1}, GOZDRIT_OK},
-        {{{1, 2, 3, 96, 97, 0}, 0, 1, 4, 1, 0, JUMPS, 0, UINT64_MAX}, GOZDRIT_OK},
-        {{{1, 2, 3, 96, 97, 0}, 0, 1, 1, 1, 255, JUMPS, 0, 0}, GOZDRIT_OK},
-        {{{1, 2, 3, 0, 97, 255}, 0, 1, 1, 1, 0, 1, 1, 1, 1, 0, 0}, GOZDRIT_OK},
+        {{{1, 2, 3, 95, 97, 0}, 0, 1, 4, 1, 0, JUMPS, 0, 0, 0}, GOZDRIT_BAD_TYPE},
+        {{{1, 2, 3, 96, 128, 0}, 0, 1, 4, 1, 1, JUMPS, 0, 0, 0}, GOZDRIT_BAD_TYPE},
+        {{{1, 2, 3, 64, 97, 1}, 0, 1, 4, 1, 1, JUMPS, 0, 0, 0}, GOZDRIT_BAD_TYPE},
+        {{{1, 2, 3, 33, 34, 1}, 0, 1, 4, 1, 1, JUMPS, 0, 0, 0}, GOZDRIT_BAD_TYPE},
+        {{{1, 1, 3, 96, 96, 0}, 0, 0, 0, 0, 0, JUMPS, 0, 1, 0}, GOZDRIT_BAD_TYPE}, /* the first check decides */
+        {{{1, 1, 3, 96, 97, 0}, 0, 1, 4, 1, 0, JUMPS, 0, 0, 0}, GOZDRIT_SAME_SSRC},
+        {{{1, 2, 1, 96, 97, 0}, 0, 1, 4, 1, 1, JUMPS, 0, 0, 0}, GOZDRIT_SAME_SSRC},
+        {{{1, 2, 2, 96, 97, 0}, 0, 0, 0, 0, 0, JUMPS, 0, 1, 0}, GOZDRIT_SAME_SSRC},
+        {{{1, 2, 3, 96, 97, 0}, 0, 1, 0, 1, 0, JUMPS, 0, 0, 0}, GOZDRIT_BAD_LIMIT},
+        {{{1, 2, 3, 96, 97, 0}, 0, 1, GOZDRIT_MAX_STORE + 1, 1, 0, JUMPS, 0, 0, 0}, GOZDRIT_BAD_LIMIT},
+        {{{1, 2, 3, 96, 97, 0}, 0, 1, UINT32_MAX, 1, 0, JUMPS, 0, 0, 0}, GOZDRIT_BAD_LIMIT},
+        {{{1, 2, 3, 96, 97, 0}, 0, 0, 4, 1, 0, JUMPS, 0, 0, 0}, GOZDRIT_BAD_LIMIT},
+        {{{1, 2, 3, 96, 97, 0}, 0, 1, 4, 0, 1, JUMPS, 0, 0, 0}, GOZDRIT_BAD_LIMIT},
+        {{{1, 2, 3, 96, 97, 0}, 0, 1, 4, 1, 0, JUMPS, 0, 1, 255}, GOZDRIT_OK},
+        {{{1, 2, 3, 96, 97, 0}, 0, 1, 4, 1, 0, JUMPS, 0, UINT64_MAX, 0}, GOZDRIT_OK},
+        {{{1, 2, 3, 96, 97, 0}, 0, 1, 1, 1, 255, JUMPS, 0, 0, 0}, GOZDRIT_OK},
+        {{{1, 2, 3, 0, 97, 255}, 0, 1, 1, 1, 0, 1, 1, 1, 1, 0, 0, 0}, GOZDRIT_OK},
         {{{0, 1, UINT32_MAX, 127, 96, 0}, UINT64_MAX, UINT64_MAX, GOZDRIT_MAX_STORE, 255, 0, 65535, 65535, 65535, 65535,
-          UINT64_MAX, 0}, GOZDRIT_OK},
+          UINT64_MAX, 0, 0}, GOZDRIT_OK},
     };
     for (size_t i = 0; i < sizeof rows / sizeof *rows; i++) {
         gozdrit_receiver receiver = NONE;

@@ -30,7 +30,7 @@ static void test_defaults(void) {
     CHECK(config.session.media_ssrc == 0 && config.session.rtx_ssrc == 0 && config.session.receiver_ssrc == 0);
     CHECK(config.session.media_type == 0 && config.session.rtx_type == 0 && config.session.any_media_type == 0);
     CHECK(config.history == 1024 && config.repeats == 4 && config.first == 0 && config.rtx_first == 0);
-    CHECK(config.any_reporter == 0 && config.reserved == 0);
+    CHECK(config.any_reporter == 0 && config.min_resend == 0 && config.deadline == 0);
     /* the session is still to be set */
     ANSWERS(GOZDRIT_BAD_TYPE, gozdrit_sender_new(&config, &sender));
     config.session = CONFIG.session;
@@ -76,24 +76,24 @@ static void test_rows(const row *rows, size_t count) {
 
 static void test_configs(void) {
     static const row rows[] = {
-        {{{1, 2, 3, 95, 97, 0}, 4, 0, 0, 1, 0, 0}, GOZDRIT_BAD_TYPE},
-        {{{1, 2, 3, 128, 97, 0}, 4, 0, 0, 1, 0, 0}, GOZDRIT_BAD_TYPE},
-        {{{1, 2, 3, 33, 97, 0}, 4, 0, 0, 1, 0, 0}, GOZDRIT_BAD_TYPE},
-        {{{1, 2, 3, 96, 95, 0}, 4, 0, 0, 1, 0, 0}, GOZDRIT_BAD_TYPE},
-        {{{1, 2, 3, 96, 255, 0}, 4, 0, 0, 1, 0, 0}, GOZDRIT_BAD_TYPE},
-        {{{1, 2, 3, 100, 100, 0}, 4, 0, 0, 1, 0, 0}, GOZDRIT_BAD_TYPE},
-        {{{1, 1, 3, 0, 97, 0}, 0, 0, 0, 0, 0, 1}, GOZDRIT_BAD_TYPE}, /* the first check decides */
-        {{{1, 1, 3, 96, 97, 0}, 4, 0, 0, 1, 0, 0}, GOZDRIT_SAME_SSRC},
-        {{{1, 2, 1, 96, 97, 0}, 4, 0, 0, 1, 0, 0}, GOZDRIT_SAME_SSRC},
-        {{{1, 2, 2, 96, 97, 0}, 0, 0, 0, 0, 0, 1}, GOZDRIT_SAME_SSRC},
-        {{{1, 2, 3, 96, 97, 0}, 0, 0, 0, 1, 0, 0}, GOZDRIT_BAD_LIMIT},
-        {{{1, 2, 3, 96, 97, 0}, GOZDRIT_MAX_STORE + 1, 0, 0, 1, 0, 0}, GOZDRIT_BAD_LIMIT},
-        {{{1, 2, 3, 96, 97, 0}, UINT32_MAX, 0, 0, 1, 0, 0}, GOZDRIT_BAD_LIMIT},
-        {{{1, 2, 3, 96, 97, 0}, 4, 0, 0, 0, 0, 0}, GOZDRIT_BAD_LIMIT},
-        {{{1, 2, 3, 96, 97, 0}, 4, 0, 0, 1, 0, 1}, GOZDRIT_BAD_LIMIT},
-        {{{1, 2, 3, 96, 97, 0}, 4, 0, 0, 1, 0, UINT64_MAX - UINT32_MAX}, GOZDRIT_BAD_LIMIT},
-        {{{1, 2, 3, 96, 127, 0}, 1, 0, 0, 1, 255, 0}, GOZDRIT_OK},
-        {{{0, 1, UINT32_MAX, 127, 96, 0}, GOZDRIT_MAX_STORE, 65535, 65535, 255, 1, 0}, GOZDRIT_OK},
+        {{{1, 2, 3, 95, 97, 0}, 4, 0, 0, 1, 0, 0, 0}, GOZDRIT_BAD_TYPE},
+        {{{1, 2, 3, 128, 97, 0}, 4, 0, 0, 1, 0, 0, 0}, GOZDRIT_BAD_TYPE},
+        {{{1, 2, 3, 33, 97, 0}, 4, 0, 0, 1, 0, 0, 0}, GOZDRIT_BAD_TYPE},
+        {{{1, 2, 3, 96, 95, 0}, 4, 0, 0, 1, 0, 0, 0}, GOZDRIT_BAD_TYPE},
+        {{{1, 2, 3, 96, 255, 0}, 4, 0, 0, 1, 0, 0, 0}, GOZDRIT_BAD_TYPE},
+        {{{1, 2, 3, 100, 100, 0}, 4, 0, 0, 1, 0, 0, 0}, GOZDRIT_BAD_TYPE},
+        {{{1, 1, 3, 0, 97, 0}, 0, 0, 0, 0, 0, 1, 0}, GOZDRIT_BAD_TYPE}, /* the first check decides */
+        {{{1, 1, 3, 96, 97, 0}, 4, 0, 0, 1, 0, 0, 0}, GOZDRIT_SAME_SSRC},
+        {{{1, 2, 1, 96, 97, 0}, 4, 0, 0, 1, 0, 0, 0}, GOZDRIT_SAME_SSRC},
+        {{{1, 2, 2, 96, 97, 0}, 0, 0, 0, 0, 0, 1, 0}, GOZDRIT_SAME_SSRC},
+        {{{1, 2, 3, 96, 97, 0}, 0, 0, 0, 1, 0, 0, 0}, GOZDRIT_BAD_LIMIT},
+        {{{1, 2, 3, 96, 97, 0}, GOZDRIT_MAX_STORE + 1, 0, 0, 1, 0, 0, 0}, GOZDRIT_BAD_LIMIT},
+        {{{1, 2, 3, 96, 97, 0}, UINT32_MAX, 0, 0, 1, 0, 0, 0}, GOZDRIT_BAD_LIMIT},
+        {{{1, 2, 3, 96, 97, 0}, 4, 0, 0, 0, 0, 0, 0}, GOZDRIT_BAD_LIMIT},
+        {{{1, 2, 3, 96, 97, 0}, 4, 0, 0, 1, 0, 1, 0}, GOZDRIT_OK},
+        {{{1, 2, 3, 96, 97, 0}, 4, 0, 0, 1, 0, UINT64_MAX, UINT64_MAX}, GOZDRIT_OK},
+        {{{1, 2, 3, 96, 127, 0}, 1, 0, 0, 1, 255, 0, 0}, GOZDRIT_OK},
+        {{{0, 1, UINT32_MAX, 127, 96, 0}, GOZDRIT_MAX_STORE, 65535, 65535, 255, 1, 0, 0}, GOZDRIT_OK},
     };
     test_rows(rows, sizeof rows / sizeof *rows);
 }
@@ -101,19 +101,19 @@ static void test_configs(void) {
 /* Where the media may have any type, that is 0 to 63 and 96 to 127; the retransmissions have a dynamic one there too. */
 static void test_any_media_type(void) {
     static const row rows[] = {
-        {{{1, 2, 3, 0, 97, 1}, 4, 0, 0, 1, 0, 0}, GOZDRIT_OK},
-        {{{1, 2, 3, 33, 97, 1}, 4, 0, 0, 1, 0, 0}, GOZDRIT_OK},
-        {{{1, 2, 3, 63, 97, 255}, 4, 0, 0, 1, 0, 0}, GOZDRIT_OK},
-        {{{1, 2, 3, 96, 127, 2}, 4, 0, 0, 1, 0, 0}, GOZDRIT_OK},
-        {{{1, 2, 3, 127, 96, 1}, 4, 0, 0, 1, 0, 0}, GOZDRIT_OK},
-        {{{1, 2, 3, 64, 97, 1}, 4, 0, 0, 1, 0, 0}, GOZDRIT_BAD_TYPE},
-        {{{1, 2, 3, 95, 97, 1}, 4, 0, 0, 1, 0, 0}, GOZDRIT_BAD_TYPE},
-        {{{1, 2, 3, 128, 97, 1}, 4, 0, 0, 1, 0, 0}, GOZDRIT_BAD_TYPE},
-        {{{1, 2, 3, 33, 34, 1}, 4, 0, 0, 1, 0, 0}, GOZDRIT_BAD_TYPE},
-        {{{1, 2, 3, 33, 95, 1}, 4, 0, 0, 1, 0, 0}, GOZDRIT_BAD_TYPE},
-        {{{1, 2, 3, 33, 128, 1}, 4, 0, 0, 1, 0, 0}, GOZDRIT_BAD_TYPE},
-        {{{1, 2, 3, 97, 97, 1}, 4, 0, 0, 1, 0, 0}, GOZDRIT_BAD_TYPE},
-        {{{1, 2, 2, 33, 97, 1}, 4, 0, 0, 1, 0, 0}, GOZDRIT_SAME_SSRC},
+        {{{1, 2, 3, 0, 97, 1}, 4, 0, 0, 1, 0, 0, 0}, GOZDRIT_OK},
+        {{{1, 2, 3, 33, 97, 1}, 4, 0, 0, 1, 0, 0, 0}, GOZDRIT_OK},
+        {{{1, 2, 3, 63, 97, 255}, 4, 0, 0, 1, 0, 0, 0}, GOZDRIT_OK},
+        {{{1, 2, 3, 96, 127, 2}, 4, 0, 0, 1, 0, 0, 0}, GOZDRIT_OK},
+        {{{1, 2, 3, 127, 96, 1}, 4, 0, 0, 1, 0, 0, 0}, GOZDRIT_OK},
+        {{{1, 2, 3, 64, 97, 1}, 4, 0, 0, 1, 0, 0, 0}, GOZDRIT_BAD_TYPE},
+        {{{1, 2, 3, 95, 97, 1}, 4, 0, 0, 1, 0, 0, 0}, GOZDRIT_BAD_TYPE},
+        {{{1, 2, 3, 128, 97, 1}, 4, 0, 0, 1, 0, 0, 0}, GOZDRIT_BAD_TYPE},
+        {{{1, 2, 3, 33, 34, 1}, 4, 0, 0, 1, 0, 0, 0}, GOZDRIT_BAD_TYPE},
+        {{{1, 2, 3, 33, 95, 1}, 4, 0, 0, 1, 0, 0, 0}, GOZDRIT_BAD_TYPE},
+        {{{1, 2, 3, 33, 128, 1}, 4, 0, 0, 1, 0, 0, 0}, GOZDRIT_BAD_TYPE},
+        {{{1, 2, 3, 97, 97, 1}, 4, 0, 0, 1, 0, 0, 0}, GOZDRIT_BAD_TYPE},
+        {{{1, 2, 2, 33, 97, 1}, 4, 0, 0, 1, 0, 0, 0}, GOZDRIT_SAME_SSRC},
     };
     static const uint8_t expected[] = {0x80, 0xa1, 0xff, 0xff, 0, 0, 0, 9, 0x11, 0x11, 0x11, 0x11, 0xd1};
     static const uint8_t payload[1] = {0xd1};

@@ -1,12 +1,13 @@
 -- The configurations that C says, and which of their checks fails first: the types (51), the SSRCs (52), and the limits
 -- of the end and of its store (53).
-use Rattle.std.specs.Prelude.{◌≡◌, ℕ, zero, suc, ◌<◌, ◌≤◌, ◌==◌, max, min, not, Option, Some, None}
+use Rattle.std.specs.Prelude.{ℕ, zero, suc, ◌<◌, ◌≤◌, ◌==◌, max, min, not, Option, Some, None}
 use Rattle.rtpwire.specs.declared.fault.ConfigFault.{ConfigFault}
 use Rattle.rtpwire.specs.declared.fault.ConfigFault.TheVariants.{BadType, SameSsrc, BadLimit}
 use Rattle.rtpwire.specs.Session.{Streams, HasTypes, HasAnyMediaType, HasSsrcs, streams}
 use Rattle.sender.specs.Config as sending
 use Rattle.receiver.specs.Config as receiving
 use Rattle.endpoint.specs.declared.probation.Probation.{Probation}
+use Rattle.endpoint.specs.declared.resend_rule.ResendRule.{ResendRule}
 use Rattle.gozdrit.specs.declared.config.SessionFields.{SessionFields}
 use Rattle.gozdrit.specs.declared.config.SenderFields.{SenderFields}
 use Rattle.gozdrit.specs.declared.config.ReceiverFields.{ReceiverFields}
@@ -35,7 +36,15 @@ sender_config f = sending.config_of (streams_of f.session) f.first f.rtx_first f
 pub record HasSenderLimits (f : SenderFields) : Type 0 where
   pub config : sending.IsConfig (sender_config f)
   pub history : IsCapacity f.history
-  pub reserved : f.reserved ≡ 0
+
+-- how long after it was sent a packet is retransmitted; 0: whenever it is named
+abbrev pub deadline_of : ℕ → Option ℕ
+deadline_of zero = None
+deadline_of (suc n) = Some (suc n)
+
+-- which retransmissions fit the time
+abbrev pub rule_of : SenderFields → ResendRule
+rule_of f = record { min_resend = f.min_resend; deadline = deadline_of f.deadline }
 
 abbrev pub receiver_config : ReceiverFields → receiving.Config
 receiver_config f = receiving.config_with (streams_of f.session) f.patience f.delay f.retry f.nacks (not (f.learns == 0))

@@ -1,6 +1,7 @@
 -- What both ends counted, as C is told it.
 use Rattle.endpoint.specs.declared.kind_counts.KindCounts.{KindCounts}
 use Rattle.endpoint.specs.declared.receive_counts.ReceiveCounts.{ReceiveCounts}
+use Rattle.endpoint.specs.declared.resend_counts.ResendCounts.{ResendCounts}
 use Rattle.endpoint.specs.declared.send_counts.SendCounts.{SendCounts}
 use Rattle.gozdrit.specs.declared.counts.ReceiverCounts.{ReceiverCounts}
 use Rattle.gozdrit.specs.declared.counts.ReceiverKinds.{ReceiverKinds}
@@ -36,8 +37,8 @@ receiver_kinds c =
       refused = c.refused;
     }
 
-abbrev pub sender_counts : SendCounts → SenderCounts
-sender_counts c =
+abbrev pub sender_counts : SendCounts → ResendCounts → SenderCounts
+sender_counts c passed =
     record {
       sent = c.sent;
       octets = c.octets;
@@ -50,4 +51,6 @@ sender_counts c =
       media = c.media;
       reports = c.reports;
       refused = c.refused;
+      early = passed.early;
+      expired = passed.expired;
     }

@@ -22,6 +22,7 @@ usual_receiver =
       min_behind = 256;
       delay = 20;
       silence = 200;
+      follows = 0;
     }
 
 abbrev pub usual_sender : SenderFields
@@ -33,5 +34,6 @@ usual_sender =
       rtx_first = 0;
       repeats = 4;
       any_reporter = 0;
-      reserved = 0;
+      min_resend = 0;
+      deadline = 0;
     }

@@ -5,6 +5,7 @@ use Rattle.gozdrit.specs.Null.{Answers1, Answers2, Answers3, Answers4, Answers5}
 use Rattle.gozdrit.specs.declared.answers.KnownMoment.{KnownMoment}
 use Rattle.gozdrit.specs.declared.answers.KnownSequence.{KnownSequence}
 use Rattle.gozdrit.specs.declared.answers.KnownSource.{KnownSource}
+use Rattle.gozdrit.specs.declared.answers.KnownTimes.{KnownTimes}
 use Rattle.gozdrit.specs.declared.answers.PlayedPacket.{PlayedPacket}
 use Rattle.gozdrit.specs.declared.answers.SentPacket.{SentPacket}
 use Rattle.gozdrit.specs.declared.config.ReceiverFields.{ReceiverFields}
@@ -22,9 +23,9 @@ use Rattle.gozdrit.specs.Defaults.{usual_receiver, usual_sender}
 use Rattle.gozdrit.specs.Ends.{Receiver, Sender}
 use Rattle.gozdrit.specs.Freeing.{AnswersFree}
 use Rattle.gozdrit.specs.Packets.{AnswersRead, AnswersWrite}
-use Rattle.gozdrit.specs.Reading.{AnswersMissing, AnswersSource, AnswersNext, AnswersHighest, AnswersMoment, AnswersReceiverCounts, AnswersReceiverKinds, AnswersSenderCounts}
+use Rattle.gozdrit.specs.Reading.{AnswersMissing, AnswersSource, AnswersNext, AnswersHighest, AnswersMoment, AnswersReceiverTimes, AnswersReceiverCounts, AnswersReceiverKinds, AnswersSenderCounts}
 use Rattle.gozdrit.specs.Receiving.{AnswersReceiverNew, AnswersReceive, AnswersPlay, AnswersNack, AnswersBegin, AnswersRestart, AnswersTimes}
-use Rattle.gozdrit.specs.Sending.{AnswersSenderNew, AnswersSend, AnswersFeedback, AnswersRetransmit, AnswersMarkLast}
+use Rattle.gozdrit.specs.Sending.{AnswersSenderNew, AnswersSend, AnswersFeedback, AnswersRetransmit, AnswersMarkLast, AnswersTime}
 
 -- `gozdrit_sender_defaults`
 abbrev pub SenderDefaultsFor : Option SenderFields → ℤ → Option SenderFields → Type 0
@@ -73,6 +74,12 @@ abbrev pub MarkLastFor : Option (Handle Sender) → Option ℕ → ℤ → Optio
 MarkLastFor =
     Answers2 null_pointer (λ sender marked code sender' marked'.
     AnswersMarkLast sender.inside marked code sender'.inside marked')
+
+-- `gozdrit_sender_time`
+abbrev pub SenderTimeFor : (now : ℕ) → Option (Handle Sender) → ℤ → Option (Handle Sender) → Type 0
+SenderTimeFor now =
+    Answers1 null_pointer (λ sender code sender'.
+    AnswersTime sender.inside now code sender'.inside)
 
 -- `gozdrit_sender_counts`
 abbrev pub SenderCountsFor : Option (Handle Sender) → Option SenderCounts → ℤ → Option (Handle Sender) → Option SenderCounts → Type 0
@@ -157,6 +164,12 @@ abbrev pub MomentFor : Option (Handle Receiver) → Option KnownMoment → ℤ �
 MomentFor =
     Answers2 null_pointer (λ receiver moment code receiver' moment'.
     (receiver' ≡ receiver) × AnswersMoment receiver.inside moment code receiver'.inside moment')
+
+-- `gozdrit_receiver_times`
+abbrev pub ReceiverTimesFor : Option (Handle Receiver) → Option KnownTimes → ℤ → Option (Handle Receiver) → Option KnownTimes → Type 0
+ReceiverTimesFor =
+    Answers2 null_pointer (λ receiver times code receiver' times'.
+    (receiver' ≡ receiver) × AnswersReceiverTimes receiver.inside times code receiver'.inside times')
 
 -- `gozdrit_receiver_counts`
 abbrev pub ReceiverCountsFor : Option (Handle Receiver) → Option ReceiverCounts → ℤ → Option (Handle Receiver) → Option ReceiverCounts → Type 0

@@ -3,6 +3,7 @@ pub mod Config
 pub mod Counted
 pub mod Defaults
 pub mod Ends
+pub mod Following
 pub mod Freeing
 pub mod HandleLends
 pub mod Heard

@@ -9,13 +9,15 @@ use Rattle.receiver.specs.Waking.{IsQuiet}
 use Rattle.gozdrit.specs.declared.answers.KnownMoment.{KnownMoment}
 use Rattle.gozdrit.specs.declared.answers.KnownSequence.{KnownSequence}
 use Rattle.gozdrit.specs.declared.answers.KnownSource.{KnownSource}
+use Rattle.gozdrit.specs.declared.answers.KnownTimes.{KnownTimes}
 use Rattle.gozdrit.specs.declared.counts.ReceiverCounts.{ReceiverCounts}
 use Rattle.gozdrit.specs.declared.counts.ReceiverKinds.{ReceiverKinds}
 use Rattle.gozdrit.specs.declared.counts.SenderCounts.{SenderCounts}
 use Rattle.gozdrit.specs.Codes.{ok, no_end}
 use Rattle.gozdrit.specs.Counted.{receiver_counts, receiver_kinds, sender_counts}
 use Rattle.gozdrit.specs.Ends.{Receiver, Sender}
-use Rattle.gozdrit.specs.Told.{TellsSequence, TellsSource, TellsMoment}
+use Rattle.gozdrit.specs.Following.{core_of}
+use Rattle.gozdrit.specs.Told.{TellsSequence, TellsSource, TellsMoment, TellsTimes}
 
 -- A call that reads an end: where there is none, nothing is told.
 pub record Reads {X Y : Type 0} (Tells : X → Y → Y → Type 0) (old : Option X) (told : Y) (code : ℤ) (new : Option X) (told' : Y) : Type 0 where
@@ -26,31 +28,34 @@ pub record Reads {X Y : Type 0} (Tells : X → Y → Y → Type 0) (old : Option
 -- The moment from which on something is to be done, or none, is told.
 pub record TellsNext (r : Receiver) (old new : KnownMoment) : Type 0 where
   pub moment : Option ℕ
-  pub quiet : (m : ℕ) → m < 2 ^ 64 → IsQuiet r.endpoint.core.config (state_of r.endpoint.core) m ↔ (has_come moment m ≡ false)
+  pub quiet : (m : ℕ) → m < 2 ^ 64 → IsQuiet (core_of r).config (state_of (core_of r)) m ↔ (has_come moment m ≡ false)
   pub told : TellsMoment moment old new
 
 -- `gozdrit_missing`, `gozdrit_rtx_source`, `gozdrit_next_sequence`, `gozdrit_highest_sequence`, `gozdrit_next_moment`,
--- `gozdrit_receiver_counts`, `gozdrit_receiver_kinds` and `gozdrit_sender_counts`
+-- `gozdrit_receiver_times`, `gozdrit_receiver_counts`, `gozdrit_receiver_kinds` and `gozdrit_sender_counts`
 abbrev pub AnswersMissing : Option Receiver → ℕ → ℤ → Option Receiver → ℕ → Type 0
-AnswersMissing = Reads (λ r old new. CountsMissing (state_of r.endpoint.core) new)
+AnswersMissing = Reads (λ r old new. CountsMissing (state_of (core_of r)) new)
 
 abbrev pub AnswersSource : Option Receiver → KnownSource → ℤ → Option Receiver → KnownSource → Type 0
-AnswersSource = Reads (λ r old new. TellsSource (source_of r.endpoint.core.config (state_of r.endpoint.core)) old new)
+AnswersSource = Reads (λ r old new. TellsSource (source_of (core_of r).config (state_of (core_of r))) old new)
 
 abbrev pub AnswersNext : Option Receiver → KnownSequence → ℤ → Option Receiver → KnownSequence → Type 0
-AnswersNext = Reads (λ r old new. TellsSequence r.endpoint.core.span.cursor old new)
+AnswersNext = Reads (λ r old new. TellsSequence (core_of r).span.cursor old new)
 
 abbrev pub AnswersHighest : Option Receiver → KnownSequence → ℤ → Option Receiver → KnownSequence → Type 0
-AnswersHighest = Reads (λ r old new. TellsSequence (highest_of r.endpoint.core.span) old new)
+AnswersHighest = Reads (λ r old new. TellsSequence (highest_of (core_of r).span) old new)
 
 abbrev pub AnswersMoment : Option Receiver → KnownMoment → ℤ → Option Receiver → KnownMoment → Type 0
 AnswersMoment = Reads TellsNext
 
+abbrev pub AnswersReceiverTimes : Option Receiver → KnownTimes → ℤ → Option Receiver → KnownTimes → Type 0
+AnswersReceiverTimes = Reads (λ r old new. TellsTimes (core_of r).config r.meter.path.trip.smoothed old new)
+
 abbrev pub AnswersReceiverCounts : Option Receiver → ReceiverCounts → ℤ → Option Receiver → ReceiverCounts → Type 0
-AnswersReceiverCounts = Reads (λ r old new. new ≡ receiver_counts r.endpoint.counts)
+AnswersReceiverCounts = Reads (λ r old new. new ≡ receiver_counts r.endpoint.endpoint.counts)
 
 abbrev pub AnswersReceiverKinds : Option Receiver → ReceiverKinds → ℤ → Option Receiver → ReceiverKinds → Type 0
-AnswersReceiverKinds = Reads (λ r old new. new ≡ receiver_kinds r.kinds)
+AnswersReceiverKinds = Reads (λ r old new. new ≡ receiver_kinds r.endpoint.kinds)
 
 abbrev pub AnswersSenderCounts : Option Sender → SenderCounts → ℤ → Option Sender → SenderCounts → Type 0
-AnswersSenderCounts = Reads (λ s old new. new ≡ sender_counts s.counts)
+AnswersSenderCounts = Reads (λ s old new. new ≡ sender_counts s.endpoint.endpoint.counts s.endpoint.passed)

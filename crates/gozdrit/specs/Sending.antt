@@ -18,19 +18,26 @@ use Rattle.endpoint.specs.declared.told.Told.{Told}
 use Rattle.endpoint.specs.Demultiplex.{is_control}
 use Rattle.endpoint.specs.Sending.{CountsSent, CountsRepaired, TellsKind}
 use Rattle.endpoint.specs.SendCounts.{count_told, no_counts}
+use Rattle.endpoint.specs.declared.resend_rule.ResendRule.{ResendRule}
+use Rattle.endpoint.specs.Moments.{told_sent, told_resent}
+use Rattle.endpoint.specs.Passing.{Retransmits}
+use Rattle.endpoint.specs.ResendCounts.{none_passed}
+use Rattle.endpoint.specs.Resending.{always}
 use Rattle.gozdrit.specs.declared.answers.SentPacket.{SentPacket}
 use Rattle.gozdrit.specs.declared.config.SenderFields.{SenderFields}
 use Rattle.gozdrit.specs.declared.header.Header.{Header}
 use Rattle.gozdrit.specs.declared.heard.ToldFields.{ToldFields}
 use Rattle.gozdrit.specs.Codes.{ok, no_end, is_held, out_of_memory, too_large, no_room}
-use Rattle.gozdrit.specs.Config.{IsSession, HasSenderLimits, Fails, sender_config}
+use Rattle.gozdrit.specs.Config.{IsSession, HasSenderLimits, Fails, rule_of, sender_config}
 use Rattle.gozdrit.specs.Ends.{Sender}
 use Rattle.gozdrit.specs.Heard.{told_fields}
 use Rattle.gozdrit.specs.Packet.{Fits, IsContent}
 
--- an endpoint that sent nothing
-abbrev pub new_sender : SenderFields → Sender
-new_sender f = record { core = new_sending (sender_config f) (empty_past f.history); counts = no_counts }
+-- an endpoint that sent nothing, and was told no moment
+abbrev pub IsNewSender : SenderFields → Sender → Type 0
+IsNewSender f made =
+    (made.endpoint.endpoint.core ≡ new_sending (sender_config f) (empty_past f.history)) × (made.endpoint.endpoint.counts ≡ no_counts)
+    × (made.endpoint.rule ≡ rule_of f) × (length made.endpoint.moments ≡ f.history) × (made.endpoint.passed ≡ none_passed) × (made.now ≡ 0)
 
 -- A configuration is refused for the first check that it fails; else there is an endpoint that sent nothing, or no memory
 -- for it.
@@ -39,14 +46,22 @@ CreatesSender f code after =
     ((fault : ConfigFault) × Fails f.session (HasSenderLimits f) fault × (code ≡ pos (config_number fault)) × (after ≡ None))
     ⊎ (IsSession f.session × HasSenderLimits f
     × (((code ≡ out_of_memory) × (after ≡ None))
-    ⊎ ((code ≡ ok) × (after ≡ Some (new_sender f)))))
+    ⊎ ((code ≡ ok) × IsSomeAnd after (IsNewSender f))))
+
+-- neither the rule nor the moment changes
+pub record AreAsTheyWere (before after : Sender) : Type 0 where
+  pub rule : after.endpoint.rule ≡ before.endpoint.rule
+  pub now : after.now ≡ before.now
 
 -- what the endpoint's own call promises of a send
 pub record SendsAs (before : Sender) (content : Content) (padding : ℕ) (out : List ℕ) (answer : Result (Result (ℕ × ℕ) SendFault) TooShort) (out' : List ℕ) (after : Sender) : Type 0 where
-  pub sends : SendsInto before.core.config.session before.core.past.capacity (state_of before.core) content padding out answer out' (state_of after.core)
+  pub sends : SendsInto before.endpoint.endpoint.core.config.session before.endpoint.endpoint.core.past.capacity (state_of before.endpoint.endpoint.core) content padding out answer out' (state_of after.endpoint.endpoint.core)
   pub enough : MAX_DATAGRAM ≤ length out → IsOk answer
-  pub stays : Stays before.core after.core
-  pub counts : CountsSent content answer before.counts after.counts
+  pub stays : Stays before.endpoint.endpoint.core after.endpoint.endpoint.core
+  pub counts : CountsSent content answer before.endpoint.endpoint.counts after.endpoint.endpoint.counts
+  pub moments : after.endpoint.moments ≡ told_sent answer before.now before.endpoint.moments
+  pub rest : AreAsTheyWere before after
+  pub passed : after.endpoint.passed ≡ before.endpoint.passed
 
 -- a send is told: the packet's extended sequence number and how many octets it has, or why there is none
 abbrev pub TellsSend : Result (Result (ℕ × ℕ) SendFault) TooShort → (sent : SentPacket) → (code : ℤ) → (sent' : SentPacket) → Type 0
@@ -56,16 +71,26 @@ TellsSend (Err short) sent code sent' = code ≡ no_room
 
 -- what the endpoint's own call promises of a datagram
 pub record TellsAs (before : Sender) (octets : List ℕ) (answer : Result Told FeedbackFault) (after : Sender) : Type 0 where
-  pub tells : TellsKind (is_control octets) before.core octets answer after.core
-  pub counts : after.counts ≡ count_told answer before.counts
+  pub tells : TellsKind (is_control octets) before.endpoint.endpoint.core octets answer after.endpoint.endpoint.core
+  pub counts : after.endpoint.endpoint.counts ≡ count_told answer before.endpoint.endpoint.counts
+  pub moments : after.endpoint.moments ≡ before.endpoint.moments
+  pub rest : AreAsTheyWere before after
+  pub passed : after.endpoint.passed ≡ before.endpoint.passed
 
--- what the endpoint's own call promises of a retransmission
+-- What the endpoint's own call promises of a retransmission. By the rule that lets each go, it is the one of the least marked place.
 pub record RepairsAs (before : Sender) (out : List ℕ) (answer : Result (Option (ℕ × ℕ)) TooShort) (out' : List ℕ) (after : Sender) : Type 0 where
-  pub repairs : RepairsInto before.core.config.session (state_of before.core) out answer out' (state_of after.core)
+  pub retransmits : Retransmits before.endpoint.rule before.endpoint.moments before.endpoint.endpoint.core.config.session before.now (state_of before.endpoint.endpoint.core) before.endpoint.passed out answer out' (state_of after.endpoint.endpoint.core) after.endpoint.passed
   pub enough : MAX_DATAGRAM ≤ length out → IsOk answer
-  pub none : answer ≡ Ok None → after.core ≡ before.core
-  pub stays : Stays before.core after.core
-  pub counts : CountsRepaired answer before.counts after.counts
+  pub stays : Stays before.endpoint.endpoint.core after.endpoint.endpoint.core
+  pub counts : CountsRepaired answer before.endpoint.endpoint.counts after.endpoint.endpoint.counts
+  pub moments : after.endpoint.moments ≡ told_resent answer before.now before.endpoint.moments
+  pub rest : AreAsTheyWere before after
+  pub plain : before.endpoint.rule ≡ always → RepairsInto before.endpoint.endpoint.core.config.session (state_of before.endpoint.endpoint.core) out answer out' (state_of after.endpoint.endpoint.core)
+  pub none : before.endpoint.rule ≡ always → answer ≡ Ok None → after.endpoint.endpoint.core ≡ before.endpoint.endpoint.core
+
+-- there is room: by a rule that may pass packets over, for any datagram
+abbrev pub HasRoomBy : ResendRule → (out : List ℕ) → Type 0
+HasRoomBy rule out = (rule ≡ always) ⊎ (MAX_DATAGRAM ≤ length out)
 
 -- a retransmission is told; where there is none, the length is 0, and the number is as it was
 abbrev pub TellsRepair : Result (Option (ℕ × ℕ)) TooShort → (sent : SentPacket) → (code : ℤ) → (sent' : SentPacket) → Type 0
@@ -75,10 +100,13 @@ TellsRepair (Err short) sent code sent' = code ≡ no_room
 
 -- what the endpoint's own call promises of its last packet
 pub record MarksAs (before : Sender) (marked : Marked) (after : Sender) : Type 0 where
-  pub marks : MarksLast before.core.config.repeats (state_of before.core) marked (state_of after.core)
-  pub none : marked.places ≡ 0 → after.core ≡ before.core
-  pub stays : Stays before.core after.core
-  pub counts : after.counts ≡ before.counts
+  pub marks : MarksLast before.endpoint.endpoint.core.config.repeats (state_of before.endpoint.endpoint.core) marked (state_of after.endpoint.endpoint.core)
+  pub none : marked.places ≡ 0 → after.endpoint.endpoint.core ≡ before.endpoint.endpoint.core
+  pub stays : Stays before.endpoint.endpoint.core after.endpoint.endpoint.core
+  pub counts : after.endpoint.endpoint.counts ≡ before.endpoint.endpoint.counts
+  pub moments : after.endpoint.moments ≡ before.endpoint.moments
+  pub rest : AreAsTheyWere before after
+  pub passed : after.endpoint.passed ≡ before.endpoint.passed
 
 -- `gozdrit_sender_new`
 pub record AnswersSenderNew (f : SenderFields) (old : Option Sender) (code : ℤ) (new : Option Sender) : Type 0 where
@@ -100,12 +128,22 @@ pub record AnswersFeedback (old : Option Sender) (octets : List ℕ) (told : Tol
   pub tells : (before : Sender) → old ≡ Some before
       → (code ≡ ok) × (answer : Result Told FeedbackFault) × IsSomeAnd new (TellsAs before octets answer) × (told' ≡ told_fields answer)
 
+-- a retransmission of a sender
+pub record RetransmitsTo (before : Sender) (sent : SentPacket) (out : List ℕ) (code : ℤ) (after : Sender) (sent' : SentPacket) (out' : List ℕ) : Type 0 where
+  pub repairs : HasRoomBy before.endpoint.rule out → (answer : Result (Option (ℕ × ℕ)) TooShort) × RepairsAs before out answer out' after × TellsRepair answer sent code sent'
+  pub short : (HasRoomBy before.endpoint.rule out → ⊥) → code ≡ no_room
+  pub refused : code ≢ ok → (after ≡ before) × (sent' ≡ sent) × (out' ≡ out)
+
 -- `gozdrit_retransmit`
 pub record AnswersRetransmit (old : Option Sender) (sent : SentPacket) (out : List ℕ) (code : ℤ) (new : Option Sender) (sent' : SentPacket) (out' : List ℕ) : Type 0 where
   pub none : old ≡ None → code ≡ no_end
-  pub repairs : (before : Sender) → old ≡ Some before
-      → (answer : Result (Option (ℕ × ℕ)) TooShort) × IsSomeAnd new (RepairsAs before out answer out') × TellsRepair answer sent code sent'
+  pub repairs : (before : Sender) → old ≡ Some before → IsSomeAnd new (λ after. RetransmitsTo before sent out code after sent' out')
   pub refused : code ≢ ok → (new ≡ old) × (sent' ≡ sent) × (out' ≡ out)
+
+-- `gozdrit_sender_time`
+pub record AnswersTime (old : Option Sender) (now : ℕ) (code : ℤ) (new : Option Sender) : Type 0 where
+  pub none : old ≡ None → (code ≡ no_end) × (new ≡ old)
+  pub tells : (before : Sender) → old ≡ Some before → (code ≡ ok) × (new ≡ Some (record before { now = now }))
 
 -- `gozdrit_mark_last`
 pub record AnswersMarkLast (old : Option Sender) (marked : ℕ) (code : ℤ) (new : Option Sender) (marked' : ℕ) : Type 0 where

@@ -1,13 +1,16 @@
 -- What the structs and buffers of C are told.
-use Rattle.std.specs.Prelude.{◌≡◌, ℕ, ◌≤◌, List, length, Option, Some, None}
+use Rattle.std.specs.Prelude.{◌≡◌, ℕ, ◌/◌, ◌≤◌, List, length, Option, Some, None}
 use Rattle.rtpwire.specs.declared.content.Content.{Content}
 use Rattle.receiver.specs.declared.answer.Played.{Played}
 use Rattle.receiver.specs.declared.answer.Played.TheVariants.{Packet, Gap, Wait}
 use Rattle.gozdrit.specs.declared.answers.KnownMoment.{KnownMoment}
 use Rattle.gozdrit.specs.declared.answers.KnownSequence.{KnownSequence}
 use Rattle.gozdrit.specs.declared.answers.KnownSource.{KnownSource}
+use Rattle.gozdrit.specs.declared.answers.KnownTimes.{KnownTimes}
 use Rattle.gozdrit.specs.declared.answers.PlayedPacket.{PlayedPacket}
+use Rattle.receiver.specs.Config.{Config}
 use Rattle.rtpwire.specs.Buffer.{in_front}
+use Rattle.timing.specs.declared.round_trip.Smoothed.{Smoothed}
 use Rattle.gozdrit.specs.Packet.{TellsHeader}
 
 -- A content is told by its payload's length, its header, and the payload at the front of the buffer.
@@ -40,3 +43,8 @@ TellsSource None old new = new ≡ record old { known = 0 }
 abbrev pub TellsMoment : Option ℕ → KnownMoment → KnownMoment → Type 0
 TellsMoment (Some moment) old new = new ≡ record old { moment = moment; known = 1 }
 TellsMoment None old new = new ≡ record old { known = 0 }
+
+-- the times in force, and the round trip, where it was measured: RFC 6298, section 2, has it and its variation smoothed
+abbrev pub TellsTimes : Config → Option Smoothed → KnownTimes → KnownTimes → Type 0
+TellsTimes c (Some s) old new = new ≡ record { delay = c.delay; retry = c.retry; round_trip = s.time / 8; variation = s.variation / 4; known = 1 }
+TellsTimes c None old new = new ≡ record old { delay = c.delay; retry = c.retry; known = 0 }

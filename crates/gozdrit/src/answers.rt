@@ -1,9 +1,11 @@
 //! What calls tell C. Each of these structs is C's own, and a call writes its fields.
 ghost use Rattle.std.specs.Prelude.{◌≡◌};
-ghost use Rattle.gozdrit.specs.Told.{TellsSequence, TellsSource, TellsMoment};
+ghost use Rattle.gozdrit.specs.Told.{TellsSequence, TellsSource, TellsMoment, TellsTimes};
 
 use crate::header::Header;
 use places::Place;
+use receiver::ReceiverConfig;
+use timing::Smoothed;
 
 /// A packet that was written to a buffer: its extended sequence number, and how many octets it has.
 #[repr(C)]
@@ -48,6 +50,17 @@ pub struct KnownMoment {
     pub known: u8,
 }
 
+/// The times of asks in force, and the round trip that they follow, or none where `known` is 0. All are in milliseconds.
+#[repr(C)]
+#[derive(Drop)]
+pub struct KnownTimes {
+    pub delay: u64,
+    pub retry: u64,
+    pub round_trip: u64,
+    pub variation: u64,
+    pub known: u8,
+}
+
 impl KnownSequence {
     pub(crate) fn tell(&mut self, sequence: Option<u64>)
         ensures { TellsSequence sequence self.old self.new }
@@ -83,6 +96,23 @@ impl KnownMoment {
         match moment {
             Some(moment) => {
                 self.moment = moment;
+                self.known = 1;
+            }
+            None => self.known = 0,
+        }
+    }
+}
+
+impl KnownTimes {
+    pub(crate) fn tell(&mut self, config: &ReceiverConfig, smoothed: Option<Smoothed>)
+        ensures { TellsTimes config.now smoothed self.old self.new }
+    {
+        self.delay = config.delay();
+        self.retry = config.retry();
+        match smoothed {
+            Some(smoothed) => {
+                self.round_trip = smoothed.time / 8;
+                self.variation = smoothed.variation / 4;
                 self.known = 1;
             }
             None => self.known = 0,

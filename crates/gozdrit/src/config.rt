@@ -1,8 +1,8 @@
 //! How C says the configurations of both ends.
 ghost use Rattle.std.specs.Prelude.{◌≡◌, ⊤, MatchResult};
-ghost use Rattle.gozdrit.specs.Config.{IsCapacity, IsSession, HasSenderLimits, HasReceiverLimits, Fails, streams_of, sender_config, receiver_config, probation_of, or_usual, usual_dropout};
+ghost use Rattle.gozdrit.specs.Config.{IsCapacity, IsSession, HasSenderLimits, HasReceiverLimits, Fails, streams_of, sender_config, receiver_config, probation_of, rule_of, or_usual, usual_dropout};
 
-use endpoint::Probation;
+use endpoint::{Probation, ResendRule};
 use receiver::ReceiverConfig;
 use rtpwire::{ConfigFault, Session};
 use sender::SenderConfig;
@@ -34,8 +34,10 @@ pub struct SenderFields {
     pub repeats: u8,
     /// 0 where the session's receiver alone is heard; else every reporter is.
     pub any_reporter: u8,
-    /// For what is to come: 0.
-    pub reserved: u64,
+    /// How long nothing is retransmitted again, and until how long after it was sent it is retransmitted at all, in milliseconds; 0:
+    /// as long as the history has it.
+    pub min_resend: u64,
+    pub deadline: u64,
 }
 
 /// How a receiver works, and how many places its window keeps. Spans of time are in milliseconds.
@@ -57,6 +59,8 @@ pub struct ReceiverFields {
     pub delay: u64,
     /// For how long a stream is silent of which nothing is taken; 0: what has jumped is believed in sequence.
     pub silence: u64,
+    /// 0 where the times of asks stay as they are set; else they follow what is measured of the path.
+    pub follows: u8,
 }
 
 impl SessionFields {
@@ -93,7 +97,7 @@ impl SenderFields {
             (λ fault. Fails self.now.session (HasSenderLimits self.now) fault) }
     {
         let session = self.session.session()?;
-        if self.history == 0 || self.history > MAX_STORE || self.reserved != 0 {
+        if self.history == 0 || self.history > MAX_STORE {
             return Err(ConfigFault::BadLimit);
         }
         let made = SenderConfig::new(session, self.first, self.rtx_first, self.repeats)?;
@@ -102,6 +106,20 @@ impl SenderFields {
         } else {
             made.with_any_reporter()
         })
+    }
+
+    /// Which retransmissions fit the time.
+    pub(crate) fn rule(&self) -> ResendRule
+        ensures { result ≡ rule_of self.now }
+    {
+        ResendRule {
+            min_resend: self.min_resend,
+            deadline: if self.deadline == 0 {
+                None
+            } else {
+                Some(self.deadline)
+            },
+        }
     }
 }
 

@@ -2,7 +2,7 @@
 ghost use Rattle.std.specs.Prelude.{◌≡◌};
 ghost use Rattle.gozdrit.specs.Counted.{receiver_counts, receiver_kinds, sender_counts};
 
-use endpoint::{KindCounts, ReceiveCounts, SendCounts};
+use endpoint::{KindCounts, ReceiveCounts, ResendCounts, SendCounts};
 
 /// What a receiver counted: the counts of its endpoint.
 #[repr(C)]
@@ -51,6 +51,8 @@ pub struct SenderCounts {
     pub media: u64,
     pub reports: u64,
     pub refused: u64,
+    pub early: u64,
+    pub expired: u64,
 }
 
 impl ReceiverCounts {
@@ -92,8 +94,8 @@ impl ReceiverKinds {
 }
 
 impl SenderCounts {
-    pub(crate) fn of(counts: SendCounts) -> SenderCounts
-        ensures { result ≡ sender_counts counts }
+    pub(crate) fn of(counts: SendCounts, passed: ResendCounts) -> SenderCounts
+        ensures { result ≡ sender_counts counts passed }
     {
         SenderCounts {
             sent: counts.sent,
@@ -107,6 +109,8 @@ impl SenderCounts {
             media: counts.media,
             reports: counts.reports,
             refused: counts.refused,
+            early: passed.early,
+            expired: passed.expired,
         }
     }
 }

@@ -35,6 +35,7 @@ pub(crate) fn receiver_defaults(config: &mut ReceiverFields) -> i32
         min_behind: Probation::BEHIND,
         delay: 20,
         silence: Probation::SILENCE,
+        follows: 0,
     };
     OK
 }
@@ -50,7 +51,8 @@ pub(crate) fn sender_defaults(config: &mut SenderFields) -> i32
         rtx_first: 0,
         repeats: 4,
         any_reporter: 0,
-        reserved: 0,
+        min_resend: 0,
+        deadline: 0,
     };
     OK
 }

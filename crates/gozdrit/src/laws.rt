@@ -3,8 +3,9 @@ ghost use Rattle.std.specs.Prelude.{◌≡◌, ◌↔◌, ℕ, ◌<◌, ◌≤�
 ghost use Rattle.gozdrit.specs.declared.config.SessionFields.{SessionFields};
 ghost use Rattle.gozdrit.specs.declared.config.SenderFields.{SenderFields};
 ghost use Rattle.gozdrit.specs.declared.config.ReceiverFields.{ReceiverFields};
-ghost use Rattle.gozdrit.specs.Config.{streams_of, sender_config, receiver_config, probation_of};
-ghost use Rattle.gozdrit.specs.Sending.{new_sender};
+ghost use Rattle.gozdrit.specs.Config.{streams_of, sender_config, receiver_config, probation_of, rule_of};
+ghost use Rattle.gozdrit.specs.Ends.{Sender};
+ghost use Rattle.gozdrit.specs.Sending.{IsNewSender};
 ghost use Rattle.gozdrit.specs.Receiving.{new_receiver};
 
 /// Each field of a struct of C's is the one of the configuration that it is named after.
@@ -19,6 +20,9 @@ pub fn fields_say_configurations()
     // What is true or false is false where the field is 0, and true at every other number.
     ensures any_reporter { (f : SenderFields) → ((sender_config f).any_reporter ≡ false) ↔ (f.any_reporter ≡ 0) }
     ensures learns { (f : ReceiverFields) → ((receiver_config f).learns ≡ false) ↔ (f.learns ≡ 0) }
+    ensures min_resend { (f : SenderFields) → (rule_of f).min_resend ≡ f.min_resend }
+    ensures deadline { (f : SenderFields) → 0 < f.deadline → (rule_of f).deadline ≡ Some f.deadline }
+    ensures no_deadline { (f : SenderFields) → f.deadline ≡ 0 → (rule_of f).deadline ≡ None }
     // A number of the probation is the field's, and the usual one where that is 0.
     ensures probation { (f : ReceiverFields) → 0 < f.max_dropout → 0 < f.max_misorder → 0 < f.min_ahead → 0 < f.min_behind → let p = probation_of f in
         (p.dropout ≡ f.max_dropout) × (p.misorder ≡ f.max_misorder) × (p.ahead ≡ f.min_ahead) × (p.behind ≡ f.min_behind) }
@@ -33,10 +37,11 @@ pub fn fields_say_configurations()
 
 /// A new end is configured so, and keeps as many packets or places as the struct says.
 pub fn new_ends_are_as_configured()
-    ensures sender { (f : SenderFields) → let s = new_sender f in
-        (s.core.config ≡ sender_config f) × (s.core.past.capacity ≡ f.history) }
-    ensures receiver { (f : ReceiverFields) → let r = new_receiver f in
+    ensures sender { (f : SenderFields) (s : Sender) → IsNewSender f s →
+        (s.endpoint.endpoint.core.config ≡ sender_config f) × (s.endpoint.endpoint.core.past.capacity ≡ f.history) × (s.endpoint.rule ≡ rule_of f) }
+    ensures receiver { (f : ReceiverFields) → let r = (new_receiver f).endpoint in
         (r.endpoint.core.config ≡ receiver_config f) × (r.endpoint.core.span.capacity ≡ f.window)
         × (r.endpoint.spare.config ≡ receiver_config f) × (r.endpoint.spare.span.capacity ≡ f.window) × (r.endpoint.probation ≡ probation_of f)
         × (length r.asked ≡ f.window) }
+    ensures follows { (f : ReceiverFields) → ((new_receiver f).follows ≡ false) ↔ (f.follows ≡ 0) }
 {}

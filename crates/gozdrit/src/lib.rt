@@ -8,6 +8,7 @@ mod config;
 mod counts;
 mod default_exports;
 mod defaults;
+mod following;
 mod handle;
 mod header;
 mod heard;

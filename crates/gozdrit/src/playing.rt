@@ -2,20 +2,20 @@
 ghost use Rattle.std.specs.Prelude.{◌≡◌, ◌≢◌, ◌≤◌, length};
 ghost use Rattle.receiver.specs.declared.answer.Played.TheVariants.{Packet};
 ghost use Rattle.gozdrit.specs.Codes.{ok, no_room};
-ghost use Rattle.gozdrit.specs.Receiving.{PlaysAs, next_play};
+ghost use Rattle.gozdrit.specs.Following.{PlaysAs};
+ghost use Rattle.gozdrit.specs.Receiving.{next_play};
 ghost use Rattle.gozdrit.specs.Told.{HasRoom, TellsPlayed};
 
 use crate::answers::PlayedPacket;
 use crate::code::{NO_ROOM, OK};
-use endpoint::AskingEndpoint;
+use crate::following::MeteredReceiver;
 use places::Place;
 use receiver::Peeked;
 use rtpwire::{Content, fill_front};
-use stores::RingWindow;
 
 /// Plays, and tells what came. A content is copied once, from where the window keeps it.
 pub(crate) fn play_to(
-    receiver: &mut AskingEndpoint<RingWindow>,
+    receiver: &mut MeteredReceiver,
     now: u64,
     played: &mut PlayedPacket,
     payload: &mut [u8],
@@ -25,20 +25,25 @@ pub(crate) fn play_to(
     ensures short { (HasRoom (next_play receiver.old now) payload.old → ⊥) → result ≡ no_room }
     ensures refused { result ≢ ok → (receiver.new ≡ receiver.old) × (played.new ≡ played.old) × (payload.new ≡ payload.old) }
 {
-    match receiver.endpoint().core().peek(now) {
-        Peeked::Wait => played.kind = 0,
+    let passed = match receiver.endpoint.endpoint().core().peek(now) {
+        Peeked::Wait => {
+            played.kind = 0;
+            None
+        }
         Peeked::Packet(place, content) => {
             if payload.len() < content.payload.len() {
                 return NO_ROOM;
             }
             tell_packet(place, content, played, payload);
+            Some(place)
         }
         Peeked::Gap(place) => {
             played.kind = 2;
             played.sequence = place.value();
+            Some(place)
         }
-    }
-    receiver.pass(now);
+    };
+    receiver.pass(passed, now);
     OK
 }
 

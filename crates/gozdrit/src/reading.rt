@@ -1,8 +1,8 @@
 //! What C may ask of an end, which stays as it is.
 ghost use Rattle.std.specs.Prelude.{◌≡◌};
-ghost use Rattle.gozdrit.specs.Reading.{AnswersMissing, AnswersSource, AnswersNext, AnswersHighest, AnswersMoment, AnswersReceiverCounts, AnswersReceiverKinds, AnswersSenderCounts};
+ghost use Rattle.gozdrit.specs.Reading.{AnswersMissing, AnswersSource, AnswersNext, AnswersHighest, AnswersMoment, AnswersReceiverTimes, AnswersReceiverCounts, AnswersReceiverKinds, AnswersSenderCounts};
 
-use crate::answers::{KnownMoment, KnownSequence, KnownSource};
+use crate::answers::{KnownMoment, KnownSequence, KnownSource, KnownTimes};
 use crate::code::{NO_END, OK};
 use crate::counts::{ReceiverCounts, ReceiverKinds, SenderCounts};
 use crate::receiving::ReceiverHandle;
@@ -16,7 +16,7 @@ pub(crate) fn missing(receiver: &mut ReceiverHandle, count: &mut usize) -> i32
     if !receiver.is_held() {
         return NO_END;
     }
-    *count = receiver.lend().endpoint().core().missing();
+    *count = receiver.lend().endpoint.endpoint().core().missing();
     OK
 }
 
@@ -27,7 +27,7 @@ pub(crate) fn rtx_source(receiver: &mut ReceiverHandle, source: &mut KnownSource
     if !receiver.is_held() {
         return NO_END;
     }
-    source.tell(receiver.lend().endpoint().core().repair_source());
+    source.tell(receiver.lend().endpoint.endpoint().core().repair_source());
     OK
 }
 
@@ -38,7 +38,7 @@ pub(crate) fn next_sequence(receiver: &mut ReceiverHandle, sequence: &mut KnownS
     if !receiver.is_held() {
         return NO_END;
     }
-    sequence.tell(receiver.lend().endpoint().core().window().cursor());
+    sequence.tell(receiver.lend().endpoint.endpoint().core().window().cursor());
     OK
 }
 
@@ -49,7 +49,13 @@ pub(crate) fn highest_sequence(receiver: &mut ReceiverHandle, sequence: &mut Kno
     if !receiver.is_held() {
         return NO_END;
     }
-    let highest = receiver.lend().endpoint().core().window().highest();
+    let highest = receiver
+        .lend()
+        .endpoint
+        .endpoint()
+        .core()
+        .window()
+        .highest();
     sequence.tell(highest.map(|highest| highest.value()));
     OK
 }
@@ -61,7 +67,20 @@ pub(crate) fn next_moment(receiver: &mut ReceiverHandle, moment: &mut KnownMomen
     if !receiver.is_held() {
         return NO_END;
     }
-    moment.tell(receiver.lend().endpoint().core().next_moment());
+    moment.tell(receiver.lend().endpoint.endpoint().core().next_moment());
+    OK
+}
+
+pub(crate) fn receiver_times(receiver: &mut ReceiverHandle, times: &mut KnownTimes) -> i32
+    ensures answers { AnswersReceiverTimes receiver.old.inside times.old result receiver.new.inside times.new }
+    ensures same { receiver.new ≡ receiver.old }
+{
+    if !receiver.is_held() {
+        return NO_END;
+    }
+    let inside = receiver.lend();
+    let config = inside.endpoint.endpoint().core().config();
+    times.tell(&config, inside.meter.path().trip.smoothed());
     OK
 }
 
@@ -72,7 +91,7 @@ pub(crate) fn receiver_counts(receiver: &mut ReceiverHandle, counts: &mut Receiv
     if !receiver.is_held() {
         return NO_END;
     }
-    *counts = ReceiverCounts::of(receiver.lend().endpoint().counts());
+    *counts = ReceiverCounts::of(receiver.lend().endpoint.endpoint().counts());
     OK
 }
 
@@ -83,7 +102,7 @@ pub(crate) fn receiver_kinds(receiver: &mut ReceiverHandle, kinds: &mut Receiver
     if !receiver.is_held() {
         return NO_END;
     }
-    *kinds = ReceiverKinds::of(receiver.lend().kinds());
+    *kinds = ReceiverKinds::of(receiver.lend().endpoint.kinds());
     OK
 }
 
@@ -94,6 +113,7 @@ pub(crate) fn sender_counts(sender: &mut SenderHandle, counts: &mut SenderCounts
     if !sender.is_held() {
         return NO_END;
     }
-    *counts = SenderCounts::of(sender.lend().counts());
+    let endpoint = &sender.lend().endpoint;
+    *counts = SenderCounts::of(endpoint.endpoint().counts(), endpoint.passed());
     OK
 }

@@ -13,22 +13,24 @@ ghost use Rattle.gozdrit.specs.contracts.answers.KnownSequence.{the_row as seque
 ghost use Rattle.gozdrit.specs.declared.answers.KnownSequence.{KnownSequence};
 ghost use Rattle.gozdrit.specs.contracts.answers.KnownSource.{the_row as source_row};
 ghost use Rattle.gozdrit.specs.declared.answers.KnownSource.{KnownSource};
+ghost use Rattle.gozdrit.specs.contracts.answers.KnownTimes.{the_row as known_times_row};
+ghost use Rattle.gozdrit.specs.declared.answers.KnownTimes.{KnownTimes};
 ghost use Rattle.gozdrit.specs.contracts.counts.ReceiverCounts.{the_row as receiver_counts_row};
 ghost use Rattle.gozdrit.specs.declared.counts.ReceiverCounts.{ReceiverCounts};
 ghost use Rattle.gozdrit.specs.contracts.counts.ReceiverKinds.{the_row as receiver_kinds_row};
 ghost use Rattle.gozdrit.specs.declared.counts.ReceiverKinds.{ReceiverKinds};
 ghost use Rattle.gozdrit.specs.contracts.counts.SenderCounts.{the_row as sender_counts_row};
 ghost use Rattle.gozdrit.specs.declared.counts.SenderCounts.{SenderCounts};
-ghost use Rattle.gozdrit.specs.Lent.{MissingFor, SourceFor, NextFor, HighestFor, MomentFor, ReceiverCountsFor, ReceiverKindsFor, SenderCountsFor};
+ghost use Rattle.gozdrit.specs.Lent.{MissingFor, SourceFor, NextFor, HighestFor, MomentFor, ReceiverTimesFor, ReceiverCountsFor, ReceiverKindsFor, SenderCountsFor};
 
-use crate::answers::{KnownMoment, KnownSequence, KnownSource};
+use crate::answers::{KnownMoment, KnownSequence, KnownSource, KnownTimes};
 use crate::blocks::{ReceiverBlock, SenderBlock};
 use crate::code::NULL;
 use crate::counts::{ReceiverCounts, ReceiverKinds, SenderCounts};
 use crate::lent::Lent;
 use crate::reading::{
     highest_sequence, missing, next_moment, next_sequence, receiver_counts, receiver_kinds,
-    rtx_source, sender_counts,
+    receiver_times, rtx_source, sender_counts,
 };
 use crate::receiving::ReceiverHandle;
 use crate::sending::SenderHandle;
@@ -253,6 +255,43 @@ fn receiver_counts_lent(
     (code, receiver, counts)
 }
 
+/// The times of asks in force, and the round trip, where it was measured.
+#[unsafe(no_mangle)]
+pub unsafe extern "C" fn gozdrit_receiver_times(
+    receiver: *mut ReceiverBlock,
+    times: *mut KnownTimes,
+) -> i32
+    ghost before: { Option (Handle Receiver) × Option KnownTimes }
+    requires* { sem 𝓛 (value_lies_at ReceiverRow receiver before.0)
+        ∗ sem 𝓛 (value_lies_at known_times_row times before.1) }
+    ensures* { ∃ₛ (λ (after : Option (Handle Receiver) × Option KnownTimes).
+        sem 𝓛 (value_lies_at ReceiverRow receiver after.0)
+        ∗ sem 𝓛 (value_lies_at known_times_row times after.1)
+        ∗ ⌜ ReceiverTimesFor before.0 before.1 result after.0 after.1 ⌝) }
+{
+    receiver_times_lent(
+        Lent {
+            at: receiver as *mut ReceiverHandle,
+        },
+        Lent { at: times },
+    )
+    .0
+}
+
+fn receiver_times_lent(
+    mut receiver: Lent<ReceiverHandle>,
+    mut times: Lent<KnownTimes>,
+) -> (i32, Lent<ReceiverHandle>, Lent<KnownTimes>)
+    ensures { ((result.1.at ≡ receiver.at) × (result.2.at ≡ times.at))
+        × ReceiverTimesFor receiver.value times.value result.0 result.1.value result.2.value }
+{
+    if receiver.is_null() || times.is_null() {
+        return (NULL, receiver, times);
+    }
+    let code = receiver_times(receiver.get(), times.get());
+    (code, receiver, times)
+}
+
 /// `AskingEndpoint::kinds`.
 #[unsafe(no_mangle)]
 pub unsafe extern "C" fn gozdrit_receiver_kinds(
@@ -290,7 +329,7 @@ fn receiver_kinds_lent(
     (code, receiver, kinds)
 }
 
-/// `SendingEndpoint::counts`.
+/// `SendingEndpoint::counts` and `TimelyEndpoint::passed`.
 #[unsafe(no_mangle)]
 pub unsafe extern "C" fn gozdrit_sender_counts(
     sender: *mut SenderBlock,

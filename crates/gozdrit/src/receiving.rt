@@ -5,15 +5,16 @@ ghost use Rattle.gozdrit.specs.Receiving.{AnswersReceiverNew, AnswersReceive, An
 use crate::answers::PlayedPacket;
 use crate::code::{HELD, NO_END, OK, OUT_OF_MEMORY};
 use crate::config::ReceiverFields;
+use crate::following::MeteredReceiver;
 use crate::handle::Handle;
 use crate::heard::HeardFields;
 use crate::playing::play_to;
-use endpoint::AskingEndpoint;
+use endpoint::{AskingEndpoint, PathMeter};
 use std::alloc::Global;
-use stores::{RingWindow, Window};
+use stores::Window;
 
 /// What C holds of a receiver.
-pub type ReceiverHandle = Handle<AskingEndpoint<RingWindow>>;
+pub type ReceiverHandle = Handle<MeteredReceiver>;
 
 pub(crate) fn receiver_new(
     alloc: Global,
@@ -33,7 +34,12 @@ pub(crate) fn receiver_new(
     let Ok(endpoint) = AskingEndpoint::new(alloc, made, probation, window) else {
         return OUT_OF_MEMORY;
     };
-    let Ok(inside) = Box::new(alloc, endpoint) else {
+    let made = MeteredReceiver {
+        endpoint,
+        meter: PathMeter::new(),
+        follows: config.follows != 0,
+    };
+    let Ok(inside) = Box::new(alloc, made) else {
         return OUT_OF_MEMORY;
     };
     receiver.put(inside);
@@ -61,8 +67,7 @@ pub(crate) fn receive(
     if !receiver.is_held() {
         return NO_END;
     }
-    let (answer, _) = receiver.lend().on_datagram(octets, now);
-    *heard = HeardFields::of(answer);
+    *heard = HeardFields::of(receiver.lend().on_datagram(octets, now));
     OK
 }
 
@@ -106,7 +111,7 @@ pub(crate) fn begin(receiver: &mut ReceiverHandle, first: u16) -> i32
     if !receiver.is_held() {
         return NO_END;
     }
-    match receiver.lend().begin(first) {
+    match receiver.lend().endpoint.begin(first) {
         Ok(()) => OK,
         Err(fault) => i32::from(fault.number()),
     }
@@ -118,7 +123,9 @@ pub(crate) fn restart(receiver: &mut ReceiverHandle) -> i32
     if !receiver.is_held() {
         return NO_END;
     }
-    receiver.lend().restart();
+    let inside = receiver.lend();
+    inside.endpoint.restart();
+    inside.meter.restart();
     OK
 }
 
@@ -128,8 +135,12 @@ pub(crate) fn set_times(receiver: &mut ReceiverHandle, patience: u64, delay: u64
     if !receiver.is_held() {
         return NO_END;
     }
-    match receiver.lend().set_times(patience, delay, retry) {
-        Ok(()) => OK,
+    let inside = receiver.lend();
+    match inside.endpoint.set_times(patience, delay, retry) {
+        Ok(()) => {
+            inside.meter.renew();
+            OK
+        }
         Err(fault) => i32::from(fault.number()),
     }
 }

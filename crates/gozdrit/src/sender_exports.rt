@@ -15,7 +15,7 @@ ghost use Rattle.gozdrit.specs.contracts.answers.SentPacket.{the_row as sent_row
 ghost use Rattle.gozdrit.specs.declared.answers.SentPacket.{SentPacket};
 ghost use Rattle.gozdrit.specs.contracts.heard.ToldFields.{the_row as told_row};
 ghost use Rattle.gozdrit.specs.declared.heard.ToldFields.{ToldFields};
-ghost use Rattle.gozdrit.specs.Lent.{SenderNewFor, SenderFreeFor, SendFor, FeedbackFor, RetransmitFor, MarkLastFor};
+ghost use Rattle.gozdrit.specs.Lent.{SenderNewFor, SenderFreeFor, SendFor, FeedbackFor, RetransmitFor, MarkLastFor, SenderTimeFor};
 
 use crate::answers::SentPacket;
 use crate::blocks::SenderBlock;
@@ -25,7 +25,7 @@ use crate::header::Header;
 use crate::heard::ToldFields;
 use crate::lent::{Lent, LentSlice};
 use crate::sending::{
-    SenderHandle, feedback, mark_last, retransmit, send, sender_free, sender_new,
+    SenderHandle, feedback, mark_last, retransmit, send, sender_free, sender_new, tell_time,
 };
 use std::alloc::Global;
 
@@ -98,7 +98,7 @@ fn sender_free_lent(alloc: Global, mut sender: Lent<SenderHandle>) -> (i32, Lent
     (code, sender)
 }
 
-/// `SendingEndpoint::send_into` of the content that header and payload say. `sent` is told its number and the datagram's length, and the
+/// `TimelyEndpoint::send_into`, at the moment that was told last, of the content that header and payload say. `sent` is told its number and the datagram's length, and the
 /// datagram stands at the front of `out`.
 #[unsafe(no_mangle)]
 pub unsafe extern "C" fn gozdrit_send(
@@ -178,7 +178,7 @@ fn send_lent(
     (code, sender, header, payload, sent, out)
 }
 
-/// `SendingEndpoint::on_datagram`. `told` is told what the datagram was.
+/// `TimelyEndpoint::on_datagram`. `told` is told what the datagram was.
 #[unsafe(no_mangle)]
 pub unsafe extern "C" fn gozdrit_feedback(
     sender: *mut SenderBlock,
@@ -224,7 +224,7 @@ fn feedback_lent(
     (code, sender, octets, told)
 }
 
-/// `SendingEndpoint::next_repair_into`, told as a send; where there is none, the length is 0.
+/// `TimelyEndpoint::retransmit_into`, at the moment that was told last, told as a send; where there is none, the length is 0.
 #[unsafe(no_mangle)]
 pub unsafe extern "C" fn gozdrit_retransmit(
     sender: *mut SenderBlock,
@@ -267,7 +267,7 @@ fn retransmit_lent(
     (code, sender, sent, out)
 }
 
-/// `SendingEndpoint::mark_last`. `marked` is told how many packets are to be retransmitted that were not before.
+/// `TimelyEndpoint::mark_last`. `marked` is told how many packets are to be retransmitted that were not before.
 #[unsafe(no_mangle)]
 pub unsafe extern "C" fn gozdrit_mark_last(sender: *mut SenderBlock, marked: *mut u32) -> i32
     ghost before: { Option (Handle Sender) × Option ℕ }
@@ -299,4 +299,33 @@ fn mark_last_lent(
     }
     let code = mark_last(sender.get(), marked.get());
     (code, sender, marked)
+}
+
+/// Tells the moment of what follows, in milliseconds.
+#[unsafe(no_mangle)]
+pub unsafe extern "C" fn gozdrit_sender_time(sender: *mut SenderBlock, now: u64) -> i32
+    ghost before: { Option (Handle Sender) }
+    requires* { sem 𝓛 (value_lies_at SenderRow sender before) }
+    ensures* { ∃ₛ (λ (after : Option (Handle Sender)).
+        sem 𝓛 (value_lies_at SenderRow sender after)
+        ∗ ⌜ SenderTimeFor now before result after ⌝) }
+{
+    sender_time_lent(
+        Lent {
+            at: sender as *mut SenderHandle,
+        },
+        now,
+    )
+    .0
+}
+
+fn sender_time_lent(mut sender: Lent<SenderHandle>, now: u64) -> (i32, Lent<SenderHandle>)
+    ensures { (result.1.at ≡ sender.at)
+        × SenderTimeFor now sender.value result.0 result.1.value }
+{
+    if sender.is_null() {
+        return (NULL, sender);
+    }
+    let code = tell_time(sender.get(), now);
+    (code, sender)
 }

@@ -1,19 +1,27 @@
 //! The sending end for C.
 ghost use Rattle.gozdrit.specs.Freeing.{AnswersFree};
-ghost use Rattle.gozdrit.specs.Sending.{AnswersSenderNew, AnswersSend, AnswersFeedback, AnswersRetransmit, AnswersMarkLast};
+ghost use Rattle.gozdrit.specs.Sending.{AnswersSenderNew, AnswersSend, AnswersFeedback, AnswersRetransmit, AnswersMarkLast, AnswersTime, RetransmitsTo};
 
 use crate::answers::SentPacket;
-use crate::code::{HELD, NO_END, OK, OUT_OF_MEMORY, TOO_LARGE};
+use crate::code::{HELD, NO_END, NO_ROOM, OK, OUT_OF_MEMORY, TOO_LARGE};
 use crate::config::SenderFields;
 use crate::handle::Handle;
 use crate::header::Header;
 use crate::heard::ToldFields;
-use endpoint::SendingEndpoint;
+use endpoint::TimelyEndpoint;
+use rtpwire::MAX_DATAGRAM;
 use std::alloc::Global;
-use stores::{History, RingHistory};
+use stores::RingHistory;
+
+/// A sender, and the moment that it was told last.
+#[derive(Drop)]
+pub struct TimedSender {
+    pub(crate) endpoint: TimelyEndpoint<RingHistory>,
+    pub(crate) now: u64,
+}
 
 /// What C holds of a sender.
-pub type SenderHandle = Handle<SendingEndpoint<RingHistory>>;
+pub type SenderHandle = Handle<TimedSender>;
 
 pub(crate) fn sender_new(alloc: Global, config: &SenderFields, sender: &mut SenderHandle) -> i32
     ensures { AnswersSenderNew config.now sender.old.inside result sender.new.inside }
@@ -25,10 +33,11 @@ pub(crate) fn sender_new(alloc: Global, config: &SenderFields, sender: &mut Send
         Ok(made) => made,
         Err(fault) => return i32::from(fault.number()),
     };
-    let Ok(history) = RingHistory::new(alloc, config.history as usize) else {
+    let Ok(endpoint) = TimelyEndpoint::new(alloc, made, config.rule(), config.history as usize)
+    else {
         return OUT_OF_MEMORY;
     };
-    let Ok(inside) = Box::new(alloc, SendingEndpoint::new(made, history)) else {
+    let Ok(inside) = Box::new(alloc, TimedSender { endpoint, now: 0 }) else {
         return OUT_OF_MEMORY;
     };
     sender.put(inside);
@@ -61,7 +70,11 @@ pub(crate) fn send(
     let Some(carried) = header.carried(payload) else {
         return TOO_LARGE;
     };
-    match sender.lend().send_into(out, &carried, padding) {
+    let sender = sender.lend();
+    match sender
+        .endpoint
+        .send_into(out, &carried, padding, sender.now)
+    {
         Ok(Ok((place, length))) => {
             sent.tell(place, length);
             OK
@@ -77,7 +90,7 @@ pub(crate) fn feedback(sender: &mut SenderHandle, octets: &[u8], told: &mut Told
     if !sender.is_held() {
         return NO_END;
     }
-    *told = ToldFields::of(sender.lend().on_datagram(octets));
+    *told = ToldFields::of(sender.lend().endpoint.on_datagram(octets));
     OK
 }
 
@@ -87,11 +100,31 @@ pub(crate) fn retransmit(sender: &mut SenderHandle, sent: &mut SentPacket, out: 
     if !sender.is_held() {
         return NO_END;
     }
-    match sender.lend().next_repair_into(out) {
+    retransmit_to(sender.lend(), sent, out)
+}
+
+/// Retransmits, and tells what. Where a rule may pass packets over there has to be room for any, so that a refusal passes over none.
+fn retransmit_to(sender: &mut TimedSender, sent: &mut SentPacket, out: &mut [u8]) -> i32
+    ensures { RetransmitsTo sender.old sent.old out.old result sender.new sent.new out.new }
+{
+    if !sender.endpoint.rule().is_always() && out.len() < MAX_DATAGRAM {
+        return NO_ROOM;
+    }
+    match sender.endpoint.retransmit_into(out, sender.now) {
         Ok(Some((place, length))) => sent.tell(place, length),
         Ok(None) => sent.length = 0,
         Err(short) => return i32::from(short.number()),
     }
+    OK
+}
+
+pub(crate) fn tell_time(sender: &mut SenderHandle, now: u64) -> i32
+    ensures { AnswersTime sender.old.inside now result sender.new.inside }
+{
+    if !sender.is_held() {
+        return NO_END;
+    }
+    sender.lend().now = now;
     OK
 }
 
@@ -101,6 +134,6 @@ pub(crate) fn mark_last(sender: &mut SenderHandle, marked: &mut u32) -> i32
     if !sender.is_held() {
         return NO_END;
     }
-    *marked = sender.lend().mark_last().places;
+    *marked = sender.lend().endpoint.mark_last().places;
     OK
 }

@@ -115,9 +115,22 @@ static void ask_moment(struct receiver *it) {
     if (one_in(8)) check_promise(it, moment->known, moment->moment);
 }
 
+/* It follows no path, and so measures none. */
+static void ask_times(struct receiver *it) {
+    gozdrit_times *times, before;
+    begin_call(CALL_receiver_times);
+    times = lend_out(AREA_TOLD, sizeof *times);
+    before = *times;
+    if (!ends_query(it, gozdrit_receiver_times(lend_receiver(it, false), pointer(times)), sizeof *times)) return;
+    same(it->config.delay, times->delay, "times->delay");
+    same(it->config.retry, times->retry, "times->retry");
+    holds(times->known == 0 && times->round_trip == before.round_trip && times->variation == before.variation,
+          "no round trip is told");
+}
+
 void call_query(struct receiver *it) {
-    static void (*const queries[])(struct receiver *) = {ask_missing, ask_source, ask_next,
-                                                         ask_highest, ask_counts, ask_kinds, ask_moment};
+    static void (*const queries[])(struct receiver *) = {ask_missing, ask_source, ask_next,  ask_highest,
+                                                         ask_counts,  ask_kinds,  ask_times, ask_moment};
     void (*query)(struct receiver *) = queries[below(sizeof queries / sizeof *queries)];
     query(it);
     query(it);

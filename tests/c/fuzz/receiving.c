@@ -79,6 +79,7 @@ static void draw_config(struct receiver *it, gozdrit_receiver_config *config) {
     config->min_behind = draw_number(6);
     config->delay = draw_span(40);
     config->silence = one_in(2) ? 0 : 1 + draw_span(400);
+    config->follows = 0; /* the model measures nothing */
 }
 
 static void call_new(struct receiver *it) {
@@ -139,7 +140,7 @@ static void call_defaults(void) {
     holds(config->min_ahead == 0 || config->min_ahead == 2, "min_ahead is the usual number");
     holds(config->min_behind == 0 || config->min_behind == 256, "min_behind is the usual number");
     same(200, config->silence, "silence");
-    holds(config->learns == 0, "all else is 0");
+    holds(config->learns == 0 && config->follows == 0, "all else is 0");
     holds(config->session.media_ssrc == 0 && config->session.rtx_ssrc == 0 && config->session.receiver_ssrc == 0
               && config->session.media_type == 0 && config->session.rtx_type == 0 && config->session.any_media_type == 0,
           "the session is 0");

@@ -12,6 +12,8 @@ struct kept {
     uint64_t digest;
     unsigned repeats;
     bool is_marked;
+    uint64_t sent_at, resent_at;
+    bool was_resent;
     uint8_t datagram[GOZDRIT_MAX_DATAGRAM];
 };
 
@@ -22,6 +24,7 @@ static struct sender {
     gozdrit_send_counts counts;
     uint64_t first, next; /* the first packet's sequence, and the next one's */
     uint16_t rtx_next;
+    uint64_t now;
     uint64_t fed;
     struct kept *history; /* of GOZDRIT_MAX_STORE packets, each at its sequence modulo that */
 } senders[SESSIONS];
@@ -76,7 +79,7 @@ int32_t check_session(const gozdrit_session *session) {
 static int32_t check_config(const gozdrit_sender_config *config) {
     int32_t fault = check_session(&config->session);
     if (fault != GOZDRIT_OK) return fault;
-    if (config->history == 0 || config->history > GOZDRIT_MAX_STORE || config->repeats == 0 || config->reserved != 0)
+    if (config->history == 0 || config->history > GOZDRIT_MAX_STORE || config->repeats == 0)
         return GOZDRIT_BAD_LIMIT;
     return GOZDRIT_OK;
 }
@@ -89,7 +92,8 @@ static void draw_config(struct sender *it, gozdrit_sender_config *config) {
     if (one_in(2)) config->first = (uint16_t)it->next; /* as if the stream went on */
     config->repeats = (uint8_t)(one_in(30) ? 0 : between(1, one_in(3) ? 255 : 4));
     config->any_reporter = one_in(4) ? (gozdrit_bool)between(1, 255) : 0;
-    config->reserved = one_in(40) ? random_bits() : 0;
+    config->min_resend = one_in(3) ? below(100) : 0;
+    config->deadline = one_in(3) ? below(300) : 0;
 }
 
 static void call_new(struct sender *it) {
@@ -107,6 +111,7 @@ static void call_new(struct sender *it) {
         it->config = config;
         it->first = it->next = 65536 + (uint64_t)config.first;
         it->rtx_next = config.rtx_first;
+        it->now = 0;
         memset(&it->counts, 0, sizeof it->counts);
     }
     check_handle(it, answer);
@@ -141,7 +146,9 @@ static void call_defaults(void) {
     if (answer != GOZDRIT_OK) return;
     same(1024, config->history, "history");
     same(4, config->repeats, "repeats");
-    holds(config->first == 0 && config->rtx_first == 0 && config->any_reporter == 0 && config->reserved == 0, "all else is 0");
+    holds(config->first == 0 && config->rtx_first == 0 && config->any_reporter == 0 && config->min_resend == 0
+              && config->deadline == 0,
+          "all else is 0");
     holds(config->session.media_ssrc == 0 && config->session.rtx_ssrc == 0 && config->session.receiver_ssrc == 0
               && config->session.media_type == 0 && config->session.rtx_type == 0 && config->session.any_media_type == 0,
           "the session is 0");
@@ -162,6 +169,8 @@ static bool make_packet(struct sender *it, struct kept *made, const gozdrit_head
     made->digest = digest(header, payload, length);
     made->repeats = 0;
     made->is_marked = false;
+    made->sent_at = it->now;
+    made->was_resent = false;
     return true;
 }
 
@@ -251,17 +260,55 @@ static uint64_t next_marked(struct sender *it) {
     return sequence;
 }
 
+static bool has_rule(const struct sender *it) { return it->config.min_resend > 0 || it->config.deadline > 0; }
+
+static uint64_t since(const struct sender *it, uint64_t moment) { return it->now > moment ? it->now - moment : 0; }
+
+static bool is_expired(const struct sender *it, const struct kept *kept) {
+    return it->config.deadline > 0 && since(it, kept->sent_at) > it->config.deadline;
+}
+
+static bool is_early(const struct sender *it, const struct kept *kept) {
+    return kept->was_resent && since(it, kept->resent_at) < it->config.min_resend;
+}
+
+/* The least sequence that is to be retransmitted and fits the time, or the next one where there is none. */
+static uint64_t next_fitting(struct sender *it) {
+    uint64_t sequence = next_marked(it);
+    while (sequence < it->next) {
+        struct kept *kept = kept_at(it, sequence);
+        if (kept->is_marked && !is_expired(it, kept) && !is_early(it, kept)) return sequence;
+        sequence++;
+    }
+    return sequence;
+}
+
+/* Takes the marks of what lies below that. */
+static void pass_over(struct sender *it, uint64_t end) {
+    uint64_t sequence;
+    while ((sequence = next_marked(it)) < end) {
+        struct kept *kept = kept_at(it, sequence);
+        kept->is_marked = false;
+        if (is_expired(it, kept)) it->counts.expired++;
+        else it->counts.early++;
+    }
+}
+
 static void retransmit(struct sender *it, uint64_t sequence, const uint8_t *datagram, size_t length, size_t room) {
+    size_t wanted = it->is_made && has_rule(it) ? GOZDRIT_MAX_DATAGRAM : length;
     gozdrit_sent *sent = pointer(lend_out(AREA_TOLD, sizeof *sent));
     uint8_t *out = octets_pointer(lend_out(AREA_OUT, room), room);
     gozdrit_sender *handle = lend(it, true);
     int32_t answer = one_in(8) ? gozdrit_next_repair(handle, sent, out, room) : gozdrit_retransmit(handle, sent, out, room);
-    end_call(unless_none(it, room < length ? GOZDRIT_NO_ROOM : GOZDRIT_OK), answer);
+    end_call(unless_none(it, room < wanted ? GOZDRIT_NO_ROOM : GOZDRIT_OK), answer);
     check_handle(it, answer);
     check_sent(answer, datagram, length, sequence);
+    if (answer == GOZDRIT_OK) pass_over(it, sequence);
     if (answer == GOZDRIT_OK && length > 0) {
         struct kept *kept = kept_at(it, sequence);
         kept->is_marked = false;
+        kept->was_resent = true;
+        kept->resent_at = it->now;
         kept->repeats++;
         it->rtx_next++;
         it->counts.retransmissions++;
@@ -269,16 +316,34 @@ static void retransmit(struct sender *it, uint64_t sequence, const uint8_t *data
     }
 }
 
-static void call_retransmit(struct sender *it) {
+/* The next retransmission that fits the time, with this room. A call that has too little passes nothing over. */
+static void retransmit_next(struct sender *it, bool is_short) {
     static uint8_t datagram[GOZDRIT_MAX_DATAGRAM];
-    uint64_t sequence = next_marked(it);
-    size_t length = sequence < it->next ? make_retransmission(it, kept_at(it, sequence), datagram) : 0;
+    bool ruled = it->is_made && has_rule(it);
+    uint64_t sequence;
+    size_t length, room;
+    sequence = ruled ? next_fitting(it) : next_marked(it);
+    length = sequence < it->next ? make_retransmission(it, kept_at(it, sequence), datagram) : 0;
+    if (is_short && !ruled && length == 0) return;
+    room = ruled ? GOZDRIT_MAX_DATAGRAM : is_short ? length : draw_room(length, GOZDRIT_MAX_DATAGRAM);
     begin_call(CALL_retransmit);
-    if (length > 0 && one_in(4)) {
-        retransmit(it, sequence, datagram, length, length - 1);
-        begin_call(CALL_retransmit);
-    }
-    retransmit(it, sequence, datagram, length, draw_room(length, GOZDRIT_MAX_DATAGRAM));
+    retransmit(it, sequence, datagram, length, is_short ? room - 1 : room);
+}
+
+static void call_retransmit(struct sender *it) {
+    if (one_in(4)) retransmit_next(it, true);
+    retransmit_next(it, false);
+}
+
+/* Moments fall too, now and then. */
+static void call_time(struct sender *it) {
+    uint64_t now = one_in(20) ? random_bits() : it->now + below(80);
+    int32_t answer;
+    begin_call(CALL_sender_time);
+    answer = gozdrit_sender_time(lend(it, true), now);
+    end_call(unless_none(it, GOZDRIT_OK), answer);
+    if (answer == GOZDRIT_OK) it->now = now;
+    check_handle(it, answer);
 }
 
 /* ---- what it hears */
@@ -454,6 +519,8 @@ static void call_counts(struct sender *it) {
     same(it->counts.media, counts->media, "counts->media");
     same(it->counts.reports, counts->reports, "counts->reports");
     same(it->counts.refused, counts->refused, "counts->refused");
+    same(it->counts.early, counts->early, "counts->early");
+    same(it->counts.expired, counts->expired, "counts->expired");
 }
 
 void call_sender(void) {
@@ -466,6 +533,7 @@ void call_sender(void) {
     else if (which < 500) call_send(it);
     else if (which < 700) call_feedback(it);
     else if (which < 940) call_retransmit(it);
-    else if (which < 970) call_mark_last(it);
+    else if (which < 960) call_mark_last(it);
+    else if (which < 980) call_time(it);
     else call_counts(it);
 }

@@ -1,0 +1,111 @@
+-- What a receiver of C's does with a datagram, an ask and a play: what its endpoint does; and its path is measured by that, where the
+-- times of asks follow it.
+use Rattle.std.specs.Prelude.{◌≡◌, ℕ, ◌≤◌, Bool, true, false, List, length, take, Option, Some, None, Result, Ok, OnErr, IsOk}
+use Rattle.rtpwire.specs.declared.fault.TooShort.{TooShort}
+use Rattle.receiver.specs.declared.answer.Played.{Played}
+use Rattle.receiver.specs.declared.answer.Played.TheVariants.{Packet, Gap, Wait}
+use Rattle.receiver.specs.declared.fault.ReceiveFault.{ReceiveFault}
+use Rattle.receiver.specs.Asks.{AsksMostInto}
+use Rattle.receiver.specs.Peeking.{play_of, receiver_passed}
+use Rattle.receiver.specs.Receiver.{Receiving, Stays, state_of}
+use Rattle.receiver.specs.Window.{PlaysAny}
+use Rattle.stores.specs.Span.{highest_of}
+use Rattle.endpoint.specs.declared.heard.Heard.{Heard}
+use Rattle.endpoint.specs.declared.kind.Kind.{Kind}
+use Rattle.endpoint.specs.declared.path_meter.PathMeter.{PathMeter}
+use Rattle.endpoint.specs.declared.standing.Standing.{Standing}
+use Rattle.endpoint.specs.Asked.{RemembersAskInto, kept_after}
+use Rattle.endpoint.specs.Kinds.{IsKind, count_kind}
+use Rattle.endpoint.specs.Measuring.{IsStanding, meter_asked, meter_heard, meter_passed, times_set}
+use Rattle.endpoint.specs.Receiving.{HearsDatagram, ends_of}
+use Rattle.endpoint.specs.ReceiveCounts.{count_heard, count_played, CountsAskInto}
+use Rattle.timing.specs.Path.{times_over}
+use Rattle.gozdrit.specs.Ends.{Receiver}
+
+-- its receiver that has what is believed
+abbrev pub core_of : Receiver → Receiving
+core_of r = r.endpoint.endpoint.core
+
+-- with these receivers, and all else as it was
+abbrev pub with_ends : Receiver → (core spare : Receiving) → Receiver
+with_ends r core spare = record r { endpoint = record r.endpoint { endpoint = record r.endpoint.endpoint { core = core; spare = spare } } }
+
+-- what the endpoint's own call promises of a datagram
+pub record HearsOwn (before : Receiver) (octets : List ℕ) (now : ℕ) (answer : Result Heard ReceiveFault) (after : Receiver) : Type 0 where
+  pub kind : Kind
+  pub hears : HearsDatagram before.endpoint.endpoint.probation (ends_of (core_of before) before.endpoint.endpoint.spare before.endpoint.endpoint.run) octets now answer
+      (ends_of (core_of after) after.endpoint.endpoint.spare after.endpoint.endpoint.run)
+  pub probation : after.endpoint.endpoint.probation ≡ before.endpoint.endpoint.probation
+  pub counts : after.endpoint.endpoint.counts ≡ count_heard answer before.endpoint.endpoint.counts
+  pub kind_is : IsKind before.endpoint.asked (core_of before).config.session (highest_of (core_of before).span) octets answer kind
+  pub asked : after.endpoint.asked ≡ kept_after answer before.endpoint.asked
+  pub kinds : after.endpoint.kinds ≡ count_kind kind answer before.endpoint.kinds
+
+-- where something was measured since they did, the times follow
+abbrev pub timed_by : PathMeter → (now : ℕ) → Receiver → Receiver
+timed_by m now r =
+    let times = times_over m.path (core_of r).config.patience now in
+    record (with_ends r (times_set times (core_of r).config.patience (core_of r)) (times_set times (core_of r).config.patience r.endpoint.endpoint.spare)) { meter = record m { is_new = false } }
+
+abbrev pub timed_where : (is_new : Bool) → PathMeter → (now : ℕ) → Receiver → Receiver
+timed_where true m now r = timed_by m now r
+timed_where false m now r = record r { meter = m }
+
+-- What was heard is measured, by where the receiver stood before.
+abbrev pub Measures : (follows : Bool) → (before : Receiver) → (octets : List ℕ) → (now : ℕ) → Result Heard ReceiveFault → (mid after : Receiver) → Type 0
+Measures false before octets now answer mid after = after ≡ mid
+Measures true before octets now answer mid after =
+    (standing : Standing) × IsStanding (core_of before) octets standing
+    × (after ≡ timed_where (meter_heard answer standing now before.meter).is_new (meter_heard answer standing now before.meter) now mid)
+
+-- a datagram
+pub record HearsAs (before : Receiver) (octets : List ℕ) (now : ℕ) (answer : Result Heard ReceiveFault) (after : Receiver) : Type 0 where
+  pub mid : Receiver  -- what the endpoint's own call leaves
+  pub own : HearsOwn before octets now answer mid
+  pub meter : mid.meter ≡ before.meter
+  pub follows : mid.follows ≡ before.follows
+  pub measures : Measures before.follows before octets now answer mid after
+
+-- a place that is played or given up is measured no longer
+abbrev pub meter_after : (place : Option ℕ) → PathMeter → PathMeter
+meter_after None m = m
+meter_after (Some place) m = meter_passed place m
+
+-- the place that a play passes
+abbrev pub place_of : Played → Option ℕ
+place_of (Packet place content) = Some place
+place_of (Gap place) = Some place
+place_of Wait = None
+
+-- a play, of which this place is to be measured no longer
+pub record PassesAs (before : Receiver) (place : Option ℕ) (now : ℕ) (after : Receiver) : Type 0 where
+  pub passes : core_of after ≡ receiver_passed (play_of (core_of before).config.patience now (core_of before).span) (core_of before)
+  pub plays : PlaysAny (core_of before).config.patience (state_of (core_of before)) now (play_of (core_of before).config.patience now (core_of before).span) (state_of (core_of after))
+  pub counts : after.endpoint.endpoint.counts ≡ count_played (play_of (core_of before).config.patience now (core_of before).span) before.endpoint.endpoint.counts
+  pub rest : after ≡ record before { endpoint = record before.endpoint { endpoint = record before.endpoint.endpoint { core = core_of after; counts = after.endpoint.endpoint.counts } }; meter = meter_after place before.meter }
+
+-- a play
+pub record PlaysAs (before : Receiver) (now : ℕ) (answer : Played) (after : Receiver) : Type 0 where
+  pub plays : PlaysAny (core_of before).config.patience (state_of (core_of before)) now answer (state_of (core_of after))
+  pub passes : core_of after ≡ receiver_passed answer (core_of before)
+  pub counts : after.endpoint.endpoint.counts ≡ count_played answer before.endpoint.endpoint.counts
+  pub rest : after ≡ record before { endpoint = record before.endpoint { endpoint = record before.endpoint.endpoint { core = core_of after; counts = after.endpoint.endpoint.counts } }; meter = meter_after (place_of answer) before.meter }
+
+-- an ask is measured by its NACK
+abbrev pub meter_of_ask : (follows : Bool) → Receiving → (out : List ℕ) → Result (Option ℕ) TooShort → (now : ℕ) → PathMeter → PathMeter
+meter_of_ask true core out (Ok (Some len)) now m = meter_asked core.span (take len out) now m
+meter_of_ask follows core out answer now m = m
+
+-- an ask
+pub record AsksAs (before : Receiver) (now most : ℕ) (out : List ℕ) (answer : Result (Option ℕ) TooShort) (out' : List ℕ) (after : Receiver) : Type 0 where
+  pub asks : AsksMostInto (core_of before).config (state_of (core_of before)) now most out answer out' (state_of (core_of after))
+  pub enough : 268 ≤ length out → IsOk answer
+  pub err : OnErr answer (core_of after ≡ core_of before)
+  pub none : answer ≡ Ok None → core_of after ≡ core_of before
+  pub stays : Stays (core_of before) (core_of after)
+  pub counts : CountsAskInto out' answer before.endpoint.endpoint.counts after.endpoint.endpoint.counts
+  pub asked : RemembersAskInto (highest_of (core_of before).span) out' answer before.endpoint.asked after.endpoint.asked
+  pub rest : after ≡ record before {
+    endpoint = record before.endpoint { endpoint = record before.endpoint.endpoint { core = core_of after; counts = after.endpoint.endpoint.counts }; asked = after.endpoint.asked };
+    meter = meter_of_ask before.follows (core_of after) out' answer now before.meter;
+  }

@@ -1,0 +1,106 @@
+/* A receiver whose NACKs follow the path: its round trip, and how far packets come behind later ones. */
+#include "checks.h"
+
+static const gozdrit_receiver_config CONFIG = {
+    .session = SESSION, .patience = 200, .retry = 40, .window = 64, .nacks = 9, .delay = 20, .follows = 1};
+
+static gozdrit_receiver receiver_of(const gozdrit_receiver_config *config) {
+    gozdrit_receiver r = {NULL, 0};
+    ANSWERS(GOZDRIT_OK, gozdrit_receiver_new(config, &r));
+    return r;
+}
+
+/* The times in force, and a round trip with its variation, or none. */
+static void times(const gozdrit_receiver *r, uint64_t delay, uint64_t retry, uint64_t round_trip, uint64_t variation) {
+    const bool known = round_trip > 0;
+    gozdrit_times told;
+    FILL(told);
+    ANSWERS(GOZDRIT_OK, gozdrit_receiver_times(r, &told));
+    CHECK(told.delay == delay && told.retry == retry && told.known == known);
+    CHECK(known ? told.round_trip == round_trip && told.variation == variation
+                : UNTOUCHED(told.round_trip) && UNTOUCHED(told.variation));
+}
+
+/* 101 is asked for at 25, and its answer comes at 65. The first measurement is 40 ms, with half of it as its variation (RFC 6298,
+ * section 2.2): a NACK then comes at once, an answer takes 40 + 20 + 5 ms, and NACKs lie 40 + 4 * 20 + 5 ms apart at least. One
+ * fits behind the first: 200 - 65 ms after it. */
+static void measures_forty(gozdrit_receiver *r, uint64_t start, uint16_t number) {
+    HEARS_MEDIA(r, number, start, MEDIA(65536 + (uint64_t)number));
+    HEARS_MEDIA(r, (uint16_t)(number + 2), start + 5, MEDIA(65538 + (uint64_t)number));
+    NACKS(r, start + 25, GOZDRIT_MOST, PAIR((uint16_t)(number + 1), 0));
+    times(r, 20, 40, 0, 0);
+    HEARS_RTX(r, 0x22222222, (uint16_t)(number + 1), start + 65,
+              ((gozdrit_heard){.kind = GOZDRIT_RETRANSMISSION, .sequence = 65537 + (uint64_t)number}));
+    times(r, 0, 135, 40, 20);
+}
+
+static void test_round_trip(void) {
+    gozdrit_receiver r = receiver_of(&CONFIG);
+    times(&r, 20, 40, 0, 0);
+    measures_forty(&r, 0, 100);
+    /* 103 is asked for at its notice, and 135 ms later: that is in doubt then (RFC 6298, section 3), and measures nothing */
+    HEARS_MEDIA(&r, 104, 100, MEDIA(65640));
+    CALLS_AT(&r, true, 0);
+    NACKS(&r, 100, GOZDRIT_MOST, PAIR(103, 0));
+    NACKS(&r, 234, GOZDRIT_MOST, NO_PAIR);
+    NACKS(&r, 235, GOZDRIT_MOST, PAIR(103, 0));
+    HEARS_RTX(&r, 0x22222222, 103, 236, ((gozdrit_heard){.kind = GOZDRIT_RETRANSMISSION, .sequence = 65639}));
+    times(&r, 0, 135, 40, 20);
+    ANSWERS(GOZDRIT_OK, gozdrit_receiver_free(&r));
+}
+
+/* 105 comes 8 ms after it was noticed to be missing: the first NACK waits that long from then on, and the rest of the time is
+ * less by it. */
+static void test_reordering(void) {
+    gozdrit_receiver r = receiver_of(&CONFIG);
+    measures_forty(&r, 0, 100);
+    HEARS_MEDIA(&r, 103, 70, MEDIA(65639));
+    HEARS_MEDIA(&r, 105, 72, MEDIA(65641));
+    HEARS_MEDIA(&r, 104, 80, MEDIA(65640));
+    times(&r, 8, 127, 40, 20);
+    ANSWERS(GOZDRIT_OK, gozdrit_receiver_free(&r));
+}
+
+/* Other times hold until the next datagram; a restart leaves the round trip, and no place of before is measured. */
+static void test_set_and_restart(void) {
+    gozdrit_receiver r = receiver_of(&CONFIG);
+    measures_forty(&r, 0, 100);
+    ANSWERS(GOZDRIT_OK, gozdrit_set_times(&r, 400, 7, 9));
+    times(&r, 7, 9, 40, 20);
+    HEARS_MEDIA(&r, 103, 70, MEDIA(65639));
+    times(&r, 0, 167, 40, 20); /* 400 - 65 ms have room for two more, 125 ms apart or farther */
+    HEARS_MEDIA(&r, 105, 80, MEDIA(65641));
+    NACKS(&r, 80, GOZDRIT_MOST, PAIR(104, 0));
+    ANSWERS(GOZDRIT_OK, gozdrit_restart(&r));
+    times(&r, 0, 167, 40, 20);
+    HEARS_MEDIA(&r, 103, 90, MEDIA(65639));
+    HEARS_RTX(&r, 0x22222222, 104, 91, ((gozdrit_heard){.kind = GOZDRIT_RETRANSMISSION, .sequence = 65640}));
+    times(&r, 0, 167, 40, 20);
+    ANSWERS(GOZDRIT_OK, gozdrit_receiver_free(&r));
+}
+
+/* One that does not follow keeps its times, and measures nothing. */
+static void test_without(void) {
+    gozdrit_receiver_config config = CONFIG;
+    gozdrit_receiver r;
+    config.follows = 0;
+    r = receiver_of(&config);
+    HEARS_MEDIA(&r, 100, 0, MEDIA(65636));
+    HEARS_MEDIA(&r, 102, 5, MEDIA(65638));
+    NACKS(&r, 25, GOZDRIT_MOST, PAIR(101, 0));
+    HEARS_RTX(&r, 0x22222222, 101, 65, ((gozdrit_heard){.kind = GOZDRIT_RETRANSMISSION, .sequence = 65637}));
+    times(&r, 20, 40, 0, 0);
+    ANSWERS(GOZDRIT_OK, gozdrit_receiver_free(&r));
+}
+
+void test_follows(void) {
+    const gozdrit_receiver none = {NULL, 0};
+    gozdrit_times told;
+    FILL(told);
+    ANSWERS(GOZDRIT_NO_END, gozdrit_receiver_times(&none, &told));
+    CHECK(UNTOUCHED(told));
+    test_round_trip();
+    test_reordering();
+    test_set_and_restart();
+    test_without();
+}

@@ -1,0 +1,96 @@
+/* Which retransmissions fit the time: none again too soon, and none past its deadline. */
+#include "checks.h"
+
+/* It keeps 4 packets from 65736 on, retransmits none within 50 ms of its last retransmission, and none 200 ms after it was sent. */
+static const gozdrit_sender_config CONFIG = {
+    .session = SESSION, .history = 4, .first = 200, .rtx_first = 7, .repeats = 9, .min_resend = 50, .deadline = 200};
+
+static void at(gozdrit_sender *sender, uint64_t now) { ANSWERS(GOZDRIT_OK, gozdrit_sender_time(sender, now)); }
+
+static void sends(gozdrit_sender *sender, uint64_t now, uint64_t sequence) {
+    static const gozdrit_header plain = {.timestamp = 100};
+    const uint8_t octet = 0xd1;
+    uint8_t out[GOZDRIT_MAX_DATAGRAM];
+    gozdrit_sent sent;
+    at(sender, now);
+    ANSWERS(GOZDRIT_OK, gozdrit_send(sender, &plain, &octet, 1, 0, &sent, out, sizeof out));
+    CHECK(sent.sequence == sequence);
+}
+
+static void names(gozdrit_sender *sender, uint16_t pid, uint16_t blp) {
+    uint8_t nack[NACK_LENGTH];
+    gozdrit_told told;
+    write_nack(nack, 0x33333333, 0x11111111, pid, blp);
+    ANSWERS(GOZDRIT_OK, gozdrit_feedback(sender, nack, sizeof nack, &told));
+    CHECK(told.kind == GOZDRIT_FEEDBACK);
+}
+
+/* The next retransmission at a moment is that of this sequence number, or none where it is 0. Less room than any datagram may need
+ * is refused, and passes nothing over. */
+static void repeats(gozdrit_sender *sender, uint64_t now, uint64_t sequence) {
+    uint8_t out[GOZDRIT_MAX_DATAGRAM];
+    gozdrit_send_counts before, after;
+    gozdrit_sent sent;
+    FILL(sent);
+    FILL(out);
+    at(sender, now);
+    ANSWERS(GOZDRIT_OK, gozdrit_sender_counts(sender, &before));
+    ANSWERS(GOZDRIT_NO_ROOM, gozdrit_retransmit(sender, &sent, out, sizeof out - 1));
+    ANSWERS(GOZDRIT_OK, gozdrit_sender_counts(sender, &after));
+    CHECK(UNTOUCHED(sent) && UNTOUCHED(out) && memcmp(&before, &after, sizeof before) == 0);
+    ANSWERS(GOZDRIT_OK, gozdrit_retransmit(sender, &sent, out, sizeof out));
+    CHECK(sequence == 0 ? sent.length == 0 && UNTOUCHED(sent.sequence) : sent.length == 15 && sent.sequence == sequence);
+}
+
+/* Sent at 1000 and 1010. The first is retransmitted at 1040, and named again too soon at 1089; at 1090 it is not. */
+static void test_too_soon(gozdrit_sender *sender) {
+    sends(sender, 1000, 65736);
+    sends(sender, 1010, 65737);
+    names(sender, 200, 0);
+    repeats(sender, 1040, 65736);
+    names(sender, 200, 1);
+    repeats(sender, 1089, 65737); /* what lies below and comes too soon is passed over */
+    repeats(sender, 1090, 0);
+    names(sender, 200, 0);
+    repeats(sender, 1090, 65736);
+    CHECK(is_counted_sent(sender, (gozdrit_send_counts){.sent = 2, .octets = 2, .retransmissions = 3, .nacks = 3,
+                                                        .numbers = 4, .early = 1}));
+}
+
+/* At 1210 the second is 200 ms old, and fits still; the first does not. At 1211 neither does. */
+static void test_too_late(gozdrit_sender *sender) {
+    names(sender, 200, 1);
+    repeats(sender, 1210, 65737);
+    names(sender, 201, 0);
+    repeats(sender, 1260, 0);
+    CHECK(is_counted_sent(sender, (gozdrit_send_counts){.sent = 2, .octets = 2, .retransmissions = 4, .nacks = 5,
+                                                        .numbers = 7, .early = 1, .expired = 2}));
+}
+
+/* Without either rule the moment makes no difference. */
+static void test_no_rule(void) {
+    gozdrit_sender_config config = CONFIG;
+    gozdrit_sender sender = {NULL, 0};
+    gozdrit_sent sent;
+    uint8_t out[15];
+    config.min_resend = config.deadline = 0;
+    ANSWERS(GOZDRIT_OK, gozdrit_sender_new(&config, &sender));
+    sends(&sender, 5000, 65736);
+    for (int i = 0; i < 3; i++) {
+        at(&sender, i == 2 ? UINT64_MAX : 0);
+        names(&sender, 200, 0);
+        ANSWERS(GOZDRIT_OK, gozdrit_retransmit(&sender, &sent, out, sizeof out));
+        CHECK(sent.length == 15 && sent.sequence == 65736);
+    }
+    ANSWERS(GOZDRIT_OK, gozdrit_sender_free(&sender));
+}
+
+void test_resend(void) {
+    gozdrit_sender sender = {NULL, 0};
+    ANSWERS(GOZDRIT_NO_END, gozdrit_sender_time(&sender, 1));
+    ANSWERS(GOZDRIT_OK, gozdrit_sender_new(&CONFIG, &sender));
+    test_too_soon(&sender);
+    test_too_late(&sender);
+    ANSWERS(GOZDRIT_OK, gozdrit_sender_free(&sender));
+    test_no_rule();
+}
