@@ -49,7 +49,6 @@ static GstBuffer *next_nack(GstGozdritRecv *self, guint64 now) {
     if (!self->end.held) return NULL;
     gint32 number = gozdrit_nack(&self->end, now, GOZDRIT_MOST, &length, octets, sizeof octets);
     if (number != GOZDRIT_OK || length == 0) return NULL;
-    receiving_asked(self, octets, length, now);
     return gst_buffer_new_memdup(octets, length);
 }
 

@@ -3,8 +3,8 @@
 #include <gst/rtp/rtp.h>
 #include <stdio.h>
 
-/* How long an answer is waited for until a round trip is known, and the least of its spread, in milliseconds. */
-enum { USUAL_TRIP = 60, SPREAD = 5 };
+/* How long an answer is waited for until a round trip is known, in milliseconds. */
+enum { USUAL_TRIP = 60 };
 
 /* A delay that no packet is waited for so long: nothing is asked for. */
 #define NEVER ((guint64)G_MAXUINT32 * 2)
@@ -115,12 +115,19 @@ static gboolean begin(GstGozdritRecv *self, const guint8 *octets, gsize length) 
     return TRUE;
 }
 
-static void count_past(GstGozdritRecv *self) {
-    gozdrit_receive_counts counts;
-    if (gozdrit_receiver_counts(&self->end, &counts) != GOZDRIT_OK) return;
-    guint64 *past = (guint64 *)&self->past;
-    const guint64 *now = (const guint64 *)&counts;
-    for (gsize i = 0; i < sizeof counts / sizeof *now; i++) past[i] += now[i];
+/* Both structs are counts alone. */
+static void add_counts(void *sum, const void *more, gsize size) {
+    for (gsize i = 0; i < size / sizeof(guint64); i++) ((guint64 *)sum)[i] += ((const guint64 *)more)[i];
+}
+
+/* What was counted so far: by the sessions before, and by this one. */
+static void count_all(const GstGozdritRecv *self, gozdrit_receive_counts *counts, gozdrit_receive_kinds *kinds) {
+    gozdrit_receive_counts more;
+    gozdrit_receive_kinds more_kinds;
+    *counts = self->past;
+    *kinds = self->past_kinds;
+    if (gozdrit_receiver_counts(&self->end, &more) == GOZDRIT_OK) add_counts(counts, &more, sizeof more);
+    if (gozdrit_receiver_kinds(&self->end, &more_kinds) == GOZDRIT_OK) add_counts(kinds, &more_kinds, sizeof more_kinds);
 }
 
 void receiving_end(GstGozdritRecv *self) {
@@ -128,16 +135,14 @@ void receiving_end(GstGozdritRecv *self) {
     if (!self->end.held) return;
     playing_all(self, G_MAXINT64); /* at this moment no patience has not passed */
     playing_release(self);
-    count_past(self);
+    count_all(self, &self->past, &self->past_kinds);
     gozdrit_receiver_free(&self->end);
-    self->trip.waiting = FALSE;
     rtp_times_begin(&self->times, self->times.clock_rate);
 }
 
 void receiving_flush(GstGozdritRecv *self) {
     gst_clear_buffer(&self->other.buffer);
     if (self->end.held) gozdrit_restart(&self->end);
-    self->trip.waiting = FALSE;
     rtp_times_begin(&self->times, self->times.clock_rate);
     playing_clear(self);
     playing_begin_stream(self);
@@ -162,7 +167,6 @@ static void note_arrival(GstGozdritRecv *self, GstBuffer *buffer, const guint8 *
     noted->dts = GST_BUFFER_DTS(buffer);
     noted->timestamp = PACKET_TIMESTAMP(octets);
     noted->known = TRUE;
-    noted->asked = FALSE;
     if (believed) rtp_times_arrived(&self->times, noted->timestamp, noted->pts);
 }
 
@@ -204,32 +208,12 @@ static void take_other(GstGozdritRecv *self, GstBuffer *buffer, const guint8 *oc
     if (self->end.held) take(self, buffer, octets, length, now);
 }
 
-/* A repair of the packet that was asked for once tells the round trip (RFC 6298, section 2). */
-static void measure(GstGozdritRecv *self, guint64 sequence, guint64 now) {
-    round_trip *trip = &self->trip;
-    if (!trip->waiting || (guint16)sequence != trip->asked || now < trip->at) return;
-    gint64 took = (gint64)(now - trip->at);
-    trip->waiting = FALSE;
-    if (trip->smooth < 0) {
-        trip->smooth = took * 8;
-        trip->apart = took * 2;
-    } else {
-        trip->apart += ABS(took - trip->smooth / 8) - trip->apart / 4;
-        trip->smooth += took - trip->smooth / 8;
-    }
-    receiving_set_times(self);
-}
-
 static void take(GstGozdritRecv *self, GstBuffer *buffer, const guint8 *octets, gsize length, guint64 now) {
     gozdrit_heard heard;
     if (gozdrit_receive(&self->end, octets, length, now, &heard) != GOZDRIT_OK) return;
     switch (heard.kind) {
     case GOZDRIT_MEDIA: note_arrival(self, buffer, octets, TRUE); break;
     case GOZDRIT_HELD_BACK: note_arrival(self, buffer, octets, FALSE); break;
-    case GOZDRIT_RETRANSMISSION:
-        measure(self, heard.sequence, now);
-        self->arrivals[(guint16)heard.sequence % ARRIVALS].asked = FALSE;
-        break;
     case GOZDRIT_RESTARTED: restarted(self, buffer, octets); break;
     case GOZDRIT_NOT_TAKEN:
         GST_LOG_OBJECT(self, "not taken: %s", gozdrit_refusal_name(heard.refusal));
@@ -252,75 +236,56 @@ void receiving_packet(GstGozdritRecv *self, GstBuffer *buffer, const guint8 *oct
 
 /* ---- times */
 
-/* Notes what a NACK asks for (RFC 4585, section 6.2.1). The answer to the first packet that it names shows the round trip, where
- * none is measured, and where that packet was not asked for before: else it is open which NACK is answered. */
-void receiving_asked(GstGozdritRecv *self, const guint8 *nack, gsize length, guint64 now) {
-    round_trip *trip = &self->trip;
-    guint16 first = GST_READ_UINT16_BE(nack + 12);
-    gboolean again = self->arrivals[first % ARRIVALS].asked;
-    for (gsize at = 12; at + 4 <= length; at += 4) {
-        guint32 named = (guint32)GST_READ_UINT16_BE(nack + at + 2) << 1 | 1;
-        for (guint i = 0; i <= 16; i++) {
-            guint16 number = (guint16)(GST_READ_UINT16_BE(nack + at) + i);
-            if (!(named >> i & 1)) continue;
-            self->arrivals[number % ARRIVALS].asked = TRUE;
-            if (trip->asked == number) trip->waiting = FALSE;
-        }
-    }
-    if (again || (trip->waiting && now <= trip->at + self->settings.latency)) return;
-    trip->waiting = TRUE;
-    trip->asked = first;
-    trip->at = now;
+/* Until a round trip is known, and where a property says how long an answer is waited for. */
+static guint64 retry_of(const GstGozdritRecv *self) {
+    return self->settings.retry < 0 ? USUAL_TRIP : (guint64)MAX(self->settings.retry, 1);
 }
 
-/* What is waited for an answer: the property, or the round trip with its spread, and what is usual until one is known. Where the
- * latency is too short for all NACKs of a packet with the answer to the last, so much less is waited for as lets them fit; but not
- * less than the round trip and its deviation: sooner, most packets would be asked for again. */
-static guint64 retry_of(const GstGozdritRecv *self) {
-    const recv_settings *settings = &self->settings;
-    const round_trip *trip = &self->trip;
-    if (settings->retry >= 0) return (guint64)MAX(settings->retry, 1);
-    if (trip->smooth < 0) return USUAL_TRIP;
-    guint64 answer = (guint64)trip->smooth / 8 + 1, spread = (guint64)MAX(trip->apart, SPREAD);
-    guint64 soonest = answer + (guint64)trip->apart / 4;
-    guint64 around = settings->delay + answer + SPREAD; /* what passes before the first NACK and behind the last */
-    guint64 room = settings->latency - MIN(around, settings->latency);
-    return MAX(soonest, MIN(answer + spread, room / MAX(settings->nacks - 1, 1)));
+/* The times in force, and the round trip. */
+static gozdrit_times times_of(const GstGozdritRecv *self) {
+    gozdrit_times times = {0};
+    if (self->end.held) gozdrit_receiver_times(&self->end, &times);
+    return times;
 }
 
 guint64 receiving_step(const GstGozdritRecv *self) {
-    return MAX(MIN(self->settings.delay, retry_of(self)), 1);
+    return MAX(MIN(self->settings.delay, times_of(self).retry), 1);
 }
 
+/* The times follow what the library measures of the path, where no property says how long an answer is waited for. */
 void receiving_set_times(GstGozdritRecv *self) {
-    guint64 delay = self->caps.nack == 0 ? NEVER : self->settings.delay;
-    if (self->end.held) gozdrit_set_times(&self->end, self->settings.latency, delay, retry_of(self));
+    gboolean wanted = self->caps.nack != 0;
+    if (!self->end.held) return;
+    gozdrit_set_times(&self->end, self->settings.latency, wanted ? self->settings.delay : NEVER, retry_of(self));
+    gozdrit_follow(&self->end, wanted && self->settings.retry < 0);
 }
 
 /* ---- counts */
 
 GstStructure *receiving_counts(GstGozdritRecv *self) {
     GstStructure *told = gst_structure_new_empty("application/x-gozdrit-receive-counts");
-    gozdrit_receive_counts now = {0};
-    const gozdrit_receive_counts *past = &self->past;
-    if (self->end.held) gozdrit_receiver_counts(&self->end, &now);
-    ADD_COUNT(told, "media", now.media + past->media);
-    ADD_COUNT(told, "retransmissions", now.retransmissions + past->retransmissions);
-    ADD_COUNT(told, "held-back", now.held_back + past->held_back);
-    ADD_COUNT(told, "restarts", now.restarts + past->restarts);
-    ADD_COUNT(told, "rtcp", now.rtcp + past->rtcp);
-    ADD_COUNT(told, "duplicate", now.duplicate + past->duplicate);
-    ADD_COUNT(told, "late", now.late + past->late);
-    ADD_COUNT(told, "far", now.far + past->far);
-    ADD_COUNT(told, "refused", now.refused + past->refused);
-    ADD_COUNT(told, "overrun", now.overrun + past->overrun);
-    ADD_COUNT(told, "abandoned", now.abandoned + past->abandoned);
-    ADD_COUNT(told, "played", now.played + past->played);
-    ADD_COUNT(told, "gaps", now.gaps + past->gaps);
-    ADD_COUNT(told, "nacks", now.nacks + past->nacks);
-    ADD_COUNT(told, "nacked", now.nacked + past->nacked);
+    gozdrit_receive_counts counts;
+    gozdrit_receive_kinds kinds;
+    count_all(self, &counts, &kinds);
+    ADD_COUNT(told, "media", counts.media);
+    ADD_COUNT(told, "retransmissions", counts.retransmissions);
+    ADD_COUNT(told, "held-back", counts.held_back);
+    ADD_COUNT(told, "restarts", counts.restarts);
+    ADD_COUNT(told, "rtcp", counts.rtcp);
+    ADD_COUNT(told, "padding", kinds.padding);
+    ADD_COUNT(told, "unasked", kinds.unasked);
+    ADD_COUNT(told, "duplicate", kinds.duplicate);
+    ADD_COUNT(told, "late", kinds.late);
+    ADD_COUNT(told, "far", counts.far);
+    ADD_COUNT(told, "refused", kinds.refused);
+    ADD_COUNT(told, "overrun", counts.overrun);
+    ADD_COUNT(told, "abandoned", counts.abandoned);
+    ADD_COUNT(told, "played", counts.played);
+    ADD_COUNT(told, "gaps", counts.gaps);
+    ADD_COUNT(told, "nacks", counts.nacks);
+    ADD_COUNT(told, "nacked", counts.nacked);
     ADD_COUNT(told, "strays", self->strays);
     ADD_COUNT(told, "sessions", self->sessions);
-    ADD_COUNT(told, "rtx-round-trip", (guint64)MAX(self->trip.smooth, 0) / 8 * MILLISECOND);
+    ADD_COUNT(told, "rtx-round-trip", times_of(self).round_trip * MILLISECOND);
     return told;
 }

@@ -227,10 +227,10 @@ static void begin(GstGozdritRecv *self) {
     element_time_begin(&self->time, GST_ELEMENT(self));
     self->caps = (recv_caps){-1, -1, -1, -1, -1, -1, -1};
     self->past = (gozdrit_receive_counts){0};
+    self->past_kinds = (gozdrit_receive_kinds){0};
     self->sessions = self->strays = 0;
     self->refused = GOZDRIT_OK;
     self->warned = FALSE;
-    self->trip = (round_trip){.smooth = -1};
     self->timer_moment = 0;
     gst_segment_init(&self->segment, GST_FORMAT_UNDEFINED);
     rtp_times_begin(&self->times, 0);
@@ -353,9 +353,10 @@ static void install_int(GObjectClass *class, guint id, const gchar *name, const 
 static void install_properties(GObjectClass *class) {
     install_uint(class, PROP_LATENCY, "latency", "How long a missing packet is waited for, in ms", 0, G_MAXUINT, 200);
     install_uint(class, PROP_DELAY, "rtx-delay", "How long a missing packet is waited for before the first NACK, in ms: as long as "
-                 "the network holds packets back behind later ones", 0, G_MAXUINT, 20);
+                 "the network holds packets back behind later ones, which takes its place once a round trip was measured, where "
+                 "rtx-retry-timeout is -1", 0, G_MAXUINT, 20);
     install_int(class, PROP_RETRY, "rtx-retry-timeout", "How long an answer to a NACK is waited for before the next one, in ms "
-                "(-1 == from the round trips that were measured)", -1, G_MAXINT);
+                "(-1 == by the round trips that are measured, so that as many NACKs as fit have their answers within the latency)", -1, G_MAXINT);
     install_uint(class, PROP_NACKS, "rtx-max-retries", "How often one packet is asked for at most", 1, 255, 4);
     install_uint(class, PROP_WINDOW, "max-size-packets", "How many packets are kept while one is missing", 1, GOZDRIT_MAX_STORE,
                  1024);

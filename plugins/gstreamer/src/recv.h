@@ -17,7 +17,7 @@ G_DECLARE_FINAL_TYPE(GstGozdritRecv, gst_gozdrit_recv, GST, GOZDRIT_RECV, GstEle
 typedef struct recv_settings {
     guint latency;
     guint delay;
-    gint retry; /* -1: from the round trips that were measured */
+    gint retry; /* -1: it and the delay follow the path */
     guint nacks;
     guint window;
     guint32 ssrc;          /* SSRC_UNSET: that of the caps or of the first packet */
@@ -39,7 +39,6 @@ typedef struct arrival {
     GstClockTime pts, dts;
     guint32 timestamp;
     gboolean known;
-    gboolean asked; /* a NACK named its number before it came */
 } arrival;
 
 /* Both the window and what is held back after a jump have a place: twice the largest window. */
@@ -58,14 +57,6 @@ typedef struct candidate {
     guint16 next;
 } candidate;
 
-/* A packet that was asked for once, so that its repair shows the round trip. */
-typedef struct round_trip {
-    gboolean waiting;
-    guint16 asked;
-    guint64 at;
-    gint64 smooth, apart; /* milliseconds, eight and four times: as RFC 6298 has them; smooth is -1 at first */
-} round_trip;
-
 struct _GstGozdritRecv {
     GstElement parent;
     GstPad *sink;
@@ -81,12 +72,12 @@ struct _GstGozdritRecv {
     gozdrit_receiver end; /* holds one from the first packet on */
     gozdrit_session session;
     gozdrit_receive_counts past; /* the counts of the sessions before */
+    gozdrit_receive_kinds past_kinds;
     guint64 sessions;
     guint64 strays;  /* packets that came before there was a session, and began none */
     gint32 refused;  /* an answer of the library that is to be told without the lock, or 0 */
     gboolean warned; /* a packet that was too long was told */
     candidate other;
-    round_trip trip;
 
     rtp_times times;
     arrival *arrivals; /* ARRIVALS of them, by the sequence number */
@@ -128,7 +119,6 @@ void receiving_flush(GstGozdritRecv *self);
 void receiving_set_times(GstGozdritRecv *self);
 /* The least time between two asks, in milliseconds. */
 guint64 receiving_step(const GstGozdritRecv *self);
-void receiving_asked(GstGozdritRecv *self, const guint8 *nack, gsize length, guint64 now);
 GstStructure *receiving_counts(GstGozdritRecv *self);
 
 /* ---- playing.c. The lock is held in all but the task. */

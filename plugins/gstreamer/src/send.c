@@ -35,6 +35,8 @@ enum {
     PROP_REPEATS,
     PROP_EOS_DELAY,
     PROP_SILENCE_DELAY,
+    PROP_MIN_INTERVAL,
+    PROP_MAX_TIME,
     PROP_STATS
 };
 
@@ -195,6 +197,8 @@ static void set_property(GObject *object, guint id, const GValue *value, GParamS
     case PROP_REPEATS: settings->repeats = g_value_get_uint(value); break;
     case PROP_EOS_DELAY: settings->eos_delay = g_value_get_uint(value); break;
     case PROP_SILENCE_DELAY: settings->silence_delay = g_value_get_uint(value); break;
+    case PROP_MIN_INTERVAL: settings->min_interval = g_value_get_uint(value); break;
+    case PROP_MAX_TIME: settings->max_time = g_value_get_uint(value); break;
     default: G_OBJECT_WARN_INVALID_PROPERTY_ID(object, id, spec);
     }
     if (id == PROP_SILENCE_DELAY) silence_changed(self);
@@ -216,6 +220,8 @@ static void get_property(GObject *object, guint id, GValue *value, GParamSpec *s
     case PROP_REPEATS: g_value_set_uint(value, settings.repeats); break;
     case PROP_EOS_DELAY: g_value_set_uint(value, settings.eos_delay); break;
     case PROP_SILENCE_DELAY: g_value_set_uint(value, settings.silence_delay); break;
+    case PROP_MIN_INTERVAL: g_value_set_uint(value, settings.min_interval); break;
+    case PROP_MAX_TIME: g_value_set_uint(value, settings.max_time); break;
     case PROP_STATS: g_value_take_boxed(value, sending_counts(self)); break;
     default: G_OBJECT_WARN_INVALID_PROPERTY_ID(object, id, spec);
     }
@@ -259,6 +265,12 @@ static void install_properties(GObjectClass *class) {
     install_uint(class, PROP_SILENCE_DELAY, "silence-delay",
                  "How long no packet comes until the last one is repeated once, in ms, where feedback_sink is linked "
                  "(0 == never)", 0, 60000, 100);
+    install_uint(class, PROP_MIN_INTERVAL, "rtx-min-interval",
+                 "How long after its last retransmission a packet is not retransmitted again, in ms: about a round trip (0 == as "
+                 "soon as it is asked for)", 0, G_MAXUINT, 0);
+    install_uint(class, PROP_MAX_TIME, "max-size-time",
+                 "How long after it was sent a packet is retransmitted, in ms: about the latency of the other end (0 == as long as "
+                 "it is kept)", 0, G_MAXUINT, 0);
     g_object_class_install_property(
         class, PROP_STATS, g_param_spec_boxed("stats", NULL, "What was counted since the element began: the library's counts",
                                               GST_TYPE_STRUCTURE, (GParamFlags)(G_PARAM_READABLE | G_PARAM_STATIC_STRINGS)));

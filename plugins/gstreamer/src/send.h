@@ -18,6 +18,8 @@ typedef struct send_settings {
     guint repeats;
     guint eos_delay;     /* milliseconds */
     guint silence_delay; /* the same; 0: none */
+    guint min_interval;  /* the same, from one retransmission of a packet to the next; 0: none */
+    guint max_time;      /* the same, from a packet to its last retransmission; 0: any */
 } send_settings;
 
 struct _GstGozdritSend {
@@ -30,6 +32,7 @@ struct _GstGozdritSend {
     send_settings settings;
     gozdrit_sender end; /* holds one from the first packet on */
     gozdrit_session session;
+    gboolean has_rule; /* the session was begun with one of the last two settings */
     gozdrit_send_counts past; /* the counts of the sessions before */
     guint32 source_ssrc; /* the SSRC that the packets come with */
     guint32 rtx_ssrc;    /* of the retransmissions, from the caps on */

@@ -39,10 +39,13 @@ static gint32 begin(GstGozdritSend *self, guint8 type, guint32 ssrc, guint16 own
         config.any_reporter ? draw_ssrc(media, self->rtx_ssrc) : settings->receiver_ssrc;
     config.history = settings->history;
     config.repeats = (guint8)settings->repeats;
+    config.min_resend = settings->min_interval;
+    config.deadline = settings->max_time;
     config.first = first_number(self, own);
     config.rtx_first = (guint16)g_random_int();
     self->source_ssrc = ssrc;
     self->session = config.session;
+    self->has_rule = settings->min_interval > 0 || settings->max_time > 0;
     return gozdrit_sender_new(&config, &self->end);
 }
 
@@ -113,6 +116,11 @@ static GstFlowReturn refuse(GstGozdritSend *self, gint32 number, guint length) {
     return GST_FLOW_ERROR;
 }
 
+/* Tells the session what time it is, where that makes a difference. The lock is held. */
+static void tell_time(GstGozdritSend *self) {
+    if (self->has_rule) gozdrit_sender_time(&self->end, element_time_now(&self->time) / MILLISECOND);
+}
+
 /* Writes the session's packet of a header and a payload into a buffer of just its length. The lock is held. */
 static gint32 write_packet(GstGozdritSend *self, const gozdrit_header *header, GstRTPBuffer *rtp, GstBuffer **out) {
     guint length = gst_rtp_buffer_get_payload_len(rtp), head = gst_rtp_buffer_get_header_len(rtp);
@@ -122,6 +130,7 @@ static gint32 write_packet(GstGozdritSend *self, const gozdrit_header *header, G
     if (length > GOZDRIT_MAX_PAYLOAD) return GOZDRIT_TOO_LARGE;
     GstBuffer *made = gst_buffer_new_allocate(NULL, head + length + padding, NULL);
     gst_buffer_map(made, &map, GST_MAP_WRITE);
+    tell_time(self);
     gint32 number = gozdrit_send(&self->end, header, gst_rtp_buffer_get_payload(rtp), length, (guint8)padding, &sent,
                                  map.data, map.size);
     gst_buffer_unmap(made, &map);
@@ -175,6 +184,7 @@ static GstBuffer *next_retransmission(GstGozdritSend *self) {
     GstMapInfo map;
     GstBuffer *out = gst_buffer_new_allocate(NULL, GOZDRIT_MAX_DATAGRAM, NULL);
     gst_buffer_map(out, &map, GST_MAP_WRITE);
+    tell_time(self);
     gint32 number = gozdrit_retransmit(&self->end, &sent, map.data, map.size);
     gst_buffer_unmap(out, &map);
     if (number != GOZDRIT_OK || sent.length == 0) {
@@ -269,5 +279,7 @@ GstStructure *sending_counts(GstGozdritSend *self) {
     ADD_COUNT(told, "media", now.media + past.media);
     ADD_COUNT(told, "reports", now.reports + past.reports);
     ADD_COUNT(told, "refused", now.refused + past.refused);
+    ADD_COUNT(told, "early", now.early + past.early);
+    ADD_COUNT(told, "expired", now.expired + past.expired);
     return told;
 }

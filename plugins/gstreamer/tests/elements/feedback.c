@@ -42,8 +42,37 @@ static void test_reporter(void) {
     drop_sender(&s);
 }
 
+static void names_at(sender *s, guint64 at, guint16 pid, guint16 blp) {
+    gst_harness_set_time(s->media, at * GST_MSECOND);
+    gst_harness_push(s->feedback, make_nack(pid, blp));
+}
+
+/* A packet is not retransmitted again too soon, and not past its time. */
+static void test_in_time(void) {
+    sender s = make_sender();
+    gst_element_set_state(s.element, GST_STATE_NULL);
+    g_object_set(s.element, "rtx-min-interval", 50, "max-size-time", 200, NULL);
+    gst_element_set_state(s.element, GST_STATE_PLAYING);
+    send_five(&s);
+    names_at(&s, 40, 1, 0);
+    CHECK(repair_comes(&s, (packet){.sequence = 1, .fill = 1}));
+    names_at(&s, 89, 1, 1);
+    CHECK(repair_comes(&s, (packet){.sequence = 2, .fill = 2}));
+    CHECK(is_silent(s.media));
+    names_at(&s, 90, 1, 0);
+    CHECK(repair_comes(&s, (packet){.sequence = 1, .fill = 1}));
+    names_at(&s, 200, 3, 0);
+    CHECK(repair_comes(&s, (packet){.sequence = 3, .fill = 3}));
+    names_at(&s, 201, 4, 0);
+    CHECK(is_silent(s.media));
+    CHECK(count_of(s.element, "retransmissions") == 4);
+    CHECK(count_of(s.element, "early") == 1 && count_of(s.element, "expired") == 1);
+    drop_sender(&s);
+}
+
 void test_feedback(void) {
     test_nacks();
+    test_in_time();
     test_limits();
     test_reporter();
 }

@@ -178,7 +178,7 @@ static void test_refused(void) {
     drop_receiver(&r);
 }
 
-/* The round trips decide for how long an answer is waited for. */
+/* Once a round trip is known, a packet is asked for as it is noticed to be missing, and as often as fits. */
 static void test_retry(guint latency, guint64 wait) {
     receiver r = make_receiver(CAPS);
     g_object_set(r.element, "rtx-retry-timeout", -1, "latency", latency, NULL);
@@ -192,11 +192,10 @@ static void test_retry(guint latency, guint64 wait) {
     REPAIR(&r, 50, .sequence = 11);
     CHECK(count_of(r.element, "rtx-round-trip") == MS(10));
     SEND(&r, .sequence = 14);
-    TICKS(&r, 50);
     nack = next_buffer(r.feedback);
     CHECK(is_nack(nack, 13, 0));
     gst_clear_buffer(&nack);
-    TICKS(&r, 50 + wait);
+    TICKS(&r, 30 + wait);
     drop_receiver(&r);
 }
 
@@ -212,11 +211,11 @@ static void test_in_doubt(void) {
     gst_clear_buffer(&nack);
     set_clock_to(&r, 30);
     REPAIR(&r, 50, .sequence = 11);
-    TICKS(&r, 20 + 31);
+    TICKS(&r, 20 + 35);
     nack = next_buffer(r.feedback);
     CHECK(is_nack(nack, 12, 0));
     gst_clear_buffer(&nack);
-    set_clock_to(&r, 55);
+    set_clock_to(&r, 59);
     REPAIR(&r, 51, .sequence = 12);
     CHECK(count_of(r.element, "retransmissions") == 2);
     CHECK(count_of(r.element, "rtx-round-trip") == MS(10));
@@ -232,8 +231,10 @@ void test_receive(void) {
     test_overrun();
     test_others();
     test_refused();
-    test_retry(1000, 10 + 4 * 5 + 1);     /* the trip, four times its spread, and a millisecond */
-    test_retry(100, (100 - 20 - 16) / 3); /* what lets four NACKs fit, and the answer to the last */
-    test_retry(60, 10 + 1 + 5);           /* no less than the trip and its deviation */
+    /* an answer takes the trip of 10, its variation of 5 and 5, and NACKs lie 10 + 4 * 5 + 5 apart at least: as many as fit
+     * before the last answer that is in time, and evenly */
+    test_retry(1000, (1000 - 20) / 28);
+    test_retry(100, (100 - 20) / 2);
+    test_retry(60, 60 - 20);
     test_in_doubt();
 }
