@@ -578,6 +578,10 @@ int32_t gozdrit_restart(gozdrit_receiver *receiver);
  */
 int32_t gozdrit_set_times(gozdrit_receiver *receiver, uint64_t patience, uint64_t delay, uint64_t retry);
 
+/* Whether the times of NACKs follow the path from now on: config->follows. Where they do again, they follow what was measured
+ * before when the next datagram comes; where they don't, `delay` and `retry` stay as they are until they are set. */
+int32_t gozdrit_follow(gozdrit_receiver *receiver, gozdrit_bool follows);
+
 /* How many packets are missing. */
 int32_t gozdrit_missing(const gozdrit_receiver *receiver, size_t *count);
 

@@ -79,6 +79,21 @@ static void test_set_and_restart(void) {
     ANSWERS(GOZDRIT_OK, gozdrit_receiver_free(&r));
 }
 
+/* One that does not follow any more keeps the times that it has, and the round trip that it measured, and follows it again. */
+static void test_switched(void) {
+    gozdrit_receiver r = receiver_of(&CONFIG);
+    measures_forty(&r, 0, 100);
+    ANSWERS(GOZDRIT_OK, gozdrit_follow(&r, 0));
+    ANSWERS(GOZDRIT_OK, gozdrit_set_times(&r, 200, 30, 50));
+    HEARS_MEDIA(&r, 103, 70, MEDIA(65639));
+    times(&r, 30, 50, 40, 20);
+    ANSWERS(GOZDRIT_OK, gozdrit_follow(&r, 200));
+    times(&r, 30, 50, 40, 20);
+    HEARS_MEDIA(&r, 104, 75, MEDIA(65640));
+    times(&r, 0, 135, 40, 20);
+    ANSWERS(GOZDRIT_OK, gozdrit_receiver_free(&r));
+}
+
 /* One that does not follow keeps its times, and measures nothing. */
 static void test_without(void) {
     gozdrit_receiver_config config = CONFIG;
@@ -94,13 +109,15 @@ static void test_without(void) {
 }
 
 void test_follows(void) {
-    const gozdrit_receiver none = {NULL, 0};
+    gozdrit_receiver none = {NULL, 0};
     gozdrit_times told;
     FILL(told);
     ANSWERS(GOZDRIT_NO_END, gozdrit_receiver_times(&none, &told));
+    ANSWERS(GOZDRIT_NO_END, gozdrit_follow(&none, 1));
     CHECK(UNTOUCHED(told));
     test_round_trip();
     test_reordering();
     test_set_and_restart();
+    test_switched();
     test_without();
 }

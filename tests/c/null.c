@@ -131,6 +131,7 @@ static void test_asking(void) {
     ANSWERS(GOZDRIT_NULL, gozdrit_highest_sequence(&receiver, NULL));
     ANSWERS(GOZDRIT_NULL, gozdrit_next_moment(NULL, &l.moment));
     ANSWERS(GOZDRIT_NULL, gozdrit_next_moment(&receiver, NULL));
+    ANSWERS(GOZDRIT_NULL, gozdrit_follow(NULL, 1));
     ANSWERS(GOZDRIT_NULL, gozdrit_receiver_times(NULL, &l.times));
     ANSWERS(GOZDRIT_NULL, gozdrit_receiver_times(&receiver, NULL));
     ANSWERS(GOZDRIT_NULL, gozdrit_receiver_kinds(NULL, &l.kinds));

@@ -24,7 +24,7 @@ use Rattle.gozdrit.specs.Ends.{Receiver, Sender}
 use Rattle.gozdrit.specs.Freeing.{AnswersFree}
 use Rattle.gozdrit.specs.Packets.{AnswersRead, AnswersWrite}
 use Rattle.gozdrit.specs.Reading.{AnswersMissing, AnswersSource, AnswersNext, AnswersHighest, AnswersMoment, AnswersReceiverTimes, AnswersReceiverCounts, AnswersReceiverKinds, AnswersSenderCounts}
-use Rattle.gozdrit.specs.Receiving.{AnswersReceiverNew, AnswersReceive, AnswersPlay, AnswersNack, AnswersBegin, AnswersRestart, AnswersTimes}
+use Rattle.gozdrit.specs.Receiving.{AnswersReceiverNew, AnswersReceive, AnswersPlay, AnswersNack, AnswersBegin, AnswersRestart, AnswersTimes, AnswersFollow}
 use Rattle.gozdrit.specs.Sending.{AnswersSenderNew, AnswersSend, AnswersFeedback, AnswersRetransmit, AnswersMarkLast, AnswersTime}
 
 -- `gozdrit_sender_defaults`
@@ -134,6 +134,12 @@ abbrev pub TimesFor : (patience : ℕ) → (delay : ℕ) → (retry : ℕ) → O
 TimesFor patience delay retry =
     Answers1 null_pointer (λ receiver code receiver'.
     AnswersTimes receiver.inside patience delay retry code receiver'.inside)
+
+-- `gozdrit_follow`
+abbrev pub FollowFor : (follows : ℕ) → Option (Handle Receiver) → ℤ → Option (Handle Receiver) → Type 0
+FollowFor follows =
+    Answers1 null_pointer (λ receiver code receiver'.
+    AnswersFollow receiver.inside follows code receiver'.inside)
 
 -- `gozdrit_missing`
 abbrev pub MissingFor : Option (Handle Receiver) → Option ℕ → ℤ → Option (Handle Receiver) → Option ℕ → Type 0

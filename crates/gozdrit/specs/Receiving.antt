@@ -121,3 +121,9 @@ pub record AnswersTimes (old : Option Receiver) (patience delay retry : ℕ) (co
   pub sets : (before : Receiver) → old ≡ Some before → 0 < retry
       → (code ≡ ok) × (new ≡ Some (receiver_timed before patience delay retry))
   pub refused : code ≢ ok → new ≡ old
+
+-- `gozdrit_follow`
+pub record AnswersFollow (old : Option Receiver) (follows : ℕ) (code : ℤ) (new : Option Receiver) : Type 0 where
+  pub none : old ≡ None → (code ≡ no_end) × (new ≡ old)
+  pub tells : (before : Receiver) → old ≡ Some before
+      → (code ≡ ok) × (new ≡ Some (record before { follows = not (follows == 0); meter = record before.meter { is_new = true } }))

@@ -13,7 +13,7 @@ ghost use Rattle.gozdrit.specs.contracts.answers.PlayedPacket.{the_row as played
 ghost use Rattle.gozdrit.specs.declared.answers.PlayedPacket.{PlayedPacket};
 ghost use Rattle.gozdrit.specs.contracts.config.ReceiverFields.{the_row as receiver_config_row};
 ghost use Rattle.gozdrit.specs.declared.config.ReceiverFields.{ReceiverFields};
-ghost use Rattle.gozdrit.specs.Lent.{ReceiverNewFor, ReceiverFreeFor, ReceiveFor, PlayFor, NackFor, BeginFor, RestartFor, TimesFor};
+ghost use Rattle.gozdrit.specs.Lent.{ReceiverNewFor, ReceiverFreeFor, ReceiveFor, PlayFor, NackFor, BeginFor, RestartFor, TimesFor, FollowFor};
 
 use crate::answers::PlayedPacket;
 use crate::blocks::ReceiverBlock;
@@ -22,7 +22,8 @@ use crate::config::ReceiverFields;
 use crate::heard::HeardFields;
 use crate::lent::{Lent, LentSlice};
 use crate::receiving::{
-    ReceiverHandle, begin, nack, play, receive, receiver_free, receiver_new, restart, set_times,
+    ReceiverHandle, begin, follow, nack, play, receive, receiver_free, receiver_new, restart,
+    set_times,
 };
 use std::alloc::Global;
 
@@ -98,7 +99,7 @@ fn receiver_free_lent(
     (code, receiver)
 }
 
-/// `AskingEndpoint::on_datagram` at the moment `now`, in milliseconds. `heard` is told what the datagram was.
+/// `AskingEndpoint::on_datagram`, which may measure the path, at the moment `now`, in milliseconds. `heard` is told what the datagram was.
 #[unsafe(no_mangle)]
 pub unsafe extern "C" fn gozdrit_receive(
     receiver: *mut ReceiverBlock,
@@ -340,5 +341,34 @@ fn set_times_lent(
         return (NULL, receiver);
     }
     let code = set_times(receiver.get(), patience, delay, retry);
+    (code, receiver)
+}
+
+/// Whether the times of asks follow what is measured of the path.
+#[unsafe(no_mangle)]
+pub unsafe extern "C" fn gozdrit_follow(receiver: *mut ReceiverBlock, follows: u8) -> i32
+    ghost before: { Option (Handle Receiver) }
+    requires* { sem 𝓛 (value_lies_at ReceiverRow receiver before) }
+    ensures* { ∃ₛ (λ (after : Option (Handle Receiver)).
+        sem 𝓛 (value_lies_at ReceiverRow receiver after)
+        ∗ ⌜ FollowFor follows before result after ⌝) }
+{
+    follow_lent(
+        Lent {
+            at: receiver as *mut ReceiverHandle,
+        },
+        follows,
+    )
+    .0
+}
+
+fn follow_lent(mut receiver: Lent<ReceiverHandle>, follows: u8) -> (i32, Lent<ReceiverHandle>)
+    ensures { (result.1.at ≡ receiver.at)
+        × FollowFor follows receiver.value result.0 result.1.value }
+{
+    if receiver.is_null() {
+        return (NULL, receiver);
+    }
+    let code = follow(receiver.get(), follows);
     (code, receiver)
 }

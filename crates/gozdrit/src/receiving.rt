@@ -1,6 +1,6 @@
 //! The receiving end for C.
 ghost use Rattle.gozdrit.specs.Freeing.{AnswersFree};
-ghost use Rattle.gozdrit.specs.Receiving.{AnswersReceiverNew, AnswersReceive, AnswersPlay, AnswersNack, AnswersBegin, AnswersRestart, AnswersTimes};
+ghost use Rattle.gozdrit.specs.Receiving.{AnswersReceiverNew, AnswersReceive, AnswersPlay, AnswersNack, AnswersBegin, AnswersRestart, AnswersTimes, AnswersFollow};
 
 use crate::answers::PlayedPacket;
 use crate::code::{HELD, NO_END, OK, OUT_OF_MEMORY};
@@ -143,4 +143,16 @@ pub(crate) fn set_times(receiver: &mut ReceiverHandle, patience: u64, delay: u64
         }
         Err(fault) => i32::from(fault.number()),
     }
+}
+
+pub(crate) fn follow(receiver: &mut ReceiverHandle, follows: u8) -> i32
+    ensures { AnswersFollow receiver.old.inside follows result receiver.new.inside }
+{
+    if !receiver.is_held() {
+        return NO_END;
+    }
+    let inside = receiver.lend();
+    inside.follows = follows != 0;
+    inside.meter.renew();
+    OK
 }

@@ -12,7 +12,7 @@
 #define CALLS(X) \
     X(version) X(max_payload) X(sender_defaults) X(sender_new) X(sender_free) X(send) X(feedback) X(retransmit) \
     X(mark_last) X(sender_time) X(sender_counts) X(receiver_defaults) X(receiver_new) X(receiver_free) X(receive) X(play) X(nack) \
-    X(next_moment) X(begin) X(restart) X(set_times) X(missing) X(rtx_source) X(next_sequence) X(highest_sequence) \
+    X(next_moment) X(begin) X(restart) X(set_times) X(follow) X(missing) X(rtx_source) X(next_sequence) X(highest_sequence) \
     X(receiver_times) X(receiver_counts) X(receiver_kinds) X(rtp_read) X(rtp_write)
 #define CALL_NUMBER(name) CALL_##name,
 enum call { CALLS(CALL_NUMBER) CALL_COUNT };

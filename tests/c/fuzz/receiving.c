@@ -307,6 +307,15 @@ static void call_set_times(struct receiver *it) {
     check_receiver(it, answer);
 }
 
+/* To follow no path is what the model knows. */
+static void call_follow(struct receiver *it) {
+    int32_t answer;
+    begin_call(CALL_follow);
+    answer = gozdrit_follow(lend_receiver(it, true), 0);
+    end_call(unless_no_end(it, GOZDRIT_OK), answer);
+    check_receiver(it, answer);
+}
+
 void call_receiver(void) {
     struct receiver *it = &receivers[below(RECEIVERS)];
     uint32_t which = below(1000);
@@ -317,6 +326,7 @@ void call_receiver(void) {
     else if (which < 11) call_restart(it);
     else if (which < 18) call_begin(it);
     else if (which < 24) call_set_times(it);
+    else if (which < 26) call_follow(it);
     else if (which < 600) call_receive(it);
     else if (which < 820) call_play(it);
     else if (which < 900) call_nack(it);
