@@ -90,6 +90,35 @@ fn what_is_lost_is_not_held(rt: HostRuntime) -> Result<(), Fail> {
     }
 }
 
+/// By a clock of 1000 a second and a latency of 200. What is lost before a packet that came 15 milliseconds late is given up when that
+/// packet is to leave, which so leaves at its own time; and what is repaired just before leaves as it comes.
+#[test]
+fn what_is_lost_holds_nothing_up(rt: HostRuntime) -> Result<(), Fail> {
+    let mut relay = relay_by(rt.alloc(), 7, 64, Some(Playout::new(1000)))?;
+    let mut script = Script::new(rt.alloc());
+    script.comes(1000, Side::Far, FAR, &stamped(10, 0))?;
+    script.comes(1045, Side::Far, FAR, &stamped(13, 30))?;
+    script.comes(1055, Side::Far, FAR, &stamped(15, 50))?;
+    script.comes(1249, Side::Far, FAR, &repaired(14, 40))?;
+    script.comes(1260, Side::Far, FAR, &stamped(17, 255))?;
+    if run(&mut script, &mut relay).is_err() {
+        return Err(Fail::from("it ends by its bounds"));
+    }
+    // Numbers 11 and 12 were noticed to be missing at 1045, so a patience of their own would hold 13 up until 1245; and 16 until 1460.
+    let wanted = [
+        (1200, 10, 0),
+        (1230, 13, 30),
+        (1249, 14, 40),
+        (1250, 15, 50),
+        (1455, 17, 255),
+    ];
+    if left(&script, &wanted) && relay.counts().gaps == 3 {
+        Ok(())
+    } else {
+        Err(Fail::from("when they left"))
+    }
+}
+
 /// A stream that restarts has a clock of its own, whose timestamps may lie below the old ones.
 #[test]
 fn a_restart_begins_a_clock(rt: HostRuntime) -> Result<(), Fail> {

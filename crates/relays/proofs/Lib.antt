@@ -1,6 +1,7 @@
 pub mod Going
 pub mod Keeping
 pub mod Left
+pub mod Stamps
 pub mod Reading
 pub mod Taking
 pub mod Waking

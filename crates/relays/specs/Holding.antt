@@ -1,6 +1,10 @@
 -- How packets are held for a player.
-use Rattle.std.specs.Prelude.{ℕ, List, drop, length, nat_lt, Option, Some, None, Result, Ok, if◌then◌else◌}
+use Rattle.std.specs.Prelude.{ℕ, zero, suc, ◌+◌, ◌-◌, ◌^◌, List, drop, length, nat_lt, Option, Some, None, Result, Ok, if◌then◌else◌}
 use Rattle.byteorder.specs.Endian.{big_number}
+use Rattle.stores.specs.declared.slot.Slot.{Slot}
+use Rattle.stores.specs.declared.slot.Slot.TheVariants.{Held, Missing}
+use Rattle.stores.specs.Span.{Span, front_of}
+use Rattle.stores.specs.ByPlace.{slot_at}
 use Rattle.receiver.specs.declared.answer.Played.{Played}
 use Rattle.receiver.specs.declared.answer.Played.TheVariants.{Packet, Gap, Wait}
 use Rattle.receiver.specs.declared.fault.ReceiveFault.{ReceiveFault}
@@ -24,6 +28,33 @@ clock_after answer timestamp now (Some p) = Some p
 abbrev pub release_by : Option Playout → (timestamp latency : ℕ) → ℕ
 release_by None timestamp latency = 0
 release_by (Some p) timestamp latency = release_at p timestamp latency
+
+-- the timestamp of what a place holds
+abbrev pub stamp_in : Option Slot → Option ℕ
+stamp_in (Some (Held content)) = Some content.timestamp
+stamp_in o = None
+
+-- The timestamp of the first packet that is held from a place on, of the next `ahead` places.
+abbrev pub stamp_or : Option ℕ → (rest : Option ℕ) → Option ℕ
+stamp_or (Some timestamp) rest = Some timestamp
+stamp_or None rest = rest
+
+unfoldable pub stamp_from : Span → (ahead place : ℕ) → Option ℕ
+stamp_from s zero place = None
+stamp_from s (suc ahead) place = if nat_lt place (2 ^ 48) then stamp_or (stamp_in (slot_at s place)) (stamp_from s ahead (place + 1)) else None
+
+-- How long the next place is waited for, by the clock that packets are held by: until the packet behind it is to leave, which was sent
+-- after it.
+abbrev pub until_stamp : Playout → (latency noticed : ℕ) → Option ℕ → ℕ
+until_stamp p latency noticed None = latency
+until_stamp p latency noticed (Some timestamp) = release_at p timestamp latency - noticed
+
+abbrev pub wait_at : Option Playout → (latency : ℕ) → Span → (cursor : Option ℕ) → Option Slot → ℕ
+wait_at (Some p) latency s (Some cursor) (Some (Missing noticed asks last)) = until_stamp p latency noticed (stamp_from s 64 (cursor + 1))
+wait_at hold latency s cursor front = latency
+
+abbrev pub wait_by : Option Playout → (latency : ℕ) → Span → ℕ
+wait_by hold latency s = wait_at hold latency s s.cursor (front_of s)
 
 -- A packet that is to be played is held until its moment has come. A place that is given up is so at once.
 abbrev pub held_by : Option Playout → (latency now : ℕ) → Played → Played

@@ -1,6 +1,6 @@
 -- The relay behind a network that loses: what it does with what comes, and what it does of its own. Each case of what it notes has
 -- its equation, and what stands nowhere is never done.
-use Rattle.std.specs.Prelude.{◌≡◌, ℕ, ◌&&◌, max, Bool, true, false, List, Option, Some, None, Result, Ok}
+use Rattle.std.specs.Prelude.{◌≡◌, ℕ, ◌&&◌, max, min, Bool, true, false, List, Option, Some, None, Result, Ok}
 use Rattle.std.specs.declared.net.socket_addr.SocketAddr.{SocketAddr}
 use Rattle.arrayvec.specs.ArrayVec.{ArrayVec}
 use Rattle.rtpwire.specs.Rtp.{RtpSpells}
@@ -42,7 +42,7 @@ use Rattle.relays.specs.Numbering.{numbered, numbered_after, anew}
 use Rattle.timing.specs.Path.{times_over}
 use Rattle.timing.specs.RoundTrip.{time_of}
 use Rattle.timing.specs.declared.playout.Playout.{Playout}
-use Rattle.relays.specs.Holding.{clock_after, held_by, timestamp_of}
+use Rattle.relays.specs.Holding.{clock_after, held_by, timestamp_of, wait_by}
 use Rattle.relays.specs.Leaving.{GoesTo, octets_of}
 use Rattle.relays.specs.Moving.{is_next, is_quiet}
 
@@ -158,9 +158,10 @@ PlaysOut (Packet place content) old now (note.Played p) (Some d) out new =
 PlaysOut (Gap place) old now (note.Gap p) None out new = (p ≡ place) × (new ≡ passes old (Gap place) place now)
 PlaysOut played old now n leaves out new = ⊥
 
--- How long the next place is waited for since it was noticed to be missing.
+-- How long the next place is waited for since it was noticed to be missing: by when its packet was sent, as far as a silence tells it,
+-- and by when the packet behind it is to leave, where packets are held.
 abbrev pub patience_left : ReceiveSide → ℕ
-patience_left s = left_at s.meter.path.arrivals s.core.config.patience s.core.span.cursor
+patience_left s = min (left_at s.meter.path.arrivals s.core.config.patience s.core.span.cursor) (wait_by s.hold s.core.config.patience s.core.span)
 
 -- what a play would give at this moment
 abbrev pub next_play : ReceiveSide → (now : ℕ) → Played

@@ -1,11 +1,17 @@
 //! How packets are held for a player.
 ghost use Rattle.std.specs.Prelude.{◌≡◌};
-ghost use Rattle.relays.specs.Holding.{clock_after, release_by, timestamp_of};
+ghost use Rattle.stores.specs.ByPlace.{slot_at};
+ghost use Rattle.relays.specs.Holding.{clock_after, release_by, stamp_from, stamp_in, timestamp_of, wait_by};
 
 use endpoint::Heard;
+use places::Place;
 use receiver::ReceiveFault;
 use rtpwire::u32_at;
+use stores::{SlotRef, Window};
 use timing::Playout;
+
+/// How many places are looked at for the packet behind a missing one.
+const AHEAD: u8 = 64;
 
 /// The RTP timestamp of a packet with these octets.
 pub(crate) fn timestamp_of(octets: &[u8]) -> u32
@@ -47,5 +53,47 @@ pub(crate) fn release(hold: &Option<Playout>, timestamp: u32, latency: u64) -> u
     match hold {
         Some(clock) => clock.release(timestamp, latency),
         None => 0,
+    }
+}
+
+/// How long the next place is waited for by the clock since it was noticed to be missing, with this latency: until the packet behind it
+/// is to leave, which was sent after it. Where none is held, or none behind it among the next 64 places, as long as the latency.
+pub(crate) fn wait<W: Window>(hold: &Option<Playout>, latency: u64, window: &W) -> u64
+    ensures { result ≡ wait_by hold.now latency (W.meaning window.now) }
+{
+    let (Some(clock), Some(cursor)) = (hold, window.cursor()) else {
+        return latency;
+    };
+    let Some(SlotRef::Missing { noticed, .. }) = window.front() else {
+        return latency;
+    };
+    match stamp_from(window, AHEAD, cursor + 1) {
+        Some(timestamp) => clock.release(timestamp, latency).saturating_sub(noticed),
+        None => latency,
+    }
+}
+
+/// The timestamp of the first packet that is held from a place on, of the next `ahead` places.
+#[tactic(auto, using(crate::proofs::Stamps::none_ahead, crate::proofs::Stamps::past_all, crate::proofs::Stamps::one_held, crate::proofs::Stamps::one_missing))]
+fn stamp_from<W: Window>(window: &W, ahead: u8, place: u64) -> Option<u32>
+    ensures { result ≡ stamp_from (W.meaning window.now) ahead place }
+{
+    if ahead == 0 {
+        return None;
+    }
+    let here = Place::new(place)?;
+    match stamp_at(window, here) {
+        Some(timestamp) => Some(timestamp),
+        None => stamp_from(window, ahead - 1, place + 1),
+    }
+}
+
+/// The timestamp of what a place holds.
+fn stamp_at<W: Window>(window: &W, place: Place) -> Option<u32>
+    ensures { result ≡ stamp_in (slot_at (W.meaning window.now) place) }
+{
+    match window.slot(place) {
+        Some(SlotRef::Held(content)) => Some(content.timestamp),
+        _ => None,
     }
 }

@@ -14,7 +14,7 @@ ghost use Rattle.relays.specs.ReceiveRelay.{Asks, AsksAgain, GoesOn, HearsFar, H
 
 use crate::bounds::Bounds;
 use crate::dropout::{dropout, probation};
-use crate::holding::{hear_clock, release, timestamp_of};
+use crate::holding::{hear_clock, release, timestamp_of, wait};
 use crate::moving::{is_next, is_quiet, media_number};
 use crate::numbering::Numbering;
 use crate::outside::Side;
@@ -154,7 +154,11 @@ impl<W: Window> ReceiveRelay<W> {
     fn patience_left(&self) -> u64
         ensures { result ≡ patience_left self.now }
     {
-        self.meter.patience_left(self.core())
+        let core = self.core();
+        let latency = core.config().patience();
+        self.meter
+            .patience_left(core)
+            .min(wait(&self.hold, latency, core.window()))
     }
 
     /// From when on something is to be played: the next place is given up then if it is missing, and leaves if it is held.
