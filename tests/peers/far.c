@@ -1,13 +1,13 @@
 /* The far end: receives a session, asks for what is missing, and hands RTP on to a decoder.
  *
- *   far [--patience N] [--delay N] [--retry N] [--nacks N] [--idle N] [--seconds N] AT TO STREAM
+ *   far [--patience N] [--delay N] [--retry N] [--nacks N] [--follows N] [--idle N] [--seconds N] AT TO STREAM
  *
  * It receives the STREAM (net.h) at the port AT, and begins at its first sequence number. Feedback leaves from AT to the port TO;
  * with --nacks 0 there is none. The packets that are played go to the standard output with their timestamps, markers,
  * CSRCs and extensions, each behind two octets of its length (RFC 4571). A pipe loses nothing, and its end is the
  * decoder's.
  *
- * The times are those of the library, in milliseconds: 2000, 40, 90, and 20 NACKs. It ends by SIGTERM, after --seconds N
+ * The times are those of the library, in milliseconds: 2000, 40, 90, and 20 NACKs. With --follows 1 they follow the path. It ends by SIGTERM, after --seconds N
  * (60), or where no new packet came for --idle N (2500) milliseconds since the first one, and nothing is missing. Then a line
  * of counts goes to the error output. The status is 0 where all that was played was written. */
 #define _POSIX_C_SOURCE 200809L
@@ -24,7 +24,7 @@ typedef struct far_end {
     stream of;
     int at;
     uint16_t to;
-    uint64_t patience, delay, retry, nacks, idle, seconds;
+    uint64_t patience, delay, retry, nacks, follows, idle, seconds;
     uint64_t taken; /* when the last new packet was taken; 0 before the first */
     bool broken;    /* the decoder has gone, or a call was refused */
 } far_end;
@@ -114,18 +114,23 @@ static void receive(far_end *f) {
 
 static void tell(far_end *f) {
     gozdrit_receive_counts c;
-    if (gozdrit_receiver_counts(&f->end, &c) != GOZDRIT_OK) return;
+    gozdrit_receive_kinds k;
+    gozdrit_times t = {0};
+    if (gozdrit_receiver_counts(&f->end, &c) != GOZDRIT_OK || gozdrit_receiver_kinds(&f->end, &k) != GOZDRIT_OK) return;
+    gozdrit_receiver_times(&f->end, &t);
     fprintf(stderr, "far media %" PRIu64 " retransmissions %" PRIu64 " duplicate %" PRIu64 " late %" PRIu64, c.media,
             c.retransmissions, c.duplicate, c.late);
     fprintf(stderr, " far %" PRIu64 " refused %" PRIu64 " rtcp %" PRIu64 " overrun %" PRIu64, c.far, c.refused, c.rtcp, c.overrun);
     fprintf(stderr, " held_back %" PRIu64 " restarts %" PRIu64, c.held_back, c.restarts);
+    fprintf(stderr, " padding %" PRIu64 " unasked %" PRIu64 " too_late %" PRIu64 " rtt %" PRIu64, k.padding, k.unasked, k.late,
+            t.round_trip);
     fprintf(stderr, " played %" PRIu64 " gaps %" PRIu64 " nacks %" PRIu64 " nacked %" PRIu64 "\n", c.played, c.gaps, c.nacks,
             c.nacked);
 }
 
 static bool make_far(far_end *f, char **words) {
     const option known[] = {{"patience", &f->patience}, {"delay", &f->delay}, {"retry", &f->retry}, {"nacks", &f->nacks},
-                            {"idle", &f->idle}, {"seconds", &f->seconds}, {NULL, NULL}};
+                            {"follows", &f->follows}, {"idle", &f->idle}, {"seconds", &f->seconds}, {NULL, NULL}};
     gozdrit_receiver_config config;
     f->patience = 2000, f->delay = 40, f->retry = 90, f->nacks = 20, f->idle = 2500, f->seconds = 60;
     words = options_of(words, known);
@@ -136,6 +141,7 @@ static bool make_far(far_end *f, char **words) {
     config.session = (gozdrit_session){f->of.media, f->of.rtx, f->of.reporter, (uint8_t)f->of.type, (uint8_t)f->of.rtx_type, 1};
     config.patience = f->patience, config.delay = f->delay, config.retry = f->retry;
     config.nacks = f->nacks == 0 ? 1 : (uint8_t)f->nacks;
+    config.follows = f->follows != 0;
     config.window = 4096;
     return f->at >= 0 && f->to > 0 && gozdrit_receiver_new(&config, &f->end) == GOZDRIT_OK
            && gozdrit_begin(&f->end, (uint16_t)f->of.first) == GOZDRIT_OK;
@@ -144,7 +150,7 @@ static bool make_far(far_end *f, char **words) {
 int main(int count, char **words) {
     static far_end f;
     if (gozdrit_max_payload() != GOZDRIT_MAX_PAYLOAD || count < 4 || !make_far(&f, words + 1)) {
-        fprintf(stderr, "usage: far [--patience N] [--delay N] [--retry N] [--nacks N] [--idle N] [--seconds N] AT TO STREAM\n");
+        fprintf(stderr, "usage: far [--patience N] [--delay N] [--retry N] [--nacks N] [--follows N] [--idle N] [--seconds N] AT TO STREAM\n");
         return 2;
     }
     end_on_signals();
