@@ -75,10 +75,10 @@ fn a_first_ask(rt: HostRuntime) -> Result<(), Fail> {
     hears(&mut endpoint, &mut meter, repair(2, 0).as_slice(), 65);
     assert_eq!(rt; known(&meter), (40, true));
     assert_eq!(rt; times(&endpoint), [200, 20, 40]);
-    // An answer takes 40 + 20 + 5, and asks lie 40 + 4 * 20 + 5 apart at least: one more fits into the 135 that are left.
+    // An answer takes 40 + 20 + 5, and asks lie no closer: two more fit into the 135 that are left.
     meter.follow(&mut endpoint, 65);
     assert_eq!(rt; known(&meter), (40, false));
-    assert_eq!(rt; times(&endpoint), [200, 0, 135]);
+    assert_eq!(rt; times(&endpoint), [200, 0, 67]);
     Ok(())
 }
 
@@ -156,7 +156,7 @@ fn packets_that_come_late(rt: HostRuntime) -> Result<(), Fail> {
     takes(&mut endpoint, &mut meter, &[4], 80);
     assert_eq!(rt; known(&meter), (40, true));
     meter.follow(&mut endpoint, 80);
-    assert_eq!(rt; times(&endpoint), [200, 8, 127]);
+    assert_eq!(rt; times(&endpoint), [200, 10, 125]);
     // One that comes as late again is nothing new, and one that is on its way twice is none that was waited for.
     takes(&mut endpoint, &mut meter, &[7], 90);
     takes(&mut endpoint, &mut meter, &[6], 98);
@@ -186,6 +186,6 @@ fn a_restart_by_call(rt: HostRuntime) -> Result<(), Fail> {
     meter.renew();
     assert_eq!(rt; known(&meter), (40, true));
     meter.follow(&mut endpoint, 80);
-    assert_eq!(rt; times(&endpoint), [400, 0, 167]);
+    assert_eq!(rt; times(&endpoint), [400, 0, 67]);
     Ok(())
 }

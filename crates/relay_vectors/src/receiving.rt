@@ -154,8 +154,8 @@ fn nack(seq: u16) -> [u8; 16] {
     ]
 }
 
-/// A packet came 10 milliseconds behind a later one, and a retransmission took 40: so what is missing is asked for after 10 and, since
-/// such an answer takes 65 milliseconds, and at most 125, once more after 125.
+/// A packet came 10 milliseconds behind a later one, and a retransmission took 40: so what is missing is asked for after 13 and, since
+/// such an answer takes 65 milliseconds, once more after 122.
 #[test]
 fn asks_follow_reordering_and_the_round_trip(rt: HostRuntime) -> Result<(), Fail> {
     let mut relay = relay(rt.alloc(), 7)?;
@@ -171,7 +171,7 @@ fn asks_follow_reordering_and_the_round_trip(rt: HostRuntime) -> Result<(), Fail
     }
     let asked = script.went(1, 3, Side::Far, FAR, &nack(11))
         && script.went(5, 20, Side::Far, FAR, &nack(13))
-        && script.went(9, 110, Side::Far, FAR, &nack(15))
+        && script.went(9, 113, Side::Far, FAR, &nack(15))
         && script.went(11, 235, Side::Far, FAR, &nack(15));
     let played = script.went(3, 13, Side::Near, PLAYER, &media(11, 2))
         && script.went(7, 60, Side::Near, PLAYER, &media(13, 4))

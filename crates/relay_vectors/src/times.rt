@@ -3,16 +3,15 @@ use places::Place;
 use std::test::Fail;
 use timing::{AskTimes, Lately, Path, RoundTrip, Smoothed};
 
-/// How long an answer takes mostly and at most, where that was measured.
-fn bounds(trip: &RoundTrip) -> Option<(u64, u64)> {
-    let smoothed = trip.smoothed()?;
-    Some((smoothed.answer(), smoothed.spacing()))
+/// How long an answer takes mostly, where that was measured.
+fn answer(trip: &RoundTrip) -> Option<u64> {
+    Some(trip.smoothed()?.answer())
 }
 
 #[test]
 fn a_round_trip_time(_rt: HostRuntime) -> Result<(), Fail> {
     let mut trip = RoundTrip::new();
-    let nothing = bounds(&trip).is_none();
+    let nothing = answer(&trip).is_none();
     let place = Place::first(7);
     trip.ask(place, 20);
     // Another one meanwhile is not measured, nor is what was not asked for.
@@ -20,11 +19,11 @@ fn a_round_trip_time(_rt: HostRuntime) -> Result<(), Fail> {
     let other = trip.hear(Place::first(8), 40);
     let first = trip.hear(place, 60);
     // RFC 6298, section 2.2: 40, and a variation of 20; and five.
-    let after_one = bounds(&trip) == Some((40 + 20 + 5, 40 + 4 * 20 + 5));
+    let after_one = answer(&trip) == Some(40 + 20 + 5);
     trip.ask(place, 100);
     let second = trip.hear(place, 140);
     // Section 2.3: 40 again, and three of four parts of the variation.
-    let after_two = bounds(&trip) == Some((40 + 15 + 5, 40 + 4 * 15 + 5));
+    let after_two = answer(&trip) == Some(40 + 15 + 5);
     // What was played is measured no longer.
     trip.ask(place, 200);
     trip.pass(place);
@@ -73,16 +72,16 @@ fn times(round_trip: u64, reordering: u64) -> (u64, u64) {
 
 #[test]
 fn as_many_asks_as_fit(_rt: HostRuntime) -> Result<(), Fail> {
-    // An answer takes 56 and at most 59. Three asks fit, at 0, 72 and 144: the last answer comes at 200.
+    // An answer takes 56. Three asks fit, at 0, 72 and 144: the last answer comes at 200.
     let three = times(50, 0) == (0, 72);
-    // Behind 30 of reordering two do, at 30 and 144.
-    let two = times(50, 30) == (30, 114);
-    // An answer takes 26 and at most 29: seven fit, at 0, 29, .. 174.
+    // Behind 32 of reordering they just do, at 32, 88 and 144; and behind 33 two, at 33 and 144.
+    let two = times(50, 32) == (32, 56) && times(50, 33) == (33, 111);
+    // An answer takes 26: seven fit, at 0, 29, .. 174.
     let seven = times(20, 0) == (0, 29);
     // An answer takes 156: one fits, and no later than at 44.
     let one = times(150, 0) == (0, 200) && times(150, 70) == (44, 200);
     // No answer comes in time: it is asked for at once, and not again.
-    let none = times(250, 70) == (0, 259);
+    let none = times(250, 70) == (0, 256);
     if three && two && seven && one && none {
         Ok(())
     } else {
@@ -114,17 +113,17 @@ fn reordering_is_waited_for_up_to_half_a_round_trip(_rt: HostRuntime) -> Result<
     let unknown = path.times(200, 30).is_none();
     let place = Place::first(7);
     path.trip.ask(place, 20);
-    // 40, with a variation of 20: an answer takes 65 and at most 125.
+    // 40, with a variation of 20: an answer takes 65. Ten and a quarter more are waited for.
     let measured = path.trip.hear(place, 60);
     let wanted = AskTimes {
-        delay: 10,
-        retry: 125,
+        delay: 13,
+        retry: 122,
     };
     let as_seen = path.times(200, 60) == Some(wanted);
     path.see(35, 70);
     let wanted = AskTimes {
         delay: 20,
-        retry: 200,
+        retry: 115,
     };
     let half = path.times(200, 70) == Some(wanted);
     if unknown && measured && as_seen && half {

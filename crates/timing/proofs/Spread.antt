@@ -4,16 +4,13 @@ use Rattle.std.proofs.Math.Nat.{mul-div-le, lt-div-mul-add, mul-le-mul_right}
 use Rattle.std.proofs.lemmas.Bool.{cases_lt}
 use Rattle.std.proofs.lemmas.Nat.{le-div}
 use Rattle.timing.specs.declared.round_trip.Smoothed.{Smoothed}
-use Rattle.timing.specs.AskTimes.{answer_of, spacing_of, ask_times}
+use Rattle.timing.specs.AskTimes.{answer_of, ask_times}
 
-some_spacing : (s : Smoothed) → 0 < spacing_of s
-some_spacing s = omega arith
+some_time : (s : Smoothed) → 0 < answer_of s
+some_time s = omega arith
 
-quarter : (n : ℕ) → n / 4 ≤ n
-quarter n = omega arith
-
-answer_in_spacing : (s : Smoothed) → answer_of s ≤ spacing_of s
-answer_in_spacing s = let h = quarter s.variation in omega arith
+self_in : (n : ℕ) → n ≤ n
+self_in n = omega arith
 
 some_more : (n room spacing patience : ℕ) → (if suc n == 0 then max spacing patience else room / suc n) ≡ room / suc n
 some_more n room spacing patience = grind (arith)
@@ -45,30 +42,30 @@ late_of (suc n) more room spacing patience answer many fits within enough =
 abbrev room_of : Smoothed → (patience reordering : ℕ) → ℕ
 room_of s patience reordering = (patience - answer_of s) - min reordering (patience - answer_of s)
 
-pub apart : (s : Smoothed) (patience reordering : ℕ) → spacing_of s ≤ (ask_times s patience reordering).retry
+pub apart : (s : Smoothed) (patience reordering : ℕ) → answer_of s ≤ (ask_times s patience reordering).retry
 apart s patience reordering =
     let room : ℕ = room_of s patience reordering in
-    apart_of (room / spacing_of s) room (spacing_of s) patience (mul-div-le room (spacing_of s))
+    apart_of (room / answer_of s) room (answer_of s) patience (mul-div-le room (answer_of s))
 
 -- what lies in the room lies in the patience
 in_patience : (patience answer reordering ask : ℕ) → answer ≤ patience → ask ≤ (patience - answer) - min reordering (patience - answer) → min reordering (patience - answer) + ask + answer ≤ patience
 in_patience patience answer reordering ask within in_room = omega arith
 
-pub as_many : (s : Smoothed) (patience reordering more : ℕ) → let t = ask_times s patience reordering in t.delay + more * spacing_of s + answer_of s ≤ patience → t.delay + more * t.retry + answer_of s ≤ patience
+pub as_many : (s : Smoothed) (patience reordering more : ℕ) → let t = ask_times s patience reordering in t.delay + more * answer_of s + answer_of s ≤ patience → t.delay + more * t.retry + answer_of s ≤ patience
 as_many s patience reordering more fits =
     let room : ℕ = room_of s patience reordering in
-    let few : more ≤ room / spacing_of s = le-div more room (spacing_of s) (some_spacing s) (omega arith) in
-    in_patience patience (answer_of s) reordering (more * (ask_times s patience reordering).retry) (omega arith) (fit_of (room / spacing_of s) more room (spacing_of s) patience few)
+    let few : more ≤ room / answer_of s = le-div more room (answer_of s) (some_time s) (omega arith) in
+    in_patience patience (answer_of s) reordering (more * (ask_times s patience reordering).retry) (omega arith) (fit_of (room / answer_of s) more room (answer_of s) patience few)
 
 late_with : (patience answer reordering more ask : ℕ) → answer ≤ patience → (patience - answer) - min reordering (patience - answer) + answer ≤ ask + more → patience ≤ min reordering (patience - answer) + ask + more
 late_with patience answer reordering more ask within late = omega arith
 
-late_or_not : (s : Smoothed) (patience reordering more : ℕ) → answer_of s ≤ patience → let t = ask_times s patience reordering in let n = room_of s patience reordering / spacing_of s in (n < more) ⊎ (more ≤ n) → (t.delay + more * t.retry + answer_of s ≤ patience) ⊎ (patience ≤ t.delay + more * t.retry + more)
+late_or_not : (s : Smoothed) (patience reordering more : ℕ) → answer_of s ≤ patience → let t = ask_times s patience reordering in let n = room_of s patience reordering / answer_of s in (n < more) ⊎ (more ≤ n) → (t.delay + more * t.retry + answer_of s ≤ patience) ⊎ (patience ≤ t.delay + more * t.retry + more)
 late_or_not s patience reordering more within (inr few) =
-    inl (in_patience patience (answer_of s) reordering (more * (ask_times s patience reordering).retry) within (fit_of (room_of s patience reordering / spacing_of s) more (room_of s patience reordering) (spacing_of s) patience few))
+    inl (in_patience patience (answer_of s) reordering (more * (ask_times s patience reordering).retry) within (fit_of (room_of s patience reordering / answer_of s) more (room_of s patience reordering) (answer_of s) patience few))
 late_or_not s patience reordering more within (inl many) =
     let room : ℕ = room_of s patience reordering in
-    inr (late_with patience (answer_of s) reordering more (more * (ask_times s patience reordering).retry) within (late_of (room / spacing_of s) more room (spacing_of s) patience (answer_of s) many (mul-div-le room (spacing_of s)) (answer_in_spacing s) (omega arith)))
+    inr (late_with patience (answer_of s) reordering more (more * (ask_times s patience reordering).retry) within (late_of (room / answer_of s) more room (answer_of s) patience (answer_of s) many (mul-div-le room (answer_of s)) (self_in (answer_of s)) (omega arith)))
 
 pub not_late : (s : Smoothed) (patience reordering more : ℕ) → let t = ask_times s patience reordering in answer_of s ≤ patience → (t.delay + more * t.retry + answer_of s ≤ patience) ⊎ (patience ≤ t.delay + more * t.retry + more)
-not_late s patience reordering more within = late_or_not s patience reordering more within (cases_lt (room_of s patience reordering / spacing_of s) more)
+not_late s patience reordering more within = late_or_not s patience reordering more within (cases_lt (room_of s patience reordering / answer_of s) more)

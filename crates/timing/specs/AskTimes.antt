@@ -4,13 +4,10 @@ use Rattle.timing.specs.Capped.{capped}
 use Rattle.timing.specs.declared.ask_times.AskTimes.{AskTimes}
 use Rattle.timing.specs.declared.round_trip.Smoothed.{Smoothed}
 
--- how long a retransmission takes from its ask on, mostly: the smoothed time, its variation, and five for timers
+-- how long a retransmission takes from its ask on, mostly: the smoothed time, its variation, and five for timers (RFC 6298, section 2,
+-- smooths both)
 abbrev pub answer_of : Smoothed → ℕ
 answer_of s = capped (capped (s.time / 8 + s.variation / 4) + 5)
-
--- what it takes at most: the smoothed time, four times its variation (RFC 6298, section 2), and five for timers
-abbrev pub spacing_of : Smoothed → ℕ
-spacing_of s = capped (capped (s.time / 8 + s.variation) + 5)
 
 -- Asks that are `spacing` apart or more, of which the first has so much time that its answer is in time: how far apart they are, so
 -- that as many as fit are spread over that room. Where no second one fits, it comes when the place is given up.
@@ -22,4 +19,4 @@ abbrev pub ask_times : Smoothed → (patience reordering : ℕ) → AskTimes
 ask_times s patience reordering =
     let in_time = patience - answer_of s in
     let delay = min reordering in_time in
-    record { delay = delay; retry = spread (in_time - delay) (spacing_of s) patience }
+    record { delay = delay; retry = spread (in_time - delay) (answer_of s) patience }

@@ -1,6 +1,6 @@
 //! When missing places are asked for, so that as many asks as can be answered in time are made.
 ghost use Rattle.std.specs.Prelude.{◌≡◌, ◌<◌};
-ghost use Rattle.timing.specs.AskTimes.{ask_times, answer_of, spacing_of};
+ghost use Rattle.timing.specs.AskTimes.{ask_times, answer_of};
 
 use crate::round_trip::Smoothed;
 
@@ -17,14 +17,14 @@ impl AskTimes {
     /// The times of asks for a place that is waited for so long, where packets come up to `reordering` behind later ones.
     ///
     /// The first ask comes as soon as reordering allows, where its answer then comes in time. As many more are made as have their
-    /// answers in time and lie no closer than what a retransmission takes at most; they are spread over the time that there is, so that
+    /// answers in time and lie no closer than what one takes; they are spread over the time that there is, so that
     /// an answer on its way is seldom asked for again. Where none has, none is made before the place is given up.
     pub fn fitting(smoothed: &Smoothed, patience: u64, reordering: u64) -> AskTimes
         ensures { result ≡ ask_times smoothed.now patience reordering }
     {
-        let in_time = patience.saturating_sub(smoothed.answer());
+        let spacing = smoothed.answer();
+        let in_time = patience.saturating_sub(spacing);
         let delay = reordering.min(in_time);
-        let spacing = smoothed.spacing();
         let room = in_time - delay;
         let more = room / spacing;
         AskTimes {
@@ -40,21 +40,14 @@ impl AskTimes {
 
 impl Smoothed {
     /// How long a retransmission takes from its ask on, mostly, in milliseconds: the smoothed time, its variation, and five for timers.
+    /// (RFC 6298, section 2, has four times the variation, for a timer that hardly ever runs out too soon. Here one more ask is worth an
+    /// answer that comes twice.)
     pub fn answer(&self) -> u64
-        ensures { result ≡ answer_of self.now }
-    {
-        (self.time / 8)
-            .saturating_add(self.variation / 4)
-            .saturating_add(5)
-    }
-
-    /// What it takes at most, in milliseconds: the smoothed time, four times its variation (RFC 6298, section 2), and five for timers.
-    pub fn spacing(&self) -> u64
-        ensures value { result ≡ spacing_of self.now }
+        ensures value { result ≡ answer_of self.now }
         ensures some_time { 0 < result }
     {
         (self.time / 8)
-            .saturating_add(self.variation)
+            .saturating_add(self.variation / 4)
             .saturating_add(5)
     }
 }

@@ -3,7 +3,7 @@ ghost use Rattle.std.specs.Prelude.{◌≡◌, ◌<◌, ◌≤◌, ◌+◌, ◌-
 ghost use Rattle.timing.specs.declared.round_trip.Smoothed.{Smoothed};
 ghost use Rattle.timing.specs.declared.playout.Playout.{Playout};
 ghost use Rattle.timing.specs.declared.silence.Silence.{Silence};
-ghost use Rattle.timing.specs.AskTimes.{ask_times, answer_of, spacing_of};
+ghost use Rattle.timing.specs.AskTimes.{ask_times, answer_of};
 ghost use Rattle.timing.specs.Lately.{greatest_at};
 ghost use Rattle.timing.specs.Playout.{heard_at, ms_of, release_at, ticks_of};
 ghost use Rattle.timing.specs.Silence.{lead_of};
@@ -13,14 +13,14 @@ ghost use Rattle.timing.specs.Sightings.{Sighting, seen_of, IsInOrder, AreWithin
 /// the others after the retry.
 #[tactic(auto, using(crate::proofs::Spread::apart, crate::proofs::Spread::as_many, crate::proofs::Spread::not_late))]
 pub fn asks_fit_the_time()
-    // No ask lies closer to the one before than a retransmission takes at most.
-    ensures apart { (s : Smoothed) (patience reordering : ℕ) → spacing_of s ≤ (ask_times s patience reordering).retry }
+    // No ask lies closer to the one before than its answer takes, mostly.
+    ensures apart { (s : Smoothed) (patience reordering : ℕ) → answer_of s ≤ (ask_times s patience reordering).retry }
     // The first is made as soon as reordering allows, if its answer then comes in time, and never later than that.
     ensures early { (s : Smoothed) (patience reordering : ℕ) → reordering + answer_of s ≤ patience → (ask_times s patience reordering).delay ≡ reordering }
     ensures no_later { (s : Smoothed) (patience reordering : ℕ) → answer_of s ≤ patience → (ask_times s patience reordering).delay + answer_of s ≤ patience }
     // However many more would have their answers in time as close together as may be, so many have them as they are.
     ensures as_many { (s : Smoothed) (patience reordering more : ℕ) → let t = ask_times s patience reordering in
-        t.delay + more * spacing_of s + answer_of s ≤ patience → t.delay + more * t.retry + answer_of s ≤ patience }
+        t.delay + more * answer_of s + answer_of s ≤ patience → t.delay + more * t.retry + answer_of s ≤ patience }
     // An ask whose answer would come too late is not made while the place is waited for; rounding may take as many milliseconds as there
     // were asks before.
     ensures not_late { (s : Smoothed) (patience reordering more : ℕ) → let t = ask_times s patience reordering in

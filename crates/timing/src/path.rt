@@ -1,6 +1,6 @@
 //! What was measured of a path.
 ghost use Rattle.std.specs.Prelude.{◌≡◌, IfSome, ◌<◌};
-ghost use Rattle.timing.specs.Path.{new_path, times_over};
+ghost use Rattle.timing.specs.Path.{new_path, times_over, waited_for};
 ghost use Rattle.timing.specs.Lately.{seen_at};
 
 use crate::arrivals::Arrivals;
@@ -43,7 +43,14 @@ impl Path {
         ensures some_time { IfSome result (λ times. 0 < times.retry) }
     {
         let smoothed = self.trip.smoothed()?;
-        let reordering = self.reordering.greatest(now).min(smoothed.time / 16);
+        let reordering = waited_for(self.reordering.greatest(now)).min(smoothed.time / 16);
         Some(AskTimes::fitting(&smoothed, patience, reordering))
     }
+}
+
+/// How long reordering is waited for that was seen to be so far: by a quarter longer, since the next packet may come a little later.
+fn waited_for(extent: u64) -> u64
+    ensures { result ≡ waited_for extent }
+{
+    extent.saturating_add(extent.saturating_add(3) / 4)
 }

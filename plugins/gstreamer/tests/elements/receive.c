@@ -211,11 +211,11 @@ static void test_in_doubt(void) {
     gst_clear_buffer(&nack);
     set_clock_to(&r, 30);
     REPAIR(&r, 50, .sequence = 11);
-    TICKS(&r, 20 + 35);
+    TICKS(&r, 20 + 20);
     nack = next_buffer(r.feedback);
     CHECK(is_nack(nack, 12, 0));
     gst_clear_buffer(&nack);
-    set_clock_to(&r, 59);
+    set_clock_to(&r, 44);
     REPAIR(&r, 51, .sequence = 12);
     CHECK(count_of(r.element, "retransmissions") == 2);
     CHECK(count_of(r.element, "rtx-round-trip") == MS(10));
@@ -231,10 +231,10 @@ void test_receive(void) {
     test_overrun();
     test_others();
     test_refused();
-    /* an answer takes the trip of 10, its variation of 5 and 5, and NACKs lie 10 + 4 * 5 + 5 apart at least: as many as fit
-     * before the last answer that is in time, and evenly */
-    test_retry(1000, (1000 - 20) / 28);
-    test_retry(100, (100 - 20) / 2);
-    test_retry(60, 60 - 20);
+    /* an answer takes the trip of 10, its variation of 5 and 5, and NACKs lie no closer: as many as fit before the last answer that
+     * is in time, and evenly */
+    test_retry(1000, (1000 - 20) / 49);
+    test_retry(110, (110 - 20) / 4);
+    test_retry(50, 50 - 20);
     test_in_doubt();
 }
