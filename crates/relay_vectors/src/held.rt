@@ -48,13 +48,13 @@ fn left(script: &Script, wanted: &[(u64, u16, u32)]) -> bool {
 /// timestamps wrap.
 #[test]
 fn each_leaves_at_its_time(rt: HostRuntime) -> Result<(), Fail> {
-    let mut relay = relay_by(rt.alloc(), 5, 64, Some(Playout::new(90000)))?;
     let mut script = Script::new(rt.alloc());
     script.comes(1000, Side::Far, FAR, &stamped(10, 4294967286))?;
     script.comes(1012, Side::Far, FAR, &stamped(11, 890))?;
     script.comes(1024, Side::Far, FAR, &stamped(13, 1790))?;
     script.comes(1025, Side::Far, FAR, &stamped(14, 2690))?;
     script.comes(1090, Side::Far, FAR, &repaired(12, 890))?;
+    let mut relay = relay_by(rt.alloc(), 5, 64, Some(Playout::new(90000)))?;
     if run(&mut script, &mut relay).is_err() {
         return Err(Fail::from("it ends by its bounds"));
     }
@@ -76,10 +76,10 @@ fn each_leaves_at_its_time(rt: HostRuntime) -> Result<(), Fail> {
 /// A place that is given up is passed at its time, and what lies behind it leaves at its own.
 #[test]
 fn what_is_lost_is_not_held(rt: HostRuntime) -> Result<(), Fail> {
-    let mut relay = relay_by(rt.alloc(), 3, 64, Some(Playout::new(1000)))?;
     let mut script = Script::new(rt.alloc());
     script.comes(1000, Side::Far, FAR, &stamped(10, 0))?;
     script.comes(1040, Side::Far, FAR, &stamped(12, 40))?;
+    let mut relay = relay_by(rt.alloc(), 3, 64, Some(Playout::new(1000)))?;
     if run(&mut script, &mut relay).is_err() {
         return Err(Fail::from("it ends by its bounds"));
     }
@@ -94,13 +94,13 @@ fn what_is_lost_is_not_held(rt: HostRuntime) -> Result<(), Fail> {
 /// packet is to leave, which so leaves at its own time; and what is repaired just before leaves as it comes.
 #[test]
 fn what_is_lost_holds_nothing_up(rt: HostRuntime) -> Result<(), Fail> {
-    let mut relay = relay_by(rt.alloc(), 7, 64, Some(Playout::new(1000)))?;
     let mut script = Script::new(rt.alloc());
     script.comes(1000, Side::Far, FAR, &stamped(10, 0))?;
     script.comes(1045, Side::Far, FAR, &stamped(13, 30))?;
     script.comes(1055, Side::Far, FAR, &stamped(15, 50))?;
     script.comes(1249, Side::Far, FAR, &repaired(14, 40))?;
     script.comes(1260, Side::Far, FAR, &stamped(17, 255))?;
+    let mut relay = relay_by(rt.alloc(), 7, 64, Some(Playout::new(1000)))?;
     if run(&mut script, &mut relay).is_err() {
         return Err(Fail::from("it ends by its bounds"));
     }
@@ -122,11 +122,11 @@ fn what_is_lost_holds_nothing_up(rt: HostRuntime) -> Result<(), Fail> {
 /// A stream that restarts has a clock of its own, whose timestamps may lie below the old ones.
 #[test]
 fn a_restart_begins_a_clock(rt: HostRuntime) -> Result<(), Fail> {
-    let mut relay = relay_by(rt.alloc(), 3, 64, Some(Playout::new(1000)))?;
     let mut script = Script::new(rt.alloc());
     script.comes(1000, Side::Far, FAR, &stamped(10, 500000))?;
     script.comes(2000, Side::Far, FAR, &stamped(30000, 100))?;
     script.comes(2010, Side::Far, FAR, &stamped(30001, 110))?;
+    let mut relay = relay_by(rt.alloc(), 3, 64, Some(Playout::new(1000)))?;
     if run(&mut script, &mut relay).is_err() {
         return Err(Fail::from("it ends by its bounds"));
     }

@@ -77,12 +77,12 @@ pub(crate) fn media(seq: u16, octet: u8) -> [u8; 13] {
 
 #[test]
 fn a_lost_packet_is_asked_for_and_played_in_its_place(rt: HostRuntime) -> Result<(), Fail> {
-    let mut relay = relay(rt.alloc(), 3)?;
     let mut script = Script::new(rt.alloc());
     script.comes(1, Side::Far, FAR, &media(65534, 1))?;
     script.comes(2, Side::Far, STRANGER, &media(65535, 66))?;
     script.comes(3, Side::Far, FAR, &media(0, 3))?;
     script.comes(43, Side::Far, FAR, &repair(65535, 2))?;
+    let mut relay = relay(rt.alloc(), 3)?;
     if run(&mut script, &mut relay).is_err() {
         return Err(Fail::from("it ends by its bounds"));
     }
@@ -101,10 +101,10 @@ fn a_lost_packet_is_asked_for_and_played_in_its_place(rt: HostRuntime) -> Result
 
 #[test]
 fn a_place_that_is_given_up_is_a_hole(rt: HostRuntime) -> Result<(), Fail> {
-    let mut relay = relay(rt.alloc(), 3)?;
     let mut script = Script::new(rt.alloc());
     script.comes(1, Side::Far, FAR, &media(10, 1))?;
     script.comes(3, Side::Far, FAR, &media(12, 3))?;
+    let mut relay = relay(rt.alloc(), 3)?;
     if run(&mut script, &mut relay).is_err() {
         return Err(Fail::from("it ends by its bounds"));
     }
@@ -119,13 +119,13 @@ fn a_place_that_is_given_up_is_a_hole(rt: HostRuntime) -> Result<(), Fail> {
 /// Two packets of new numbers are enough 200 milliseconds after the last one of the old numbers, and no sooner.
 #[test]
 fn numbers_go_on_where_a_stream_restarts(rt: HostRuntime) -> Result<(), Fail> {
-    let mut relay = relay(rt.alloc(), 4)?;
     let mut script = Script::new(rt.alloc());
     script.comes(1, Side::Far, FAR, &media(10, 1))?;
     script.comes(2, Side::Far, FAR, &media(11, 2))?;
     script.comes(3, Side::Far, FAR, &media(30000, 3))?;
     script.comes(201, Side::Far, FAR, &media(30001, 4))?;
     script.comes(202, Side::Far, FAR, &media(30002, 5))?;
+    let mut relay = relay(rt.alloc(), 4)?;
     if run(&mut script, &mut relay).is_err() {
         return Err(Fail::from("it ends by its bounds"));
     }
@@ -158,7 +158,6 @@ fn nack(seq: u16) -> [u8; 16] {
 /// such an answer takes 65 milliseconds, once more after 122.
 #[test]
 fn asks_follow_reordering_and_the_round_trip(rt: HostRuntime) -> Result<(), Fail> {
-    let mut relay = relay(rt.alloc(), 7)?;
     let mut script = Script::new(rt.alloc());
     script.comes(1, Side::Far, FAR, &media(10, 1))?;
     script.comes(3, Side::Far, FAR, &media(12, 3))?;
@@ -166,6 +165,7 @@ fn asks_follow_reordering_and_the_round_trip(rt: HostRuntime) -> Result<(), Fail
     script.comes(20, Side::Far, FAR, &media(14, 5))?;
     script.comes(60, Side::Far, FAR, &repair(13, 4))?;
     script.comes(100, Side::Far, FAR, &media(16, 7))?;
+    let mut relay = relay(rt.alloc(), 7)?;
     if run(&mut script, &mut relay).is_err() {
         return Err(Fail::from("it ends by its bounds"));
     }
@@ -187,7 +187,6 @@ fn asks_follow_reordering_and_the_round_trip(rt: HostRuntime) -> Result<(), Fail
 /// the far side's, and is asked. Before that it is a stranger's.
 #[test]
 fn a_far_side_that_moves(rt: HostRuntime) -> Result<(), Fail> {
-    let mut relay = relay(rt.alloc(), 5)?;
     let mut script = Script::new(rt.alloc());
     script.comes(1, Side::Far, FAR, &media(10, 1))?;
     // What the old address sends last is refused, and comes from it all the same.
@@ -199,6 +198,7 @@ fn a_far_side_that_moves(rt: HostRuntime) -> Result<(), Fail> {
     script.comes(170, Side::Far, STRANGER, &media(13, 4))?;
     script.comes(180, Side::Far, STRANGER, &media(14, 5))?;
     script.comes(190, Side::Far, STRANGER, &media(11, 2))?;
+    let mut relay = relay(rt.alloc(), 5)?;
     if run(&mut script, &mut relay).is_err() {
         return Err(Fail::from("it ends by its bounds"));
     }
@@ -219,10 +219,10 @@ fn a_far_side_that_moves(rt: HostRuntime) -> Result<(), Fail> {
 /// What does not go on with the session is a stranger's, however long the far side is silent.
 #[test]
 fn strangers_stay_strangers(rt: HostRuntime) -> Result<(), Fail> {
-    let mut relay = relay(rt.alloc(), 3)?;
     let mut script = Script::new(rt.alloc());
     script.comes(1, Side::Far, STRANGER, &media(9, 66))?;
     script.comes(2, Side::Far, FAR, &media(10, 1))?;
+    let mut relay = relay(rt.alloc(), 3)?;
     let mut other = media(11, 66);
     other[11] = 0x12;
     let mut kind = media(11, 66);
@@ -253,10 +253,10 @@ fn strangers_stay_strangers(rt: HostRuntime) -> Result<(), Fail> {
 /// The last number that shows the far side at another address lies 2999 ahead.
 #[test]
 fn a_far_side_that_moves_and_loses(rt: HostRuntime) -> Result<(), Fail> {
-    let mut relay = relay(rt.alloc(), 2)?;
     let mut script = Script::new(rt.alloc());
     script.comes(1, Side::Far, FAR, &media(65535, 1))?;
     script.comes(200, Side::Far, STRANGER, &media(2998, 2))?;
+    let mut relay = relay(rt.alloc(), 2)?;
     if run(&mut script, &mut relay).is_err() {
         return Err(Fail::from("it ends by its bounds"));
     }

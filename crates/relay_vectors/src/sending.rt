@@ -79,13 +79,13 @@ const NACK: [u8; 16] = [
 
 #[test]
 fn a_stream_is_sent_and_a_lost_packet_again(rt: HostRuntime) -> Result<(), Fail> {
-    let mut relay = relay(rt.alloc(), 2, Pace::new(Rate::Free))?;
     let mut script = Script::new(rt.alloc());
     script.comes(5, Side::Near, APPLICATION, &FIRST)?;
     script.comes(6, Side::Near, APPLICATION, &OTHER)?;
     script.comes(8, Side::Near, APPLICATION, &SECOND)?;
     script.comes(20, Side::Far, STRANGER, &NACK)?;
     script.comes(48, Side::Far, FAR, &NACK)?;
+    let mut relay = relay(rt.alloc(), 2, Pace::new(Rate::Free))?;
     if run(&mut script, &mut relay).is_err() {
         return Err(Fail::from("it ends by its bounds"));
     }
@@ -105,10 +105,10 @@ fn a_stream_is_sent_and_a_lost_packet_again(rt: HostRuntime) -> Result<(), Fail>
 #[test]
 fn retransmissions_keep_their_pace(rt: HostRuntime) -> Result<(), Fail> {
     // Two packets that are marked at once, at one kilobit a second: the first has 15 octets, which take 120 milliseconds.
-    let mut relay = relay(rt.alloc(), 2, Pace::new(Rate::Kilobits(1)))?;
     let mut script = Script::new(rt.alloc());
     script.comes(5, Side::Near, APPLICATION, &FIRST)?;
     script.comes(8, Side::Near, APPLICATION, &SECOND)?;
+    let mut relay = relay(rt.alloc(), 2, Pace::new(Rate::Kilobits(1)))?;
     let both = [
         0x81, 0xcd, 0, 3, 0x33, 0x33, 0x33, 0x33, 0x11, 0x11, 0x11, 0x11, 0xff, 0xff, 0, 1,
     ];
@@ -124,11 +124,11 @@ fn retransmissions_keep_their_pace(rt: HostRuntime) -> Result<(), Fail> {
 
 #[test]
 fn a_stream_that_takes_the_place_of_another(rt: HostRuntime) -> Result<(), Fail> {
-    let mut relay = relay(rt.alloc(), 2, Pace::new(Rate::Free))?;
     let mut script = Script::new(rt.alloc());
     script.comes(5, Side::Near, APPLICATION, &FIRST)?;
     script.comes(1004, Side::Near, APPLICATION, &OTHER)?;
     script.comes(1005, Side::Near, APPLICATION, &OTHER)?;
+    let mut relay = relay(rt.alloc(), 2, Pace::new(Rate::Free))?;
     if run(&mut script, &mut relay).is_err() {
         return Err(Fail::from("it ends by its bounds"));
     }
@@ -189,10 +189,10 @@ fn what_does_not_fit_the_time_is_passed_over(rt: HostRuntime) -> Result<(), Fail
         min_resend: 10,
         deadline: Some(100),
     };
-    let mut relay = relay_by(rt.alloc(), 3, Pace::new(Rate::Free), rule)?;
     let mut script = Script::new(rt.alloc());
     script.comes(5, Side::Near, APPLICATION, &FIRST)?;
     script.comes(8, Side::Near, APPLICATION, &SECOND)?;
+    let mut relay = relay_by(rt.alloc(), 3, Pace::new(Rate::Free), rule)?;
     for moment in [48, 48, 57, 105, 106] {
         script.comes(moment, Side::Far, FAR, &NACK)?;
     }
