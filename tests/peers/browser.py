@@ -9,6 +9,7 @@ and waits for 200 milliseconds. What it plays has the payload, timestamp and mar
 import asyncio
 import json
 import shutil
+import subprocess
 import sys
 
 try:
@@ -63,7 +64,7 @@ class Session:
         self.came = self.stage.room / f"came{self.drop}"
         with open(self.came, "wb") as kept:
             self.far = self.stage.run("far", "--patience", LATENCY, "--delay", 0, "--retry", 70, "--nacks", 255, "--follows", 1,
-                                      "--seconds", SECONDS + 5, self.ahead, self.back, stream, stdout=kept, stderr=-1)
+                                      "--seconds", SECONDS + 5, self.ahead, self.back, stream, stdout=kept, stderr=subprocess.PIPE)
 
     async def carry(self):
         """Hands what comes of the two streams on, from the first media packet on."""
