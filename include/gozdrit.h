@@ -246,11 +246,18 @@ typedef struct gozdrit_receiver_config {
      * milliseconds. 0: only the next number in sequence goes on with it, and min_ahead are believed where the first
      * lies less than half a cycle ahead, min_behind else. The defaults have 200. */
     uint64_t silence;
-    /* `delay` and `retry` hold until a round trip was measured, and follow the path from then on: the first NACK waits as long as
-     * packets were seen to come behind later ones, and as many NACKs follow as have their answers within the patience, no closer
-     * than the round trip with its variation (RFC 6298, section 2). 0: they stay as they are set. */
-    gozdrit_bool follows;
+    uint8_t follows;       /* what follows the path: GOZDRIT_FOLLOWS_NOTHING, GOZDRIT_FOLLOWS_ASKS or GOZDRIT_FOLLOWS_SENT */
 } gozdrit_receiver_config;
+
+/* What of a receiver follows what it measures of the path. */
+#define GOZDRIT_FOLLOWS_NOTHING 0 /* all times stay as they are set */
+/* `delay` and `retry` hold until a round trip was measured, and follow the path from then on: the first NACK waits as long as
+ * packets were seen to come behind later ones, and as many NACKs follow as have their answers within the patience, no closer
+ * than the round trip with its variation (RFC 6298, section 2). */
+#define GOZDRIT_FOLLOWS_ASKS 1
+/* That, and a packet is given up by when it was sent: one that was lost in a silence, longer than the patience by a quarter or
+ * more, is waited for that much less than the patience as it was sent before the silence ended, at the rate before. */
+#define GOZDRIT_FOLLOWS_SENT 2
 
 /* What a packet carries beside its payload (RFC 3550, sections 5.1 and 5.3.1). */
 typedef struct gozdrit_header {
@@ -489,7 +496,7 @@ int32_t gozdrit_receiver_defaults(gozdrit_receiver_config *config);
  * some 200 octets more than GOZDRIT_MAX_PAYLOAD each, of which it touches what follows the most packets that it held.
  *
  *   51, 52  the session, as gozdrit_session says
- *   53      window is not in 1 to GOZDRIT_MAX_STORE, or retry or nacks is 0
+ *   53      window is not in 1 to GOZDRIT_MAX_STORE, or retry or nacks is 0, or follows is not 0, 1 or 2
  *   73      there is no memory for it
  */
 int32_t gozdrit_receiver_new(const gozdrit_receiver_config *config, gozdrit_receiver *receiver);
@@ -529,7 +536,7 @@ int32_t gozdrit_receive(gozdrit_receiver *receiver, const uint8_t *octets, size_
  *   GOZDRIT_PACKET  it was held. Its extended sequence number, the payload's length and the header stand in `played`, its
  *                   payload at the front of `payload`. The header's arrays behind their counts are as they were. Where
  *                   has_extension is 0, word_count is too, and profile is as it was.
- *   GOZDRIT_GAP     it was missing, and its patience has passed. Its extended sequence number stands in `played`; all else
+ *   GOZDRIT_GAP     it was missing, and its patience, or what GOZDRIT_FOLLOWS_SENT left of it, has passed. Its extended sequence number stands in `played`; all else
  *                   of it, and `payload`, is as it was.
  *   GOZDRIT_WAIT    it is missing, and its patience has not passed, or nothing is held. All else of `played`, and
  *                   `payload`, is as it was.
@@ -578,9 +585,13 @@ int32_t gozdrit_restart(gozdrit_receiver *receiver);
  */
 int32_t gozdrit_set_times(gozdrit_receiver *receiver, uint64_t patience, uint64_t delay, uint64_t retry);
 
-/* Whether the times of NACKs follow the path from now on: config->follows. Where they do again, they follow what was measured
- * before when the next datagram comes; where they don't, `delay` and `retry` stay as they are until they are set. */
-int32_t gozdrit_follow(gozdrit_receiver *receiver, gozdrit_bool follows);
+/*
+ * What follows the path from now on: config->follows. Where the times of NACKs do again, they follow what was measured before when
+ * the next datagram comes; where they don't, `delay` and `retry` stay as they are until they are set. Ask gozdrit_next_moment again.
+ *
+ *   53  follows is not 0, 1 or 2
+ */
+int32_t gozdrit_follow(gozdrit_receiver *receiver, uint8_t follows);
 
 /* How many packets are missing. */
 int32_t gozdrit_missing(const gozdrit_receiver *receiver, size_t *count);

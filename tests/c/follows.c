@@ -2,7 +2,7 @@
 #include "checks.h"
 
 static const gozdrit_receiver_config CONFIG = {
-    .session = SESSION, .patience = 200, .retry = 40, .window = 64, .nacks = 9, .delay = 20, .follows = 1};
+    .session = SESSION, .patience = 200, .retry = 40, .window = 64, .nacks = 9, .delay = 20, .follows = GOZDRIT_FOLLOWS_ASKS};
 
 static gozdrit_receiver receiver_of(const gozdrit_receiver_config *config) {
     gozdrit_receiver r = {NULL, 0};
@@ -83,13 +83,16 @@ static void test_set_and_restart(void) {
 static void test_switched(void) {
     gozdrit_receiver r = receiver_of(&CONFIG);
     measures_forty(&r, 0, 100);
-    ANSWERS(GOZDRIT_OK, gozdrit_follow(&r, 0));
+    ANSWERS(GOZDRIT_OK, gozdrit_follow(&r, GOZDRIT_FOLLOWS_NOTHING));
     ANSWERS(GOZDRIT_OK, gozdrit_set_times(&r, 200, 30, 50));
     HEARS_MEDIA(&r, 103, 70, MEDIA(65639));
     times(&r, 30, 50, 40, 20);
-    ANSWERS(GOZDRIT_OK, gozdrit_follow(&r, 200));
+    ANSWERS(GOZDRIT_BAD_LIMIT, gozdrit_follow(&r, 3));
+    HEARS_MEDIA(&r, 104, 72, MEDIA(65640));
     times(&r, 30, 50, 40, 20);
-    HEARS_MEDIA(&r, 104, 75, MEDIA(65640));
+    ANSWERS(GOZDRIT_OK, gozdrit_follow(&r, GOZDRIT_FOLLOWS_SENT));
+    times(&r, 30, 50, 40, 20);
+    HEARS_MEDIA(&r, 105, 75, MEDIA(65641));
     times(&r, 0, 67, 40, 20);
     ANSWERS(GOZDRIT_OK, gozdrit_receiver_free(&r));
 }
@@ -98,7 +101,7 @@ static void test_switched(void) {
 static void test_without(void) {
     gozdrit_receiver_config config = CONFIG;
     gozdrit_receiver r;
-    config.follows = 0;
+    config.follows = GOZDRIT_FOLLOWS_NOTHING;
     r = receiver_of(&config);
     HEARS_MEDIA(&r, 100, 0, MEDIA(65636));
     HEARS_MEDIA(&r, 102, 5, MEDIA(65638));
@@ -106,6 +109,61 @@ static void test_without(void) {
     HEARS_RTX(&r, 0x22222222, 101, 65, ((gozdrit_heard){.kind = GOZDRIT_RETRANSMISSION, .sequence = 65637}));
     times(&r, 20, 40, 0, 0);
     ANSWERS(GOZDRIT_OK, gozdrit_receiver_free(&r));
+}
+
+/* Ten packets a second, then a silence of 1100 ms in which ten are lost: the last of them was sent 100 ms before it ends, the one
+ * before it 200, and so on. */
+static void hears_silence(gozdrit_receiver *r) {
+    uint16_t number;
+    for (number = 100; number <= 110; number++) {
+        HEARS_MEDIA(r, number, (uint64_t)(number - 100) * 100, MEDIA(65536 + (uint64_t)number));
+        PLAYS(r, (uint64_t)(number - 100) * 100, GOZDRIT_PACKET, 65536 + (uint64_t)number, (uint8_t)number);
+    }
+    HEARS_MEDIA(r, 121, 2100, MEDIA(65657));
+}
+
+/* Of a patience of 200 ms nothing is left for the first nine, and 100 for the last one, which alone is asked for. */
+static void test_sent(void) {
+    gozdrit_receiver_config config = CONFIG;
+    gozdrit_receiver r;
+    uint64_t sequence;
+    config.follows = GOZDRIT_FOLLOWS_SENT;
+    r = receiver_of(&config);
+    hears_silence(&r);
+    CALLS_AT(&r, true, 2100);
+    for (sequence = 65647; sequence <= 65655; sequence++) PLAYS(&r, 2100, GOZDRIT_GAP, sequence, 0);
+    PLAYS(&r, 2199, GOZDRIT_WAIT, 0, 0);
+    CALLS_AT(&r, true, 2120);
+    NACKS(&r, 2120, GOZDRIT_MOST, PAIR(120, 0));
+    NACKS(&r, 2160, GOZDRIT_MOST, PAIR(120, 0));
+    CALLS_AT(&r, true, 2200);
+    PLAYS(&r, 2200, GOZDRIT_GAP, 65656, 0);
+    PLAYS(&r, 2200, GOZDRIT_PACKET, 65657, 121);
+    ANSWERS(GOZDRIT_OK, gozdrit_receiver_free(&r));
+}
+
+/* By the notice all are waited for as long, and are asked for; and each that is left is waited for less as soon as it is by when it
+ * was sent. */
+static void test_noticed(void) {
+    gozdrit_receiver r = receiver_of(&CONFIG);
+    hears_silence(&r);
+    CALLS_AT(&r, true, 2120);
+    PLAYS(&r, 2299, GOZDRIT_WAIT, 0, 0);
+    PLAYS(&r, 2300, GOZDRIT_GAP, 65647, 0);
+    ANSWERS(GOZDRIT_OK, gozdrit_follow(&r, GOZDRIT_FOLLOWS_SENT));
+    PLAYS(&r, 2199, GOZDRIT_GAP, 65648, 0);
+    ANSWERS(GOZDRIT_OK, gozdrit_receiver_free(&r));
+}
+
+/* What follows is one of three. */
+static void test_unknown(void) {
+    gozdrit_receiver_config config = CONFIG;
+    gozdrit_receiver r = {NULL, 0};
+    config.follows = 3;
+    ANSWERS(GOZDRIT_BAD_LIMIT, gozdrit_receiver_new(&config, &r));
+    config.follows = 255;
+    ANSWERS(GOZDRIT_BAD_LIMIT, gozdrit_receiver_new(&config, &r));
+    CHECK(!r.held);
 }
 
 void test_follows(void) {
@@ -120,4 +178,7 @@ void test_follows(void) {
     test_set_and_restart();
     test_switched();
     test_without();
+    test_sent();
+    test_noticed();
+    test_unknown();
 }

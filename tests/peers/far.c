@@ -7,7 +7,7 @@
  * CSRCs and extensions, each behind two octets of its length (RFC 4571). A pipe loses nothing, and its end is the
  * decoder's.
  *
- * The times are those of the library, in milliseconds: 2000, 40, 90, and 20 NACKs. With --follows 1 they follow the path. It ends by SIGTERM, after --seconds N
+ * The times are those of the library, in milliseconds: 2000, 40, 90, and 20 NACKs. With --follows 1 or 2 they follow the path. It ends by SIGTERM, after --seconds N
  * (60), or where no new packet came for --idle N (2500) milliseconds since the first one, and nothing is missing. Then a line
  * of counts goes to the error output. The status is 0 where all that was played was written. */
 #define _POSIX_C_SOURCE 200809L
@@ -141,7 +141,7 @@ static bool make_far(far_end *f, char **words) {
     config.session = (gozdrit_session){f->of.media, f->of.rtx, f->of.reporter, (uint8_t)f->of.type, (uint8_t)f->of.rtx_type, 1};
     config.patience = f->patience, config.delay = f->delay, config.retry = f->retry;
     config.nacks = f->nacks == 0 ? 1 : (uint8_t)f->nacks;
-    config.follows = f->follows != 0;
+    config.follows = (uint8_t)f->follows;
     config.window = 4096;
     return f->at >= 0 && f->to > 0 && gozdrit_receiver_new(&config, &f->end) == GOZDRIT_OK
            && gozdrit_begin(&f->end, (uint16_t)f->of.first) == GOZDRIT_OK;

@@ -90,16 +90,17 @@ impl PathMeter {
         self.is_new
     }
 
-    /// Has the times of asks of an endpoint follow what was measured at the moment `now`. They stay until a round trip was measured.
-    pub fn follow<W: Window>(&mut self, endpoint: &mut AskingEndpoint<W>, now: u64)
+    /// Has the times of asks of an endpoint follow what was measured at the moment `now`, so that as many as can be fit into the span
+    /// `within`: the patience, or what is left of it for asks. They stay until a round trip was measured.
+    pub fn follow<W: Window>(&mut self, endpoint: &mut AskingEndpoint<W>, within: u64, now: u64)
         ensures meter { self.new ≡ record self.old { is_new = false } }
-        ensures core { endpoint.new.endpoint.core ≡ times_set (times_over self.old.path endpoint.old.endpoint.core.config.patience now) endpoint.old.endpoint.core.config.patience endpoint.old.endpoint.core }
-        ensures spare { endpoint.new.endpoint.spare ≡ times_set (times_over self.old.path endpoint.old.endpoint.core.config.patience now) endpoint.old.endpoint.core.config.patience endpoint.old.endpoint.spare }
+        ensures core { endpoint.new.endpoint.core ≡ times_set (times_over self.old.path within now) endpoint.old.endpoint.core.config.patience endpoint.old.endpoint.core }
+        ensures spare { endpoint.new.endpoint.spare ≡ times_set (times_over self.old.path within now) endpoint.old.endpoint.core.config.patience endpoint.old.endpoint.spare }
         ensures rest { endpoint.new ≡ record endpoint.old { endpoint = record endpoint.old.endpoint { core = endpoint.new.endpoint.core; spare = endpoint.new.endpoint.spare } } }
     {
         self.is_new = false;
         let patience = endpoint.endpoint().core().config().patience();
-        if let Some(times) = self.path.times(patience, now) {
+        if let Some(times) = self.path.times(within, now) {
             let _ = endpoint.set_times(patience, times.delay, times.retry);
         }
     }

@@ -148,12 +148,11 @@ impl<W: Window> ReceivingEndpoint<W> {
         ensures counts { self.new.counts ≡ count_played (play_of self.old.core.config.patience now self.old.core.span) self.old.counts }
         ensures rest { self.new ≡ record self.old { core = self.new.core; counts = self.new.counts } }
     {
-        let _ = self.counts.pass(self.core.peek(now));
-        self.core.pass(now);
+        let patience = self.core.config().patience();
+        self.pass_within(patience, now);
     }
 
-    /// [`pass`](ReceivingEndpoint::pass) with this patience, in milliseconds, for this once: for a caller that knows of the next place
-    /// that less of it is left, as since its packet was sent long before it was noticed to be missing.
+    /// [`Receiver::pass_within`] of what [`core`](ReceivingEndpoint::core) lent.
     pub fn pass_within(&mut self, patience: u64, now: u64)
         ensures passes { self.new.core ≡ receiver_passed (play_of patience now self.old.core.span) self.old.core }
         ensures plays { PlaysAny patience (state_of self.old.core) now (play_of patience now self.old.core.span) (state_of self.new.core) }
@@ -161,14 +160,8 @@ impl<W: Window> ReceivingEndpoint<W> {
         ensures counts { self.new.counts ≡ count_played (play_of patience now self.old.core.span) self.old.counts }
         ensures rest { self.new ≡ record self.old { core = self.new.core; counts = self.new.counts } }
     {
-        let config = self.core.config();
-        let _ = self
-            .core
-            .set_times(patience, config.delay(), config.retry());
-        self.pass(now);
-        let _ = self
-            .core
-            .set_times(config.patience(), config.delay(), config.retry());
+        let _ = self.counts.pass(self.core.peek_within(patience, now));
+        self.core.pass_within(patience, now);
     }
 
     /// [`Receiver::ask_most`] of what was believed.

@@ -25,6 +25,10 @@ pub record IsCapacity (count : ℕ) : Type 0 where
   pub some : 0 < count
   pub most : count ≤ 8192
 
+-- what follows the path: nothing, the times of asks, or these and how long a place is waited for
+abbrev pub IsFollowing : (follows : ℕ) → Type 0
+IsFollowing follows = follows ≤ 2
+
 -- the streams make a session
 pub record IsSession (s : SessionFields) : Type 0 where
   pub types : HasTypesFor s.any_media_type (streams_of s)
@@ -52,6 +56,7 @@ receiver_config f = receiving.config_with (streams_of f.session) f.patience f.de
 pub record HasReceiverLimits (f : ReceiverFields) : Type 0 where
   pub config : receiving.IsConfig (receiver_config f)
   pub window : IsCapacity f.window
+  pub follows : IsFollowing f.follows
 
 -- a number, or the usual one in the place of 0
 abbrev pub or_usual : (number usual : ℕ) → ℕ

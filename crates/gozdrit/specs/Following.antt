@@ -1,6 +1,6 @@
 -- What a receiver of C's does with a datagram, an ask and a play: what its endpoint does; and its path is measured by that, where the
 -- times of asks follow it.
-use Rattle.std.specs.Prelude.{◌≡◌, ℕ, ◌≤◌, Bool, true, false, List, length, take, Option, Some, None, Result, Ok, OnErr, IsOk}
+use Rattle.std.specs.Prelude.{◌≡◌, ℕ, ◌≤◌, Bool, true, false, List, length, take, Option, Some, None, Result, Ok, OnErr, IsOk, if◌then◌else◌}
 use Rattle.rtpwire.specs.declared.fault.TooShort.{TooShort}
 use Rattle.receiver.specs.declared.answer.Played.{Played}
 use Rattle.receiver.specs.declared.answer.Played.TheVariants.{Packet, Gap, Wait}
@@ -16,7 +16,7 @@ use Rattle.endpoint.specs.declared.path_meter.PathMeter.{PathMeter}
 use Rattle.endpoint.specs.declared.standing.Standing.{Standing}
 use Rattle.endpoint.specs.Asked.{RemembersAskInto, kept_after}
 use Rattle.endpoint.specs.Kinds.{IsKind, count_kind}
-use Rattle.endpoint.specs.Measuring.{IsStanding, meter_asked, meter_heard, meter_passed, times_set}
+use Rattle.endpoint.specs.Measuring.{IsStanding, left_at, meter_asked, meter_heard, meter_passed, times_set}
 use Rattle.endpoint.specs.Receiving.{HearsDatagram, ends_of}
 use Rattle.endpoint.specs.ReceiveCounts.{count_heard, count_played, CountsAskInto}
 use Rattle.timing.specs.Path.{times_over}
@@ -64,6 +64,7 @@ pub record HearsAs (before : Receiver) (octets : List ℕ) (now : ℕ) (answer :
   pub own : HearsOwn before octets now answer mid
   pub meter : mid.meter ≡ before.meter
   pub follows : mid.follows ≡ before.follows
+  pub by_sent : mid.by_sent ≡ before.by_sent
   pub measures : Measures before.follows before octets now answer mid after
 
 -- a place that is played or given up is measured no longer
@@ -77,19 +78,21 @@ place_of (Packet place content) = Some place
 place_of (Gap place) = Some place
 place_of Wait = None
 
--- a play, of which this place is to be measured no longer
-pub record PassesAs (before : Receiver) (place : Option ℕ) (now : ℕ) (after : Receiver) : Type 0 where
-  pub passes : core_of after ≡ receiver_passed (play_of (core_of before).config.patience now (core_of before).span) (core_of before)
-  pub plays : PlaysAny (core_of before).config.patience (state_of (core_of before)) now (play_of (core_of before).config.patience now (core_of before).span) (state_of (core_of after))
-  pub counts : after.endpoint.endpoint.counts ≡ count_played (play_of (core_of before).config.patience now (core_of before).span) before.endpoint.endpoint.counts
-  pub rest : after ≡ record before { endpoint = record before.endpoint { endpoint = record before.endpoint.endpoint { core = core_of after; counts = after.endpoint.endpoint.counts } }; meter = meter_after place before.meter }
+-- How long the next place to play is waited for since it was noticed to be missing: the patience; and where it is given up by when its
+-- packet was sent, less of it, as far as a silence tells.
+abbrev pub patience_of : Receiver → ℕ
+patience_of r = if r.by_sent then left_at r.meter.path.arrivals (core_of r).config.patience (core_of r).span.cursor else (core_of r).config.patience
 
--- a play
-pub record PlaysAs (before : Receiver) (now : ℕ) (answer : Played) (after : Receiver) : Type 0 where
-  pub plays : PlaysAny (core_of before).config.patience (state_of (core_of before)) now answer (state_of (core_of after))
-  pub passes : core_of after ≡ receiver_passed answer (core_of before)
-  pub counts : after.endpoint.endpoint.counts ≡ count_played answer before.endpoint.endpoint.counts
-  pub rest : after ≡ record before { endpoint = record before.endpoint { endpoint = record before.endpoint.endpoint { core = core_of after; counts = after.endpoint.endpoint.counts } }; meter = meter_after (place_of answer) before.meter }
+-- what a play would give
+abbrev pub next_play : Receiver → (now : ℕ) → Played
+next_play r now = play_of (patience_of r) now (core_of r).span
+
+-- a play, by which this place is measured no longer
+pub record PassesAs (before : Receiver) (place : Option ℕ) (now : ℕ) (after : Receiver) : Type 0 where
+  pub passes : core_of after ≡ receiver_passed (next_play before now) (core_of before)
+  pub plays : PlaysAny (patience_of before) (state_of (core_of before)) now (next_play before now) (state_of (core_of after))
+  pub counts : after.endpoint.endpoint.counts ≡ count_played (next_play before now) before.endpoint.endpoint.counts
+  pub rest : after ≡ record before { endpoint = record before.endpoint { endpoint = record before.endpoint.endpoint { core = core_of after; counts = after.endpoint.endpoint.counts } }; meter = meter_after place before.meter }
 
 -- an ask is measured by its NACK
 abbrev pub meter_of_ask : (follows : Bool) → Receiving → (out : List ℕ) → Result (Option ℕ) TooShort → (now : ℕ) → PathMeter → PathMeter

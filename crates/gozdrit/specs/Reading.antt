@@ -16,7 +16,7 @@ use Rattle.gozdrit.specs.declared.counts.SenderCounts.{SenderCounts}
 use Rattle.gozdrit.specs.Codes.{ok, no_end}
 use Rattle.gozdrit.specs.Counted.{receiver_counts, receiver_kinds, sender_counts}
 use Rattle.gozdrit.specs.Ends.{Receiver, Sender}
-use Rattle.gozdrit.specs.Following.{core_of}
+use Rattle.gozdrit.specs.Following.{core_of, patience_of}
 use Rattle.gozdrit.specs.Told.{TellsSequence, TellsSource, TellsMoment, TellsTimes}
 
 -- A call that reads an end: where there is none, nothing is told.
@@ -28,7 +28,7 @@ pub record Reads {X Y : Type 0} (Tells : X → Y → Y → Type 0) (old : Option
 -- The moment from which on something is to be done, or none, is told.
 pub record TellsNext (r : Receiver) (old new : KnownMoment) : Type 0 where
   pub moment : Option ℕ
-  pub quiet : (m : ℕ) → m < 2 ^ 64 → IsQuiet (core_of r).config (state_of (core_of r)) m ↔ (has_come moment m ≡ false)
+  pub quiet : (m : ℕ) → m < 2 ^ 64 → IsQuiet (record (core_of r).config { patience = patience_of r }) (state_of (core_of r)) m ↔ (has_come moment m ≡ false)
   pub told : TellsMoment moment old new
 
 -- `gozdrit_missing`, `gozdrit_rtx_source`, `gozdrit_next_sequence`, `gozdrit_highest_sequence`, `gozdrit_next_moment`,

@@ -3,9 +3,7 @@ use Rattle.std.specs.Prelude.{◌≡◌, ◌≢◌, ◌⊎◌, ◌+◌, ◌==◌
 use Rattle.rtpwire.specs.declared.fault.ConfigFault.{ConfigFault}
 use Rattle.rtpwire.specs.declared.fault.TooShort.{TooShort}
 use Rattle.rtpwire.specs.Fault.{config_number}
-use Rattle.receiver.specs.declared.answer.Played.{Played}
 use Rattle.receiver.specs.declared.fault.ReceiveFault.{ReceiveFault}
-use Rattle.receiver.specs.Peeking.{play_of}
 use Rattle.receiver.specs.Receiver.{state_of, begun, restarted, with_times}
 use Rattle.endpoint.specs.declared.heard.Heard.{Heard}
 use Rattle.endpoint.specs.Asked.{none_asked}
@@ -17,11 +15,11 @@ use Rattle.gozdrit.specs.declared.config.ReceiverFields.{ReceiverFields}
 use Rattle.gozdrit.specs.declared.heard.HeardFields.{HeardFields}
 use Rattle.gozdrit.specs.declared.answers.PlayedPacket.{PlayedPacket}
 use Rattle.gozdrit.specs.Ends.{Receiver}
-use Rattle.gozdrit.specs.Following.{AsksAs, HearsAs, PlaysAs, core_of, with_ends}
+use Rattle.gozdrit.specs.Following.{AsksAs, HearsAs, PassesAs, core_of, next_play, place_of, with_ends}
 use Rattle.gozdrit.specs.Codes.{ok, no_end, is_held, out_of_memory, no_room, has_started, bad_limit}
 use Rattle.gozdrit.specs.Heard.{heard_fields}
 use Rattle.gozdrit.specs.Told.{HasRoom, TellsPlayed}
-use Rattle.gozdrit.specs.Config.{IsSession, HasReceiverLimits, Fails, receiver_config, probation_of}
+use Rattle.gozdrit.specs.Config.{IsFollowing, IsSession, HasReceiverLimits, Fails, receiver_config, probation_of}
 
 -- an endpoint that took nothing
 abbrev pub new_receiver : ReceiverFields → Receiver
@@ -40,6 +38,7 @@ new_receiver f =
       };
       meter = new_meter;
       follows = not (f.follows == 0);
+      by_sent = f.follows == 2;
     }
 
 -- A configuration is refused for the first check that it fails; else there is an endpoint that took nothing, or no
@@ -68,16 +67,12 @@ pub record AnswersReceive (old : Option Receiver) (octets : List ℕ) (now : ℕ
   pub hears : (before : Receiver) → old ≡ Some before
       → (code ≡ ok) × (answer : Result Heard ReceiveFault) × IsSomeAnd new (HearsAs before octets now answer) × (heard' ≡ heard_fields answer)
 
--- what a play would give
-abbrev pub next_play : Receiver → (now : ℕ) → Played
-next_play e now = play_of (core_of e).config.patience now (core_of e).span
-
 -- `gozdrit_play`
 pub record AnswersPlay (old : Option Receiver) (now : ℕ) (played : PlayedPacket) (payload : List ℕ) (code : ℤ) (new : Option Receiver) (played' : PlayedPacket) (payload' : List ℕ) : Type 0 where
   pub none : old ≡ None → code ≡ no_end
   pub short : (before : Receiver) → old ≡ Some before → (HasRoom (next_play before now) payload → ⊥) → code ≡ no_room
   pub plays : (before : Receiver) → old ≡ Some before → HasRoom (next_play before now) payload
-      → (code ≡ ok) × IsSomeAnd new (PlaysAs before now (next_play before now)) × TellsPlayed (next_play before now) played payload played' payload'
+      → (code ≡ ok) × IsSomeAnd new (PassesAs before (place_of (next_play before now)) now) × TellsPlayed (next_play before now) played payload played' payload'
   pub refused : code ≢ ok → (new ≡ old) × (played' ≡ played) × (payload' ≡ payload)
 
 -- `gozdrit_nack`
@@ -124,6 +119,8 @@ pub record AnswersTimes (old : Option Receiver) (patience delay retry : ℕ) (co
 
 -- `gozdrit_follow`
 pub record AnswersFollow (old : Option Receiver) (follows : ℕ) (code : ℤ) (new : Option Receiver) : Type 0 where
-  pub none : old ≡ None → (code ≡ no_end) × (new ≡ old)
-  pub tells : (before : Receiver) → old ≡ Some before
-      → (code ≡ ok) × (new ≡ Some (record before { follows = not (follows == 0); meter = record before.meter { is_new = true } }))
+  pub none : old ≡ None → code ≡ no_end
+  pub unknown : IsSome old → (IsFollowing follows → ⊥) → code ≡ bad_limit
+  pub tells : (before : Receiver) → old ≡ Some before → IsFollowing follows
+      → (code ≡ ok) × (new ≡ Some (record before { follows = not (follows == 0); by_sent = follows == 2; meter = record before.meter { is_new = true } }))
+  pub refused : code ≢ ok → new ≡ old

@@ -10,6 +10,9 @@ use sender::SenderConfig;
 /// How many packets a history, or places a window, keeps at most.
 const MAX_STORE: u32 = 8192;
 
+/// What follows the path at most: the times of asks, and how long a place is waited for.
+pub(crate) const MAX_FOLLOWS: u8 = 2;
+
 /// The streams of a session.
 #[repr(C)]
 #[derive(Drop)]
@@ -59,7 +62,8 @@ pub struct ReceiverFields {
     pub delay: u64,
     /// For how long a stream is silent of which nothing is taken; 0: what has jumped is believed in sequence.
     pub silence: u64,
-    /// 0 where the times of asks stay as they are set; else they follow what is measured of the path.
+    /// 0 where the times of asks stay as they are set, 1 where they follow what is measured of the path, and 2 where a place is given up
+    /// by when its packet was sent, too.
     pub follows: u8,
 }
 
@@ -131,7 +135,7 @@ impl ReceiverFields {
             (λ fault. Fails self.now.session (HasReceiverLimits self.now) fault) }
     {
         let session = self.session.session()?;
-        if self.window == 0 || self.window > MAX_STORE {
+        if self.window == 0 || self.window > MAX_STORE || self.follows > MAX_FOLLOWS {
             return Err(ConfigFault::BadLimit);
         }
         let made = if self.learns == 0 {

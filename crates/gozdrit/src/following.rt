@@ -1,7 +1,7 @@
 //! The receiving end for C, and what it measures of the path.
 ghost use Rattle.std.specs.Prelude.{◌≡◌};
 ghost use Rattle.endpoint.specs.Measuring.{meter_heard};
-ghost use Rattle.gozdrit.specs.Following.{AsksAs, HearsAs, HearsOwn, PassesAs, timed_where};
+ghost use Rattle.gozdrit.specs.Following.{AsksAs, HearsAs, HearsOwn, PassesAs, patience_of, timed_where};
 
 use endpoint::{AskingEndpoint, Heard, PathMeter, Standing};
 use places::Place;
@@ -9,12 +9,14 @@ use receiver::ReceiveFault;
 use rtpwire::TooShort;
 use stores::RingWindow;
 
-/// A receiver, what it measured of the path, and whether the times of its asks follow that. Where they don't, nothing is measured.
+/// A receiver, what it measured of the path, and whether the times of its asks follow that, and a place is given up by when its packet
+/// was sent. Where no times follow, nothing is measured.
 #[derive(Drop)]
 pub struct MeteredReceiver {
     pub(crate) endpoint: AskingEndpoint<RingWindow>,
     pub(crate) meter: PathMeter,
     pub(crate) follows: bool,
+    pub(crate) by_sent: bool,
 }
 
 impl MeteredReceiver {
@@ -36,6 +38,7 @@ impl MeteredReceiver {
         ensures own { HearsOwn self.old octets.now now result self.new }
         ensures meter { self.new.meter ≡ self.old.meter }
         ensures follows { self.new.follows ≡ self.old.follows }
+        ensures by_sent { self.new.by_sent ≡ self.old.by_sent }
     {
         self.endpoint.on_datagram(octets, now).0
     }
@@ -46,7 +49,8 @@ impl MeteredReceiver {
     {
         self.meter.hear(answer, standing, now);
         if self.meter.is_new() {
-            self.meter.follow(&mut self.endpoint, now);
+            let patience = self.endpoint.endpoint().core().config().patience();
+            self.meter.follow(&mut self.endpoint, patience, now);
         }
     }
 
@@ -67,11 +71,24 @@ impl MeteredReceiver {
         asked
     }
 
-    /// `AskingEndpoint::pass`, of this place if it is one.
-    pub(crate) fn pass(&mut self, place: Option<Place>, now: u64)
+    /// How long the next place to play is waited for since it was noticed to be missing.
+    pub(crate) fn patience_left(&self) -> u64
+        ensures { result ≡ patience_of self.now }
+    {
+        let core = self.endpoint.endpoint().core();
+        if self.by_sent {
+            self.meter.patience_left(core)
+        } else {
+            core.config().patience()
+        }
+    }
+
+    /// `AskingEndpoint::pass_within`, with the patience that is left for the next place, and of this place if it is one.
+    pub(crate) fn pass(&mut self, patience: u64, place: Option<Place>, now: u64)
+        requires { patience ≡ patience_of self.old }
         ensures { PassesAs self.old place now self.new }
     {
-        self.endpoint.pass(now);
+        self.endpoint.pass_within(patience, now);
         if let Some(place) = place {
             self.meter.pass(place);
         }

@@ -44,4 +44,5 @@ pub fn new_ends_are_as_configured()
         × (r.endpoint.spare.config ≡ receiver_config f) × (r.endpoint.spare.span.capacity ≡ f.window) × (r.endpoint.probation ≡ probation_of f)
         × (length r.asked ≡ f.window) }
     ensures follows { (f : ReceiverFields) → ((new_receiver f).follows ≡ false) ↔ (f.follows ≡ 0) }
+    ensures by_sent { (f : ReceiverFields) → ((new_receiver f).by_sent ≡ true) ↔ (f.follows ≡ 2) }
 {}

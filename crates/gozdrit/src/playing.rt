@@ -2,8 +2,7 @@
 ghost use Rattle.std.specs.Prelude.{◌≡◌, ◌≢◌, ◌≤◌, length};
 ghost use Rattle.receiver.specs.declared.answer.Played.TheVariants.{Packet};
 ghost use Rattle.gozdrit.specs.Codes.{ok, no_room};
-ghost use Rattle.gozdrit.specs.Following.{PlaysAs};
-ghost use Rattle.gozdrit.specs.Receiving.{next_play};
+ghost use Rattle.gozdrit.specs.Following.{PassesAs, next_play, place_of};
 ghost use Rattle.gozdrit.specs.Told.{HasRoom, TellsPlayed};
 
 use crate::answers::PlayedPacket;
@@ -21,11 +20,13 @@ pub(crate) fn play_to(
     payload: &mut [u8],
 ) -> i32
     ensures plays { HasRoom (next_play receiver.old now) payload.old
-        → (result ≡ ok) × PlaysAs receiver.old now (next_play receiver.old now) receiver.new × TellsPlayed (next_play receiver.old now) played.old payload.old played.new payload.new }
+        → (result ≡ ok) × PassesAs receiver.old (place_of (next_play receiver.old now)) now receiver.new × TellsPlayed (next_play receiver.old now) played.old payload.old played.new payload.new }
     ensures short { (HasRoom (next_play receiver.old now) payload.old → ⊥) → result ≡ no_room }
     ensures refused { result ≢ ok → (receiver.new ≡ receiver.old) × (played.new ≡ played.old) × (payload.new ≡ payload.old) }
 {
-    let passed = match receiver.endpoint.endpoint().core().peek(now) {
+    let patience = receiver.patience_left();
+    let core = receiver.endpoint.endpoint().core();
+    let passed = match core.peek_within(patience, now) {
         Peeked::Wait => {
             played.kind = 0;
             None
@@ -43,7 +44,7 @@ pub(crate) fn play_to(
             Some(place)
         }
     };
-    receiver.pass(passed, now);
+    receiver.pass(patience, passed, now);
     OK
 }
 

@@ -67,7 +67,10 @@ pub(crate) fn next_moment(receiver: &mut ReceiverHandle, moment: &mut KnownMomen
     if !receiver.is_held() {
         return NO_END;
     }
-    moment.tell(receiver.lend().endpoint.endpoint().core().next_moment());
+    let inside = receiver.lend();
+    let patience = inside.patience_left();
+    let core = inside.endpoint.endpoint().core();
+    moment.tell(core.next_moment_within(patience));
     OK
 }
 

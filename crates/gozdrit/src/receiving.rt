@@ -4,12 +4,13 @@ ghost use Rattle.gozdrit.specs.Receiving.{AnswersReceiverNew, AnswersReceive, An
 
 use crate::answers::PlayedPacket;
 use crate::code::{HELD, NO_END, OK, OUT_OF_MEMORY};
-use crate::config::ReceiverFields;
+use crate::config::{MAX_FOLLOWS, ReceiverFields};
 use crate::following::MeteredReceiver;
 use crate::handle::Handle;
 use crate::heard::HeardFields;
 use crate::playing::play_to;
 use endpoint::{AskingEndpoint, PathMeter};
+use rtpwire::ConfigFault;
 use std::alloc::Global;
 use stores::Window;
 
@@ -38,6 +39,7 @@ pub(crate) fn receiver_new(
         endpoint,
         meter: PathMeter::new(),
         follows: config.follows != 0,
+        by_sent: config.follows == MAX_FOLLOWS,
     };
     let Ok(inside) = Box::new(alloc, made) else {
         return OUT_OF_MEMORY;
@@ -151,8 +153,12 @@ pub(crate) fn follow(receiver: &mut ReceiverHandle, follows: u8) -> i32
     if !receiver.is_held() {
         return NO_END;
     }
+    if follows > MAX_FOLLOWS {
+        return i32::from(ConfigFault::BadLimit.number());
+    }
     let inside = receiver.lend();
     inside.follows = follows != 0;
+    inside.by_sent = follows == MAX_FOLLOWS;
     inside.meter.renew();
     OK
 }

@@ -134,7 +134,17 @@ impl<W: Window> Receiver<W> {
         ensures answer { played_of result ≡ play_of self.now.config.patience now self.now.span }
         ensures plays { PlaysAny self.now.config.patience (state_of self.now) now (played_of result) (state_of (receiver_passed (played_of result) self.now)) }
     {
-        peek_at(&self.window, self.config.patience(), now)
+        self.peek_within(self.config.patience(), now)
+    }
+
+    /// [`peek`](Receiver::peek) with this patience, in milliseconds, in the place of the configured one: for a caller that knows of the
+    /// next place that less of it is left, as since its packet was sent long before it was noticed to be missing.
+    /// [`pass_within`](Receiver::pass_within) is its second step.
+    pub fn peek_within(&self, patience: u64, now: u64) -> Peeked<'_>
+        ensures answer { played_of result ≡ play_of patience now self.now.span }
+        ensures plays { PlaysAny patience (state_of self.now) now (played_of result) (state_of (receiver_passed (played_of result) self.now)) }
+    {
+        peek_at(&self.window, patience, now)
     }
 
     /// Passes what [`peek`](Receiver::peek) lends at the moment `now`, in milliseconds: it leaves the receiver as
@@ -145,6 +155,15 @@ impl<W: Window> Receiver<W> {
         ensures stays { Stays self.old self.new }
     {
         let patience = self.config.patience();
+        self.pass_within(patience, now);
+    }
+
+    /// Passes what [`peek_within`](Receiver::peek_within) lends for this patience at the moment `now`.
+    pub fn pass_within(&mut self, patience: u64, now: u64)
+        ensures passes { self.new ≡ receiver_passed (play_of patience now self.old.span) self.old }
+        ensures plays { PlaysAny patience (state_of self.old) now (play_of patience now self.old.span) (state_of self.new) }
+        ensures stays { Stays self.old self.new }
+    {
         pass_from(&mut self.window, patience, now);
     }
 
@@ -217,7 +236,14 @@ impl<W: Window> Receiver<W> {
     pub fn next_moment(&self) -> Option<u64>
         ensures { (m : ℕ) → m < 2 ^ 64 → IsQuiet self.now.config (state_of self.now) m ↔ (has_come result m ≡ false) }
     {
-        moment_of(&self.window, &self.config)
+        self.next_moment_within(self.config.patience())
+    }
+
+    /// [`next_moment`](Receiver::next_moment) for a caller that plays with this patience ([`peek_within`](Receiver::peek_within)).
+    pub fn next_moment_within(&self, patience: u64) -> Option<u64>
+        ensures { (m : ℕ) → m < 2 ^ 64 → IsQuiet (record self.now.config { patience = patience }) (state_of self.now) m ↔ (has_come result m ≡ false) }
+    {
+        moment_of(&self.window, &self.config, patience)
     }
 
     /// Begins at a sequence number that was signalled for the first packet, before any came: the next place to play is the

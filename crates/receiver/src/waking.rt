@@ -10,13 +10,17 @@ ghost use Rattle.receiver.specs.Window.{window_of};
 use crate::config::ReceiverConfig;
 use stores::{SlotRef, Window, sooner, window_by_place};
 
-/// The least moment from which on a play of a window would not wait, or an ask would ask.
-pub(crate) fn moment_of<W: Window>(window: &W, config: &ReceiverConfig) -> Option<u64>
+/// The least moment from which on a play of a window with this patience would not wait, or an ask would ask.
+pub(crate) fn moment_of<W: Window>(
+    window: &W,
+    config: &ReceiverConfig,
+    patience: u64,
+) -> Option<u64>
     ensures { (learnt : Option ℕ) (now : ℕ) → now < 2 ^ 64 →
-        IsQuiet config.now (window_of learnt (W.meaning window.now)) now ↔ (has_come result now ≡ false) }
+        IsQuiet (record config.now { patience = patience }) (window_of learnt (W.meaning window.now)) now ↔ (has_come result now ≡ false) }
 {
     window_by_place();
-    let play = ready_from(window.front(), config.patience());
+    let play = ready_from(window.front(), patience);
     let ask = window.next_due(config.rule());
     sooner(play, ask)
 }

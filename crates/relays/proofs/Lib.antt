@@ -1,6 +1,5 @@
 pub mod Going
 pub mod Keeping
-pub mod Left
 pub mod Stamps
 pub mod Reading
 pub mod Taking

@@ -56,6 +56,12 @@ wait_at hold latency s cursor front = latency
 abbrev pub wait_by : Option Playout → (latency : ℕ) → Span → ℕ
 wait_by hold latency s = wait_at hold latency s s.cursor (front_of s)
 
+-- How much of the latency asks have to fit into, where packets came so late behind later ones: where packets are held, a place is given
+-- up by when it was sent, and the packet that showed it to be missing may itself have come so late.
+abbrev pub asking_time : Option Playout → (latency late : ℕ) → ℕ
+asking_time None latency late = latency
+asking_time (Some p) latency late = latency - late
+
 -- A packet that is to be played is held until its moment has come. A place that is given up is so at once.
 abbrev pub held_by : Option Playout → (latency now : ℕ) → Played → Played
 held_by hold latency now (Packet place content) = if nat_lt now (release_by hold content.timestamp latency) then Wait else Packet place content

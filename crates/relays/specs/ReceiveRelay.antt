@@ -39,10 +39,11 @@ use Rattle.relays.specs.declared.relay.Departure.{Departure}
 use Rattle.relays.specs.declared.relay.Turn.{Turn}
 use Rattle.relays.specs.Ending.{is_over}
 use Rattle.relays.specs.Numbering.{numbered, numbered_after, anew}
+use Rattle.timing.specs.Lately.{greatest_at}
 use Rattle.timing.specs.Path.{times_over}
 use Rattle.timing.specs.RoundTrip.{time_of}
 use Rattle.timing.specs.declared.playout.Playout.{Playout}
-use Rattle.relays.specs.Holding.{clock_after, held_by, timestamp_of, wait_by}
+use Rattle.relays.specs.Holding.{asking_time, clock_after, held_by, timestamp_of, wait_by}
 use Rattle.relays.specs.Leaving.{GoesTo, octets_of}
 use Rattle.relays.specs.Moving.{is_next, is_quiet}
 
@@ -142,12 +143,6 @@ abbrev pub passes : ReceiveSide → Played → (place now : ℕ) → ReceiveSide
 passes old played place now =
     record old { core = receiver_passed played old.core; counts = count_played played old.counts; meter = meter_passed place old.meter; last = Some now }
 
--- the place that is given up
-abbrev pub gap_of : Played → Option ℕ
-gap_of (Packet place content) = None
-gap_of (Gap place) = Some place
-gap_of Wait = None
-
 -- What is played goes to the player: a packet with what it carried, under the media's type, the player's SSRC and the next number;
 -- and nothing where a place is given up.
 abbrev pub PlaysOut : Played → ReceiveSide → (now : ℕ) → Note → Option Departure → (out : List ℕ) → ReceiveSide → Type 0
@@ -184,6 +179,10 @@ abbrev pub AsksAgain : ReceiveSide → Option Departure → (out : List ℕ) →
 AsksAgain old None out new = ⊥
 AsksAgain old (Some d) out new = (old.copy ≡ Some (record { items = octets_of d out })) × GoesTo d Far old.far × (new ≡ record old { copy = None })
 
+-- how long the times are for which it asks
+abbrev pub time_for_asks : ReceiveSide → (now : ℕ) → ℕ
+time_for_asks s now = asking_time s.hold s.core.config.patience (greatest_at s.meter.path.reordering now)
+
 -- the times follow what was measured
 abbrev pub TimedBy : ReceiveSide → Option AskTimes → ReceiveSide → Type 0
 TimedBy old times new =
@@ -193,7 +192,7 @@ TimedBy old times new =
 -- second time, or else what is due is asked for, or else nothing is to be done
 abbrev pub SpeaksAs : ReceiveSide → (now : ℕ) → Note → Option Departure → (out : List ℕ) → ReceiveSide → Type 0
 SpeaksAs old now (note.Timed time) None out new =
-    (old.meter.is_new ≡ true) × (time ≡ time_of old.meter.path.trip.smoothed) × TimedBy old (times_over old.meter.path old.core.config.patience now) new
+    (old.meter.is_new ≡ true) × (time ≡ time_of old.meter.path.trip.smoothed) × TimedBy old (times_over old.meter.path (time_for_asks old now) now) new
 SpeaksAs old now (note.Played place) leaves out new = (old.meter.is_new ≡ false) × PlaysOut (next_play old now) old now (note.Played place) leaves out new
 SpeaksAs old now (note.Gap place) leaves out new = (old.meter.is_new ≡ false) × PlaysOut (next_play old now) old now (note.Gap place) leaves out new
 SpeaksAs old now note.AskedAgain leaves out new = (old.meter.is_new ≡ false) × (next_play old now ≡ Wait) × AsksAgain old leaves out new

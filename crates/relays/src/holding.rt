@@ -1,7 +1,7 @@
 //! How packets are held for a player.
 ghost use Rattle.std.specs.Prelude.{◌≡◌};
 ghost use Rattle.stores.specs.ByPlace.{slot_at};
-ghost use Rattle.relays.specs.Holding.{clock_after, release_by, stamp_from, stamp_in, timestamp_of, wait_by};
+ghost use Rattle.relays.specs.Holding.{asking_time, clock_after, release_by, stamp_from, stamp_in, timestamp_of, wait_by};
 
 use endpoint::Heard;
 use places::Place;
@@ -53,6 +53,17 @@ pub(crate) fn release(hold: &Option<Playout>, timestamp: u32, latency: u64) -> u
     match hold {
         Some(clock) => clock.release(timestamp, latency),
         None => 0,
+    }
+}
+
+/// How much of this latency asks have to fit into, where packets came up to `late` behind later ones: where packets are held, a place is
+/// given up by when it was sent, and the packet that showed it to be missing may itself have come so late.
+pub(crate) fn asking_time(hold: &Option<Playout>, latency: u64, late: u64) -> u64
+    ensures { result ≡ asking_time hold.now latency late }
+{
+    match hold {
+        Some(_) => latency.saturating_sub(late),
+        None => latency,
     }
 }
 

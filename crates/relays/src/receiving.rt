@@ -10,11 +10,11 @@ ghost use Rattle.rtpwire.specs.Content.{packet_of};
 ghost use Rattle.receiver.specs.Receiver.{begun, state_of};
 ghost use Rattle.stores.specs.Asking.{has_come};
 ghost use Rattle.relays.specs.Passing.{IsWithin};
-ghost use Rattle.relays.specs.ReceiveRelay.{Asks, AsksAgain, GoesOn, HearsFar, HearsFrom, Moves, gap_of, is_done, new_receive_side, next_play, NothingDue, numbering_after, patience_left, PlaysOut, SpeaksAs};
+ghost use Rattle.relays.specs.ReceiveRelay.{Asks, AsksAgain, GoesOn, HearsFar, HearsFrom, Moves, is_done, new_receive_side, next_play, NothingDue, numbering_after, passes, patience_left, PlaysOut, SpeaksAs};
 
 use crate::bounds::Bounds;
 use crate::dropout::{dropout, probation};
-use crate::holding::{hear_clock, release, timestamp_of, wait};
+use crate::holding::{asking_time, hear_clock, release, timestamp_of, wait};
 use crate::moving::{is_next, is_quiet, media_number};
 use crate::numbering::Numbering;
 use crate::outside::Side;
@@ -178,20 +178,6 @@ impl<W: Window> ReceiveRelay<W> {
         }
     }
 
-    /// The next place to play, if it is missing and its packet was sent too long ago.
-    fn expired(&self, now: u64) -> Option<Place>
-        ensures { result ≡ gap_of (next_play self.now now) }
-    {
-        let window = self.core().window();
-        let Some(SlotRef::Missing { noticed, .. }) = window.front() else {
-            return None;
-        };
-        if now < noticed || now - noticed < self.patience_left() {
-            return None;
-        }
-        Some(Place::new(window.cursor()?).unwrap())
-    }
-
     /// Has the stream begin with this sequence number: so what is lost before the first packet that comes is asked for too.
     ///
     /// `HasStarted` (40): a packet was taken already, or it began before. The relay is then as it was.
@@ -277,12 +263,13 @@ impl<W: Window> ReceiveRelay<W> {
         ensures sets { (out : List ℕ) → SpeaksAs self.old now result.note result.leaves out self.new }
         ensures within { IsWithin result }
     {
-        self.meter.follow(&mut self.endpoint, now);
+        let late = self.meter.path().reordering.greatest(now);
+        let within = asking_time(&self.hold, self.core().config().patience(), late);
+        self.meter.follow(&mut self.endpoint, within, now);
         silent(Note::Timed(self.meter.path().trip.time()))
     }
 
-    /// Plays, and writes what goes to the player.
-    #[tactic(auto, using(crate::proofs::Left::packet_is))]
+    /// Plays, and writes what goes to the player; or gives the next place up, if it is missing and its packet was sent too long ago.
     fn play(&mut self, now: u64, out: &mut [u8]) -> Option<Turn>
         requires { length out.old ≡ MAX_DATAGRAM }
         ensures some { IfSome result (λ turn. PlaysOut (next_play self.old now) self.old now turn.note turn.leaves out.new self.new) }
@@ -291,14 +278,20 @@ impl<W: Window> ReceiveRelay<W> {
         ensures within { IfSome result IsWithin }
         ensures room { length out.new ≡ MAX_DATAGRAM }
     {
-        match self.endpoint.endpoint().core().peek(now) {
-            Peeked::Wait | Peeked::Gap(_) => self.give_up(now),
+        let left = self.patience_left();
+        match self.endpoint.endpoint().core().peek_within(left, now) {
+            Peeked::Wait => None,
+            Peeked::Gap(place) => {
+                self.pass(left, place, now);
+                Some(silent(Note::Gap(place)))
+            }
             Peeked::Packet(place, content) => {
-                let patience = self.endpoint.endpoint().core().config().patience();
+                let config = self.endpoint.endpoint().core().config();
+                let patience = config.patience();
                 if now < release(&self.hold, content.timestamp, patience) {
                     return None;
                 }
-                let session = self.endpoint.endpoint().core().config().session();
+                let session = config.session();
                 let len = write(
                     content,
                     self.numbering.number(place),
@@ -306,10 +299,8 @@ impl<W: Window> ReceiveRelay<W> {
                     self.numbering.ssrc(),
                     out,
                 );
-                self.endpoint.pass(now);
+                self.pass(left, place, now);
                 self.numbering.play(place);
-                self.meter.pass(place);
-                self.last = Some(now);
                 Some(Turn {
                     note: Note::Played(place),
                     leaves: Some(Departure {
@@ -322,20 +313,13 @@ impl<W: Window> ReceiveRelay<W> {
         }
     }
 
-    /// Gives up the next place, if it is missing and its packet was sent too long ago.
-    fn give_up(&mut self, now: u64) -> Option<Turn>
-        requires { (place : ℕ) (content : Content) → next_play self.old now ≡ Packet place content → ⊥ }
-        ensures some { IfSome result (λ turn. (out : List ℕ) → PlaysOut (next_play self.old now) self.old now turn.note turn.leaves out self.new) }
-        ensures none { result ≡ None → next_play self.old now ≡ Wait }
-        ensures same { result ≡ None → self.new ≡ self.old }
-        ensures within { IfSome result IsWithin }
+    /// Passes the next place, with this patience.
+    fn pass(&mut self, patience: u64, place: Place, now: u64)
+        ensures { self.new ≡ passes self.old (play_of patience now self.old.core.span) place now }
     {
-        let place = self.expired(now)?;
-        let patience = self.patience_left();
         self.endpoint.pass_within(patience, now);
         self.meter.pass(place);
         self.last = Some(now);
-        Some(silent(Note::Gap(place)))
     }
 
     /// Asks the far side for what is due.

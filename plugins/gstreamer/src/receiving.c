@@ -252,12 +252,13 @@ guint64 receiving_step(const GstGozdritRecv *self) {
     return MAX(MIN(self->settings.delay, times_of(self).retry), 1);
 }
 
-/* The times follow what the library measures of the path, where no property says how long an answer is waited for. */
+/* The times follow what the library measures of the path, and a packet is given up by when it was sent, where no property says how
+ * long an answer is waited for. */
 void receiving_set_times(GstGozdritRecv *self) {
     gboolean wanted = self->caps.nack != 0;
     if (!self->end.held) return;
     gozdrit_set_times(&self->end, self->settings.latency, wanted ? self->settings.delay : NEVER, retry_of(self));
-    gozdrit_follow(&self->end, wanted && self->settings.retry < 0);
+    gozdrit_follow(&self->end, wanted && self->settings.retry < 0 ? GOZDRIT_FOLLOWS_SENT : GOZDRIT_FOLLOWS_NOTHING);
 }
 
 /* ---- counts */

@@ -47,7 +47,7 @@ static int32_t check_config(const gozdrit_receiver_config *config) {
     int32_t fault = check_session(&config->session);
     if (fault != GOZDRIT_OK) return fault;
     if (config->window == 0 || config->window > GOZDRIT_MAX_STORE) return GOZDRIT_BAD_LIMIT;
-    if (config->retry == 0 || config->nacks == 0) return GOZDRIT_BAD_LIMIT;
+    if (config->retry == 0 || config->nacks == 0 || config->follows > 2) return GOZDRIT_BAD_LIMIT;
     return GOZDRIT_OK;
 }
 
@@ -79,7 +79,7 @@ static void draw_config(struct receiver *it, gozdrit_receiver_config *config) {
     config->min_behind = draw_number(6);
     config->delay = draw_span(40);
     config->silence = one_in(2) ? 0 : 1 + draw_span(400);
-    config->follows = 0; /* the model measures nothing */
+    config->follows = one_in(40) ? (uint8_t)between(3, 255) : 0; /* the model measures nothing */
 }
 
 static void call_new(struct receiver *it) {
@@ -307,12 +307,13 @@ static void call_set_times(struct receiver *it) {
     check_receiver(it, answer);
 }
 
-/* To follow no path is what the model knows. */
+/* To follow no path is what the model knows, and what can't be followed. */
 static void call_follow(struct receiver *it) {
+    uint8_t follows = one_in(3) ? (uint8_t)between(3, 255) : GOZDRIT_FOLLOWS_NOTHING;
     int32_t answer;
     begin_call(CALL_follow);
-    answer = gozdrit_follow(lend_receiver(it, true), 0);
-    end_call(unless_no_end(it, GOZDRIT_OK), answer);
+    answer = gozdrit_follow(lend_receiver(it, true), follows);
+    end_call(unless_no_end(it, follows ? GOZDRIT_BAD_LIMIT : GOZDRIT_OK), answer);
     check_receiver(it, answer);
 }
 

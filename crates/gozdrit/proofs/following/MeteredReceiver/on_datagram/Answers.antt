@@ -11,6 +11,7 @@ returns-then-not-self c =
       own = c.hear.ensures.own;
       meter = c.hear.ensures.meter;
       follows = c.hear.ensures.follows;
+      by_sent = c.hear.ensures.by_sent;
       measures = subst (λ (b : Bool). Measures b c.args.self.now c.args.octets.now c.args.now c.hear.result c.hear.new.self c.hear.new.self) (sym off) refl;
     }
 
@@ -23,6 +24,7 @@ returns c =
       own = c.hear-answer.ensures.own;
       meter = c.hear-answer.ensures.meter;
       follows = c.hear-answer.ensures.follows;
+      by_sent = c.hear-answer.ensures.by_sent;
       measures = subst (λ (b : Bool). Measures b c.args.self.now c.args.octets.now c.args.now c.hear-answer.result c.hear-answer.new.self c.measure.new.self) (sym on)
           (c.before-standing.result, stood, search rules);
     }
