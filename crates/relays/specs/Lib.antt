@@ -1,3 +1,5 @@
+pub mod Claims
+pub mod Peers
 pub mod Passing
 pub mod Running
 pub mod Capping

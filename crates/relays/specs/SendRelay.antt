@@ -1,6 +1,6 @@
 -- The relay before a network that loses: what it does with what comes, and what it does of its own. Each case of what it notes has
 -- its equation, and what stands nowhere is never done.
-use Rattle.std.specs.Prelude.{◌≡◌, ℕ, ◌^◌, ◌≤◌, ◌-◌, ◌&&◌, Bool, true, false, nat_le, List, length, Option, Some, None}
+use Rattle.std.specs.Prelude.{◌≡◌, ℕ, ◌^◌, ◌≤◌, ◌-◌, ◌==◌, ◌&&◌, Bool, true, false, nat_le, List, length, Option, Some, None}
 use Rattle.std.specs.declared.net.socket_addr.SocketAddr.{SocketAddr}
 use Rattle.rtpwire.specs.declared.content.Content.{Content}
 use Rattle.rtpwire.specs.Rtp.{RtpPacket, RtpSpells}
@@ -56,6 +56,10 @@ new_send_side core rule moments far stream pace bounds =
 -- it ends by its bounds, of which it counts the packets that it sent
 abbrev pub is_done : SendSide → (now : ℕ) → Bool
 is_done s now = is_over s.bounds s.counts.sent s.stream.last now
+
+-- a packet of this SSRC and type is of its stream, or of one that takes its place
+abbrev pub is_of_stream : SendSide → (ssrc payload_type now : ℕ) → Bool
+is_of_stream s ssrc payload_type now = (payload_type == s.core.config.session.media_type) && follows s.stream ssrc now
 
 -- A datagram of the application is this packet of the stream, with the session's media type, and carries this content.
 pub record Carries (session : Streams) (stream : Stream) (octets : List ℕ) (now : ℕ) (packet : RtpPacket) (content : Content) : Type 0 where

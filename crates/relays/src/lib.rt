@@ -2,6 +2,7 @@
 #![tactic(auto)]
 
 mod bounds;
+mod claims;
 mod driving;
 mod dropout;
 mod holding;
@@ -11,6 +12,7 @@ mod moving;
 mod numbering;
 mod outside;
 mod pace;
+mod peers;
 mod receiving;
 mod relay;
 mod sending;
@@ -18,12 +20,14 @@ mod stream;
 mod writing;
 
 pub use bounds::Bounds;
+pub use claims::{Claim, Claims, Stranger};
 pub use driving::run;
 pub use laws::{bursts_leave_at_once, pace_is_kept};
 pub use media_rate::MediaRate;
 pub use numbering::Numbering;
 pub use outside::{Meeting, Octets, Outside, OutsideFault, Passage, Side};
 pub use pace::{Pace, Rate};
+pub use peers::{Peer, Peers, number_of};
 pub use receiving::ReceiveRelay;
 pub use relay::{Departure, Note, Relay, Turn};
 pub use sending::SendRelay;

@@ -5,7 +5,7 @@ ghost use Rattle.sender.specs.Sender.{new_sending};
 ghost use Rattle.stores.specs.Past.{empty_past};
 ghost use Rattle.stores.specs.Asking.{has_come};
 ghost use Rattle.relays.specs.Passing.{IsWithin};
-ghost use Rattle.relays.specs.SendRelay.{CarriesNothing, Forwards, HearsFar, IsCarried, is_done, is_tail_at, new_send_side, NothingOpen, SpeaksAs};
+ghost use Rattle.relays.specs.SendRelay.{CarriesNothing, Forwards, HearsFar, IsCarried, is_done, is_of_stream, is_tail_at, new_send_side, NothingOpen, SpeaksAs};
 
 use crate::bounds::Bounds;
 use crate::outside::Side;
@@ -96,6 +96,13 @@ impl<H: History> SendRelay<H> {
         ensures { result ≡ self.now.passed }
     {
         self.endpoint.passed()
+    }
+
+    /// Whether a packet of this SSRC and payload type is one of its stream, at the moment `now`, or of one that takes its place.
+    pub fn is_of(&self, ssrc: u32, payload_type: u8, now: u64) -> bool
+        ensures { result ≡ is_of_stream self.now ssrc payload_type now }
+    {
+        payload_type == self.session.media_type() && self.stream.follows(ssrc, now)
     }
 
     /// Sends a datagram of the application, if it is a packet of the stream.
