@@ -22,7 +22,8 @@ NUMBERS = {  # what each option takes at its bounds, and what it refuses
     "loss": ("0 1000", "1001 -1 x 01"), "seed": ("0 18446744073709551615", "18446744073709551616 x"),
     "type": ("0 63 96 127", "128 x -1"), "rtx-type": ("98 127", "95 128 x"), "first": ("0 65535", "65536 x"),
     "ssrc": ("0 ffffffff 1A2b3C4d", "123456789 xyz 0x1"), "rtx-ssrc": ("0 ffffffff", "123456789 xyz"),
-    "packets": ("1", "x -1"), "seconds": ("1", "x -1 1.5"), "stats": ("1", "x")}
+    "packets": ("1", "x -1"), "stream": ("1 18446744073709551615", "0 x"),
+    "peer": ("127.0.0.1 ::1 localhost:5004,[::1]:6 10.0.0.0/8 0.0.0.0/0,::/0 2001:db8::/128", "10.0.0.0/33 ::/129 10.0.0.0/x localhost/8 /8 10.0.0.0/"), "seconds": ("1", "x -1 1.5"), "stats": ("1", "x")}
 OF_SIDE = {"send": {"rate": ("0 8 1% 200%", "x -1 % 0% 100001% 1.5% 5%%"), "history": ("1 8192", "0 8193 x"), "rtx-first": ("0 65535", "65536 x")},
            "receive": {"latency": ("0 1", "x -1"), "window": ("1 8192", "0 8193 x")}}
 
@@ -121,14 +122,17 @@ def places(checks, stage):
 
 
 def full(checks, stage):
-    """A log that takes nothing ends a relay with 3, once there is a line."""
-    player = End(stage)
+    """A log that takes nothing is told once, and the stream goes on; at the end it is 3."""
     for side in SIDES:
-        relay = getattr(stage, side)(player.at, "--log", "/dev/full", "--seconds", 20, log=False)
+        other = End(stage)
+        relay = getattr(stage, side)(other.at, "--log", "/dev/full", "--packets", 200, log=False)
         App(stage, relay.at).stream(plain(200), 1000)
         status = relay.status()
-        told = status, relay.errors().splitlines()[-1], relay.output()
-        checks.same(told, (3, "can't write /dev/full", ""), f"{side} into /dev/full")
+        lines = relay.errors().splitlines()
+        told = status, re.sub(r"\d+", "N", lines[-1]), relay.output()
+        checks.same(told, (3, "can't write /dev/full: N lines are lost", ""), f"{side} into /dev/full")
+        checks.same(lines.count("the log can't be written, and loses lines until it can"), 1, f"{side} into /dev/full: told")
+        checks.count(len(other.came) >= 200, f"{side} into /dev/full: {len(other.came)} of 200 packets")
 
 
 def statistics(checks, stage):

@@ -18,6 +18,10 @@ pub struct Options<'a> {
     pub listen: &'a str,
     pub to: &'a str,
     pub from: Option<&'a str>,
+    /// Who may send a stream, as a list with commas; anybody where there is none.
+    pub peers: Option<&'a str>,
+    /// So many packets in a second are a stream.
+    pub stream: u64,
     pub ssrc: Option<u32>,
     pub rtx_ssrc: Option<u32>,
     pub media_type: Option<u8>,
@@ -62,6 +66,9 @@ const SHARE: u64 = 200;
 /// How long after a retransmission feedback that names the packet again is passed over by default, in milliseconds: the other relay
 /// sends each NACK twice.
 const MIN_RESEND: u64 = 10;
+
+/// How many packets in a second are a stream by default: with less than 100 milliseconds between two of them.
+const STREAM: u64 = 10;
 
 /// The greatest share.
 const MOST_SHARE: u64 = 100_000;
@@ -127,6 +134,8 @@ fn common<'a>(matches: &ArgMatches<'a>) -> Result<Options<'a>, Fault<'a>> {
         listen: matches.get_str("listen").ok_or(Fault::Value("listen"))?,
         to: matches.get_str("to").ok_or(Fault::Value("to"))?,
         from: matches.get_str("from"),
+        peers: matches.get_str("peer"),
+        stream: number(matches, "stream", 1, u64::MAX)?.unwrap_or(STREAM),
         ssrc: ssrc(matches, "ssrc")?,
         rtx_ssrc: ssrc(matches, "rtx-ssrc")?,
         media_type: eight(matches, "type", 0)?,

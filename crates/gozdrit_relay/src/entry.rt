@@ -1,18 +1,20 @@
 //! A relay is made as the command line asks for, and runs.
 ghost use Rattle.std.specs.Prelude.{◌≤◌, ◌<◌};
 
+use crate::admission::peers;
 use crate::command_line::{Choice, Options};
 use crate::draws::Draws;
 use crate::fault::Fault;
 use crate::greeting::push_sockets;
 use crate::host::Host;
 use crate::journal::Journal;
-use crate::learning::{Known, ReceiveLearner, SendLearner};
+use crate::known::Known;
+use crate::learners::{ReceiveLearner, SendLearner};
 use crate::load::Store;
-use crate::machine::{HasFar, Learner, Machine};
+use crate::machine::{Learner, Machine};
 use endpoint::ResendRule;
 use mio::net::UdpSocket;
-use relays::{Bounds, Rate, ReceiveRelay, Relay, SendRelay, run};
+use relays::{Bounds, Peers, Rate, ReceiveRelay, Relay, SendRelay, run};
 use std::fs;
 use std::io::{IsTerminal, Write};
 use std::net::{IpAddr, Ipv4Addr, Ipv6Addr, SocketAddr, ToSocketAddrs};
@@ -28,10 +30,11 @@ pub fn relay<'a>(rt: &HostRuntime, choice: &Choice<'a>) -> Result<(), Fault<'a>>
             history,
             rtx_first,
         } => {
+            let peers = peers(rt, options.peers)?;
             let (to, near, far) = opened(rt, options)?;
             let learner = sender(rt, options, *rate, *rule, *history, *rtx_first, to);
             let store = Store::History(*history as u64);
-            go::<SendRelay<RingHistory>, SendLearner>(rt, options, learner, near, far, store)
+            go::<SendRelay<RingHistory>, SendLearner>(rt, options, learner, peers, near, far, store)
         }
         Choice::Receive {
             options,
@@ -39,13 +42,16 @@ pub fn relay<'a>(rt: &HostRuntime, choice: &Choice<'a>) -> Result<(), Fault<'a>>
             window,
             hold,
         } => {
+            let peers = peers(rt, options.peers)?;
             let (to, far, near) = opened(rt, options)?;
             let learner = receiver(rt, options, *latency, *window, *hold, to);
             let store = Store::Window {
                 places: *window as u64,
                 latency: *latency,
             };
-            go::<ReceiveRelay<RingWindow>, ReceiveLearner>(rt, options, learner, near, far, store)
+            go::<ReceiveRelay<RingWindow>, ReceiveLearner>(
+                rt, options, learner, peers, near, far, store,
+            )
         }
     }
 }
@@ -70,6 +76,7 @@ fn sender(
         history: within(history),
         far,
         bounds: bounds(options),
+        passed: 0,
     }
 }
 
@@ -127,10 +134,11 @@ fn prepared<'a>(rt: &HostRuntime, options: &Options<'a>) -> Result<SocketAddr, F
 }
 
 /// Runs a relay over its sockets, and writes the last line of counts.
-fn go<'a, R: Relay + HasFar + Drop, L: Learner<R> + Drop>(
+fn go<'a, R: Relay + Drop, L: Learner<R> + Drop>(
     rt: &HostRuntime,
     options: &Options<'a>,
     learner: L,
+    peers: Peers,
     near: UdpSocket,
     far: UdpSocket,
     store: Store,
@@ -145,12 +153,12 @@ fn go<'a, R: Relay + HasFar + Drop, L: Learner<R> + Drop>(
     let Ok(mut host) = Host::new(rt, near, far, draws, journal, stats, store, shows_repair) else {
         return Err(Fault::Outside);
     };
-    let mut machine = Machine::<L, R>::new(learner, bounds(options).until);
+    let mut machine = Machine::<L, R>::new(learner, peers, options.stream, bounds(options).until);
     let outcome = run(&mut host, &mut machine);
     host.write_counts();
     if let (Some(journal), Some(file)) = (&host.journal, options.log) {
-        if journal.has_failed() {
-            return Err(Fault::Write(file));
+        if journal.lost() > 0 {
+            return Err(Fault::Write(file, journal.lost()));
         }
     }
     if machine.is_out_of_memory() {

@@ -11,14 +11,16 @@ pub enum Fault<'a> {
     Value(&'a str),
     /// The types and SSRCs of the options are none of a session.
     Session,
+    /// This is no peer.
+    Peer(&'a str),
     /// This address can't be found.
     Find(&'a str),
     /// A socket can't be had at this address.
     Bind(SocketAddr, ErrorKind),
     /// This file can't be opened.
     Open(&'a str),
-    /// This file takes nothing more.
-    Write(&'a str),
+    /// This file did not take so many lines.
+    Write(&'a str, u64),
     /// The clock or a socket answers errors.
     Outside,
     /// The allocator refused a growth.
@@ -36,15 +38,19 @@ pub fn tell<W: Write>(fault: &Fault<'_>, error: &mut W) -> u8 {
             error,
             "fault value: the types, or the SSRCs, are those of no session"
         ),
+        Fault::Peer(word) => writeln!(
+            error,
+            "fault value: --peer: {word} is no address with a number of bits"
+        ),
         Fault::Find(name) => writeln!(error, "can't find {name}"),
         Fault::Bind(at, kind) => writeln!(error, "can't bind {at}: {}", reason(*kind)),
         Fault::Open(file) => writeln!(error, "can't open {file}"),
-        Fault::Write(file) => writeln!(error, "can't write {file}"),
+        Fault::Write(file, lost) => writeln!(error, "can't write {file}: {lost} lines are lost"),
         Fault::Outside => writeln!(error, "the clock or a socket failed"),
         Fault::Memory => writeln!(error, "out of memory"),
     };
     match fault {
-        Fault::Line(_) | Fault::Value(_) | Fault::Session => 2,
+        Fault::Line(_) | Fault::Value(_) | Fault::Session | Fault::Peer(_) => 2,
         Fault::Memory => 4,
         _ => 3,
     }

@@ -63,6 +63,33 @@ pub fn push_session(
     )
 }
 
+/// The line of datagrams that came from elsewhere, with the address of the last one.
+pub fn push_strays(
+    rt: &HostRuntime,
+    line: &mut Vec<u8>,
+    count: u64,
+    from: SocketAddr,
+) -> Result<(), OutOfMemory> {
+    let from = format!(in rt.alloc(); "{from}")?;
+    push_line(
+        line,
+        &[
+            Word::Text(b"turned away"),
+            Word::Decimal(count),
+            Word::Text(b"from"),
+            Word::Text(from.as_bytes()),
+        ],
+    )
+}
+
+/// The line of a log that takes nothing more.
+pub fn push_full(line: &mut Vec<u8>) -> Result<(), OutOfMemory> {
+    push_line(
+        line,
+        &[Word::Text(b"the log can't be written, and loses lines until it can")],
+    )
+}
+
 /// The line of a far side that is heard at another address.
 pub fn push_moved(
     rt: &HostRuntime,

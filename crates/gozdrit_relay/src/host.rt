@@ -1,9 +1,10 @@
 //! The sockets of the machine, its clock, and what is told of a run.
 use crate::counts::Counts;
 use crate::draws::Draws;
-use crate::greeting::{push_moved, push_session};
+use crate::greeting::{push_full, push_moved, push_session, push_strays};
 use crate::journal::Journal;
 use crate::load::{Load, Store};
+use crate::strays::Strays;
 use mio::net::UdpSocket;
 use mio::{Events, Interest, Poll, Token};
 use relays::{Meeting, Note, Octets, Outside, OutsideFault, Side, Turn};
@@ -40,6 +41,9 @@ pub struct Host<'a> {
     is_lost: bool,
     pub counts: Counts,
     pub journal: Option<Journal>,
+    /// From where the last datagram came, and what of such came from elsewhere.
+    from: Option<SocketAddr>,
+    strays: Strays,
     /// A line of counts each so many milliseconds, and the moment of the next one.
     stats: Option<(u64, u64)>,
     is_sender: bool,
@@ -81,6 +85,8 @@ impl<'a> Host<'a> {
             is_lost: false,
             counts: Counts::NONE,
             journal,
+            from: None,
+            strays: Strays::NONE,
             stats: match stats {
                 Some(seconds) => {
                     let apart = seconds.saturating_mul(1000);
@@ -193,6 +199,39 @@ impl<'a> Host<'a> {
         }
     }
 
+    /// Logs what a relay did, and tells once where that can't be written.
+    fn log(&mut self, turn: &Turn, octets: &[u8], now: u64) {
+        let Some(journal) = &mut self.journal else {
+            return;
+        };
+        let lost = journal.lost();
+        let index = self.left.saturating_sub(1);
+        journal.note(now, &turn.note, octets, index);
+        if self.is_lost {
+            journal.lose(now, index);
+        }
+        if lost == 0 && journal.lost() > 0 {
+            self.line.clear();
+            if push_full(&mut self.line).is_ok() {
+                let _ = self.rt.stderr().write_all(&self.line);
+            }
+        }
+    }
+
+    /// Writes the line of datagrams that came from elsewhere, at most each ten seconds.
+    fn tell_strays(&mut self, note: &Note, now: u64) {
+        let (Note::Stray, Some(from)) = (note, self.from) else {
+            return;
+        };
+        let Some(count) = self.strays.come(now) else {
+            return;
+        };
+        self.line.clear();
+        if push_strays(self.rt, &mut self.line, count, from).is_ok() {
+            let _ = self.rt.stderr().write_all(&self.line);
+        }
+    }
+
     /// Writes the line of a store that is too short, once in each session.
     fn tell_shortage(&mut self, note: &Note, now: u64) {
         let Some(shortage) = self.load.follow(now, note) else {
@@ -234,11 +273,6 @@ impl Outside for Host<'_> {
     ghost traffic = { λ host. None };
 
     fn wait(&mut self, until: Option<u64>, room: &mut Octets) -> Result<Meeting, OutsideFault> {
-        if let Some(journal) = &self.journal {
-            if journal.has_failed() {
-                return Err(OutsideFault);
-            }
-        }
         let mut came = self.take(room)?;
         let mut now = self.now()?;
         if came.is_none() {
@@ -252,6 +286,7 @@ impl Outside for Host<'_> {
             now = self.now()?;
         }
         self.tell_counts(now);
+        self.from = came.map(|came| came.1);
         Ok(Meeting { now, came })
     }
 
@@ -275,15 +310,10 @@ impl Outside for Host<'_> {
 
     fn tell(&mut self, turn: &Turn, octets: &[u8], now: u64) {
         self.counts.count(&turn.note);
-        let index = self.left.saturating_sub(1);
-        if let Some(journal) = &mut self.journal {
-            journal.note(now, &turn.note, octets, index);
-            if self.is_lost {
-                journal.lose(now, index);
-            }
-        }
+        self.log(turn, octets, now);
         self.is_lost = false;
         self.tell_far(&turn.note);
+        self.tell_strays(&turn.note, now);
         self.tell_shortage(&turn.note, now);
     }
 }

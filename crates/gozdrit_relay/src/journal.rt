@@ -10,14 +10,17 @@ use std::fs::File;
 use std::io::Write;
 use stores::OutOfMemory;
 
-/// A log in a file. Each line is written whole, by one call.
+/// A log in a file. Each line is written whole, by one call. One that can't be is lost, and the next one begins anew.
 #[derive(Drop)]
 pub struct Journal {
     file: File,
     line: Vec<u8>,
     /// Whether the SSRC of the retransmissions is known from the beginning.
     shows_repair: bool,
-    has_failed: bool,
+    /// How many lines could not be written.
+    lost: u64,
+    /// Whether the last one could not, of which the file may have a part.
+    is_torn: bool,
 }
 
 impl Journal {
@@ -27,13 +30,14 @@ impl Journal {
             file,
             line,
             shows_repair,
-            has_failed: false,
+            lost: 0,
+            is_torn: false,
         }
     }
 
-    /// Whether a line could not be written.
-    pub fn has_failed(&self) -> bool {
-        self.has_failed
+    /// How many lines could not be written.
+    pub fn lost(&self) -> u64 {
+        self.lost
     }
 
     /// Writes what a relay did at a moment, with the octets that left or came, and the number of the datagram that left.
@@ -148,8 +152,11 @@ impl Journal {
 
     fn write(&mut self, words: &[Word<'_>]) {
         self.line.clear();
-        if push_line(&mut self.line, words).is_err() || self.file.write_all(&self.line).is_err() {
-            self.has_failed = true;
+        let is_apart = !self.is_torn || self.line.push(b'\n').is_ok();
+        let is_whole = is_apart && push_line(&mut self.line, words).is_ok();
+        self.is_torn = !is_whole || self.file.write_all(&self.line).is_err();
+        if self.is_torn {
+            self.lost = self.lost.saturating_add(1);
         }
     }
 }

@@ -1,14 +1,17 @@
 //! How a session is learnt from its first packet.
-ghost use Rattle.std.specs.Prelude.{◌≡◌, ◌≤◌, ◌<◌, IfOk};
+ghost use Rattle.std.specs.Prelude.{◌≡◌, false, Some, IfSome};
+ghost use Rattle.relays.specs.declared.outside.Side.TheVariants.{Near, Far};
+ghost use Rattle.rtpwire.specs.Rtp.{RtpPacket, RtpSpells};
+ghost use Rattle.endpoint.specs.Demultiplex.{is_control};
+ghost use Rattle.gozdrit_relay.specs.Learning.{BeginsAs, IsBelieved, IsOfReceiver, ReceiveBegins, ReceiveBeginsOf, SendBegins, SendBeginsOf, bounds_left, config_for, held_by, is_of_sender, numbering_for, played_before, sent_before};
 
-use crate::command_line::Options;
-use crate::machine::{HasFar, Learner, Learnt};
-use endpoint::{ResendRule, is_control};
+use crate::learners::{ReceiveLearner, SendLearner};
+use crate::machine::{Beginning, Learner, Learnt};
+use endpoint::is_control;
 use receiver::ReceiverConfig;
-use relays::{Bounds, Note, Numbering, Pace, Rate, ReceiveRelay, SendRelay, Side, Stream};
+use relays::{Bounds, Note, Numbering, Pace, ReceiveRelay, SendRelay, Side, Stream};
 use rtpwire::{RtpView, Session};
 use sender::SenderConfig;
-use std::alloc::Global;
 use std::net::SocketAddr;
 use stores::{History, OutOfMemory, Window};
 use timing::Playout;
@@ -23,254 +26,321 @@ const RETRY: u64 = 250;
 /// How late a packet may be before it is asked for, until then, in milliseconds.
 const LATE: u64 = 20;
 
-/// What the options say of a session, and what is learnt where they say nothing.
-#[derive(Clone, Copy)]
-pub struct Known {
-    ssrc: Option<u32>,
-    rtx_ssrc: Option<u32>,
-    media_type: Option<u8>,
-    rtx_type: Option<u8>,
+/// The RTP packet of a datagram, if it is one.
+fn packet_in(octets: &[u8]) -> Option<RtpView<'_>>
+    ensures some { IfSome result (λ packet. (is_control octets.now ≡ false) × RtpSpells packet octets.now) }
+    ensures only { (packet : RtpPacket) → is_control octets.now ≡ false → RtpSpells packet octets.now → result ≡ Some packet }
+{
+    if is_control(octets) {
+        return None;
+    }
+    match RtpView::read(octets) {
+        Ok(view) => Some(view),
+        Err(_) => None,
+    }
 }
 
-impl Known {
-    /// What the options say.
-    pub fn of(options: &Options<'_>) -> Known {
-        Known {
-            ssrc: options.ssrc,
-            rtx_ssrc: options.rtx_ssrc,
-            media_type: options.media_type,
-            rtx_type: options.rtx_type,
+/// What bounds leave for a session after others that had so many packets.
+fn bounds_left(bounds: Bounds, passed: u64) -> Bounds
+    ensures { result ≡ bounds_left bounds passed }
+{
+    Bounds {
+        packets: match bounds.packets {
+            Some(most) => Some(most.saturating_sub(passed)),
+            None => None,
+        },
+        until: bounds.until,
+    }
+}
+
+/// Whether a packet is of the session that a relay has.
+fn is_of_sender<H: History>(before: &Option<SendRelay<H>>, view: &RtpView<'_>, now: u64) -> bool
+    ensures { result ≡ is_of_sender before.now view.now now }
+{
+    match before {
+        Some(relay) => relay.is_of(view.ssrc(), view.payload_type(), now),
+        None => false,
+    }
+}
+
+/// How many packets sessions sent, with that of this relay.
+fn sent_before<H: History>(before: &Option<SendRelay<H>>, passed: u64) -> u64
+    ensures { result ≡ sent_before before.now passed }
+{
+    match before {
+        Some(relay) => passed.saturating_add(relay.counts().sent),
+        None => passed,
+    }
+}
+
+impl SendLearner {
+    /// Which session a datagram of the application may begin beside that of a relay.
+    fn heard<H: History>(
+        &self,
+        octets: &[u8],
+        before: &Option<SendRelay<H>>,
+        now: u64,
+    ) -> Option<Beginning>
+        ensures { SendBegins self.now Near octets.now before.now now result }
+    {
+        match packet_in(octets) {
+            Some(view) => self.of_packet(&view, before, now),
+            None => None,
         }
     }
 
-    /// The session of a packet, under this SSRC. None: it has another type, or there is no such session.
-    fn session(&self, view: &RtpView<'_>, ssrc: u32) -> Option<Session> {
-        let media_type = view.payload_type();
-        if let Some(known) = self.media_type {
-            if media_type != known {
-                return None;
-            }
+    /// Which one a packet may begin.
+    fn of_packet<H: History>(
+        &self,
+        view: &RtpView<'_>,
+        before: &Option<SendRelay<H>>,
+        now: u64,
+    ) -> Option<Beginning>
+        ensures { SendBeginsOf self.now before.now now view.now result }
+    {
+        if is_of_sender(before, view, now) {
+            return None;
         }
-        let repair = self.rtx_ssrc.unwrap_or(ssrc.wrapping_add(1));
-        let own = if repair == ssrc.wrapping_add(2) {
-            ssrc.wrapping_add(3)
-        } else {
-            ssrc.wrapping_add(2)
-        };
-        let repair_type = self.rtx_type.unwrap_or(beside(media_type));
-        Session::with_any_media_type(ssrc, media_type, repair, repair_type, own).ok()
+        let ssrc = self.known.ssrc.unwrap_or(view.ssrc());
+        self.known.beginning(view, ssrc)
     }
-}
-
-/// The type of the retransmissions of a payload type: the dynamic one behind it, or 97 for one that is static.
-fn beside(media_type: u8) -> u8 {
-    match media_type {
-        96..=126 => media_type + 1,
-        127 => 126,
-        _ => 97,
-    }
-}
-
-impl<H: History> HasFar for SendRelay<H> {
-    ghost far = { λ relay. relay.far };
-}
-
-impl<W: Window> HasFar for ReceiveRelay<W> {
-    ghost far = { λ relay. relay.far };
-}
-
-/// Of a relay before a network.
-#[derive(Drop)]
-pub struct SendLearner {
-    pub alloc: Global,
-    pub known: Known,
-    pub first: Option<u16>,
-    pub rtx_first: u16,
-    pub rate: Rate,
-    pub rule: ResendRule,
-    pub history: usize,
-    pub far: SocketAddr,
-    pub bounds: Bounds,
-    ghost kept: { (0 < history) × (history ≤ 8192) },
 }
 
 impl<H: History> Learner<SendRelay<H>> for SendLearner {
-    ghost use Rattle.std.specs.Prelude.{◌≡◌};
+    ghost use Rattle.relays.specs.declared.outside.Side.TheVariants.{Near};
+    ghost use Rattle.gozdrit_relay.specs.Learning.{SendBegins, SendMakes};
 
-    ghost begins = { λ learner from far. far ≡ learner.far };
+    ghost listens = { λ learner. Near };
 
-    fn learn(
-        &mut self,
+    ghost begins = { λ learner side from octets before now beginning. SendBegins learner side octets before now beginning };
+
+    ghost makes = { λ learner beginning from before relay note new. SendMakes learner beginning before relay note new };
+
+    fn side(&self) -> Side {
+        Side::Near
+    }
+
+    fn beginning(
+        &self,
         side: Side,
         _from: SocketAddr,
         octets: &[u8],
         before: &Option<SendRelay<H>>,
-        _now: u64,
-        _was_quiet: bool,
-    ) -> Result<Option<Learnt<SendRelay<H>>>, OutOfMemory> {
-        if side == Side::Far || before.is_some() || is_control(octets) {
-            return Ok(None);
+        now: u64,
+    ) -> Option<Beginning> {
+        match side {
+            Side::Near => self.heard(octets, before, now),
+            Side::Far => None,
         }
-        let Ok(view) = RtpView::read(octets) else {
-            return Ok(None);
-        };
-        let ssrc = self.known.ssrc.unwrap_or(view.ssrc());
-        let Some(session) = self.known.session(&view, ssrc) else {
-            return Ok(None);
-        };
-        let first = self.first.unwrap_or(view.sequence());
-        let Ok(config) = SenderConfig::new(session, first, self.rtx_first, MOST) else {
-            return Ok(None);
-        };
+    }
+
+    fn make(
+        &mut self,
+        beginning: &Beginning,
+        _from: SocketAddr,
+        before: &Option<SendRelay<H>>,
+    ) -> Result<Learnt<SendRelay<H>>, OutOfMemory> {
+        let first = self.first.unwrap_or(beginning.number);
+        let config = SenderConfig::new(beginning.session, first, self.rtx_first, MOST).unwrap();
+        let passed = sent_before(before, self.passed);
         let relay = SendRelay::new(
             self.alloc,
             config.with_any_reporter(),
             self.rule,
             self.history,
             self.far,
-            Stream::new(view.ssrc()),
+            Stream::new(beginning.ssrc),
             Pace::new(self.rate),
-            self.bounds,
+            bounds_left(self.bounds, passed),
         )?;
-        Ok(Some(Learnt {
+        self.passed = passed;
+        Ok(Learnt {
             relay,
-            note: Note::Began(session, first, self.far),
-        }))
+            note: Note::Began(beginning.session, first, self.far),
+        })
     }
-
-    fn unlearnt(&self, side: Side) -> Note {
-        match side {
-            Side::Near => Note::Unsent,
-            Side::Far => Note::Stray,
-        }
-    }
-}
-
-/// Of a relay behind a network.
-#[derive(Drop)]
-pub struct ReceiveLearner {
-    pub alloc: Global,
-    pub known: Known,
-    pub first: Option<u16>,
-    pub latency: u64,
-    pub window: usize,
-    pub hold: Option<u32>,
-    pub player: SocketAddr,
-    pub bounds: Bounds,
-    /// How many packets the sessions before played or gave up.
-    pub passed: u64,
-    ghost held: { (0 < window) × (window ≤ 8192) },
 }
 
 impl ReceiveLearner {
-    /// The session of a packet, and how its receiver works.
-    fn config(&self, view: &RtpView<'_>) -> Option<(Session, ReceiverConfig)> {
-        let ssrc = view.ssrc();
-        if self.known.ssrc.unwrap_or(ssrc) != ssrc {
-            return None;
-        }
-        let session = self.known.session(view, ssrc)?;
-        let made = if self.known.rtx_ssrc.is_some() {
-            ReceiverConfig::new(session, self.latency, RETRY, MOST)
-        } else {
-            ReceiverConfig::learning(session, self.latency, RETRY, MOST)
-        };
-        match made {
-            Ok(config) => Some((session, config.with_delay(LATE))),
-            Err(_) => None,
+    /// Which session a datagram from an address may begin beside that of a relay.
+    fn heard<W: Window>(
+        &self,
+        from: SocketAddr,
+        octets: &[u8],
+        before: &Option<ReceiveRelay<W>>,
+        now: u64,
+    ) -> Option<Beginning>
+        ensures { ReceiveBegins self.now Far from octets.now before.now now result }
+    {
+        match packet_in(octets) {
+            Some(view) => self.of_packet(&view, from, octets, before, now),
+            None => None,
         }
     }
 
-    /// A relay that goes on with the numbers of the one before, to the same end.
-    fn begin<W: Window>(
-        &mut self,
-        config: ReceiverConfig,
+    /// Which one a packet may begin that these octets are.
+    fn of_packet<W: Window>(
+        &self,
+        view: &RtpView<'_>,
         from: SocketAddr,
-        ssrc: u32,
+        octets: &[u8],
         before: &Option<ReceiveRelay<W>>,
-    ) -> Result<ReceiveRelay<W>, OutOfMemory>
-        ensures far { IfOk result (λ made. made.far ≡ from) }
-        ensures player { IfOk result (λ made. made.player ≡ self.old.player) }
+        now: u64,
+    ) -> Option<Beginning>
+        ensures { ReceiveBeginsOf self.now from octets.now before.now now view.now result }
     {
-        let mut numbering = Numbering::new(ssrc);
-        if let Some(relay) = before {
-            numbering = relay.numbering();
-            numbering.restart();
-            let counts = relay.counts();
-            self.passed = self
-                .passed
-                .saturating_add(counts.played)
-                .saturating_add(counts.gaps);
+        let is_of = is_believed(before, view, from, octets, now);
+        self.beside(is_of, view)
+    }
+
+    /// Which one a packet may begin that is of the session there is, or is not.
+    fn beside(&self, is_of: bool, view: &RtpView<'_>) -> Option<Beginning>
+        ensures { BeginsAs is_of self.now.known view.now result }
+    {
+        let ssrc = view.ssrc();
+        let is_wanted = self.known.ssrc.unwrap_or(ssrc) == ssrc;
+        if is_of || !is_wanted {
+            return None;
         }
-        let bounds = Bounds {
-            packets: self
-                .bounds
-                .packets
-                .map(|most| most.saturating_sub(self.passed)),
-            until: self.bounds.until,
+        self.known.beginning(view, ssrc)
+    }
+
+    /// How the receiver of a session works.
+    fn config(&self, session: Session) -> ReceiverConfig
+        ensures { result ≡ config_for self.now session }
+    {
+        let made = match self.known.rtx_ssrc {
+            Some(_) => ReceiverConfig::new(session, self.latency, RETRY, MOST),
+            None => ReceiverConfig::learning(session, self.latency, RETRY, MOST),
         };
-        let mut relay = ReceiveRelay::new(
-            self.alloc,
-            config,
-            self.window,
-            from,
-            self.player,
-            numbering,
-            self.hold.map(Playout::new),
-            bounds,
-        )?;
-        if before.is_none() {
-            if let Some(first) = self.first {
-                let _ = relay.begin(first);
-            }
+        made.unwrap().with_delay(LATE)
+    }
+}
+
+/// Whether a packet from an address is one of the session that a relay has, by what it says and where it comes from.
+fn is_of_receiver<W: Window>(relay: &ReceiveRelay<W>, view: &RtpView<'_>, from: SocketAddr) -> bool
+    ensures { IsOfReceiver relay.now view.now from result }
+{
+    let session = relay.session();
+    let is_far = from == relay.far();
+    is_far && (view.ssrc() == session.media_ssrc() || view.payload_type() == session.repair_type())
+}
+
+/// Whether a packet is of the session that a relay has, or shows its far side at another address.
+fn is_believed<W: Window>(
+    before: &Option<ReceiveRelay<W>>,
+    view: &RtpView<'_>,
+    from: SocketAddr,
+    octets: &[u8],
+    now: u64,
+) -> bool
+    ensures { IsBelieved before.now view.now from octets.now now result }
+{
+    match before {
+        Some(relay) => {
+            let is_of = is_of_receiver(relay, view, from);
+            let moved = relay.has_moved(octets, now);
+            is_of | moved
         }
-        Ok(relay)
+        None => false,
+    }
+}
+
+/// How many packets sessions played or gave up, with that of this relay.
+fn played_before<W: Window>(before: &Option<ReceiveRelay<W>>, passed: u64) -> u64
+    ensures { result ≡ played_before before.now passed }
+{
+    match before {
+        Some(relay) => {
+            let counts = relay.counts();
+            passed
+                .saturating_add(counts.played)
+                .saturating_add(counts.gaps)
+        }
+        None => passed,
+    }
+}
+
+/// The numbers that a player sees of a session under this SSRC: they go on from those of the one before.
+fn numbering_for<W: Window>(before: &Option<ReceiveRelay<W>>, ssrc: u32) -> Numbering
+    ensures { result ≡ numbering_for before.now ssrc }
+{
+    match before {
+        Some(relay) => {
+            let mut numbering = relay.numbering();
+            numbering.restart();
+            numbering
+        }
+        None => Numbering::new(ssrc),
+    }
+}
+
+/// The clock by which packets are held, at this rate.
+fn held_by(rate: Option<u32>) -> Option<Playout>
+    ensures { result ≡ held_by rate }
+{
+    match rate {
+        Some(rate) => Some(Playout::new(rate)),
+        None => None,
     }
 }
 
 impl<W: Window> Learner<ReceiveRelay<W>> for ReceiveLearner {
-    ghost use Rattle.std.specs.Prelude.{◌≡◌};
+    ghost use Rattle.relays.specs.declared.outside.Side.TheVariants.{Far};
+    ghost use Rattle.gozdrit_relay.specs.Learning.{ReceiveBegins, ReceiveMakes};
 
-    ghost begins = { λ learner from far. far ≡ from };
+    ghost listens = { λ learner. Far };
 
-    fn learn(
-        &mut self,
+    ghost begins = { λ learner side from octets before now beginning. ReceiveBegins learner side from octets before now beginning };
+
+    ghost makes = { λ learner beginning from before relay note new. ReceiveMakes learner beginning from before relay note new };
+
+    fn side(&self) -> Side {
+        Side::Far
+    }
+
+    fn beginning(
+        &self,
         side: Side,
         from: SocketAddr,
         octets: &[u8],
         before: &Option<ReceiveRelay<W>>,
         now: u64,
-        was_quiet: bool,
-    ) -> Result<Option<Learnt<ReceiveRelay<W>>>, OutOfMemory> {
-        if side == Side::Near || is_control(octets) {
-            return Ok(None);
+    ) -> Option<Beginning> {
+        match side {
+            Side::Near => None,
+            Side::Far => self.heard(from, octets, before, now),
         }
-        let Ok(view) = RtpView::read(octets) else {
-            return Ok(None);
-        };
-        if let Some(relay) = before {
-            if !was_quiet || is_of(&view, from, relay) || relay.has_moved(octets, now) {
-                return Ok(None);
-            }
+    }
+
+    fn make(
+        &mut self,
+        beginning: &Beginning,
+        from: SocketAddr,
+        before: &Option<ReceiveRelay<W>>,
+    ) -> Result<Learnt<ReceiveRelay<W>>, OutOfMemory> {
+        let passed = played_before(before, self.passed);
+        let mut relay = ReceiveRelay::new(
+            self.alloc,
+            self.config(beginning.session),
+            self.window,
+            from,
+            self.player,
+            numbering_for(before, beginning.ssrc),
+            held_by(self.hold),
+            bounds_left(self.bounds, passed),
+        )?;
+        if let (Some(first), None) = (self.first, before) {
+            let _ = relay.begin(first);
         }
-        let Some((session, config)) = self.config(&view) else {
-            return Ok(None);
-        };
-        let relay = self.begin(config, from, view.ssrc(), before)?;
-        Ok(Some(Learnt {
+        self.passed = passed;
+        Ok(Learnt {
             relay,
-            note: Note::Began(session, self.first.unwrap_or(view.sequence()), from),
-        }))
+            note: Note::Began(
+                beginning.session,
+                self.first.unwrap_or(beginning.number),
+                from,
+            ),
+        })
     }
-
-    fn unlearnt(&self, _side: Side) -> Note {
-        Note::Stray
-    }
-}
-
-/// Whether a packet from an address is one of the session that a relay has, by what it says and where it comes from.
-fn is_of<W: Window>(view: &RtpView<'_>, from: SocketAddr, relay: &ReceiveRelay<W>) -> bool {
-    let session = relay.session();
-    from == relay.far()
-        && (view.ssrc() == session.media_ssrc() || view.payload_type() == session.repair_type())
 }

@@ -1,6 +1,7 @@
 //! The program `gozdrit-relay`: it stands between an application and a network that loses, and repairs an RTP stream.
 #![tactic(auto)]
 
+mod admission;
 mod command_line;
 mod counts;
 mod draws;
@@ -10,10 +11,13 @@ mod greeting;
 mod help;
 mod host;
 mod journal;
+mod known;
+mod learners;
 mod learning;
 mod load;
 mod machine;
 mod options;
+mod strays;
 
 use command_line::choose;
 use entry::relay;

@@ -103,7 +103,7 @@ fn receive<'a>(alloc: Global) -> Result<Command<'a>, AllocError> {
 
 /// The options of both.
 fn common<'a>(alloc: Global, command: Command<'a>) -> Result<Command<'a>, AllocError> {
-    of_run(alloc, of_session(alloc, command)?)
+    of_run(alloc, of_peers(alloc, of_session(alloc, command)?)?)
 }
 
 /// What a session is, where it is not to be learnt.
@@ -138,6 +138,23 @@ fn of_session<'a>(alloc: Global, command: Command<'a>) -> Result<Command<'a>, Al
             "first",
             "N",
             "The first sequence number of the media; learnt by default",
+        ))
+}
+
+/// Whose streams are heard.
+fn of_peers<'a>(alloc: Global, command: Command<'a>) -> Result<Command<'a>, AllocError> {
+    command
+        .arg(option(
+            alloc,
+            "peer",
+            "LIST",
+            "Who may send a stream: addresses, names, either with a port, or prefixes as 192.0.2.0/24, with commas; anybody by default",
+        ))?
+        .arg(option(
+            alloc,
+            "stream",
+            "N",
+            "How many packets in a second are a stream, to which a session falls whose sender has none; 10 by default",
         ))
 }
 

@@ -1,11 +1,30 @@
-use Rattle.std.proofs.Common.{IfSome, Option, refl, subst}
-use Rattle.gozdrit_relay.specs.declared.machine.Learnt.{Learnt}
-use Rattle.gozdrit_relay.specs.Machine.{TellsOf, begun}
+use Rattle.std.proofs.Common.{rules, ◌≡◌, Bool, true, false, Option, Some, refl, subst}
+use Rattle.gozdrit_relay.specs.declared.machine.Beginning.{Beginning}
+use Rattle.gozdrit_relay.specs.Machine.{FallsTo, begun, refused}
 use Rattle.gozdrit_relay.proofs.machine.Machine.begin.Goals as goal
 
-pub returns-in-Ok-Some-clause-stands : goal.returns-in-Ok-Some-clause-stands
-returns-in-Ok-Some-clause-stands g c =
-    let l = c.in-Ok-Some.learnt in
-    let begins = subst (λ (o : Option (Learnt g.row.R.Denot)). IfSome o (λ l. g.L.Learner.begins c.args.self.now.learner c.args.from (g.R.HasFar.far l.relay))) c.in-Ok-Some.field-0-is c.in-Ok-Some.ensures.begins in
-    let tells = subst (λ (o : Option (Learnt g.row.R.Denot)). IfSome o (λ l. TellsOf l.note (g.R.HasFar.far l.relay))) c.in-Ok-Some.field-0-is c.in-Ok-Some.ensures.tells in
-    begun l.relay l.note (begins, tells) refl refl
+pub returns-then-not-falls_to : goal.returns-then-not-falls_to
+returns-then-not-falls_to g c =
+    let old = c.args.self.now in
+    let b = c.in-Some.beginning in
+    let stays : c.falls_to.result ≡ false = search rules in
+    let begins = subst (λ (o : Option Beginning). g.L.Learner.begins old.learner c.args.side c.args.from c.args.octets.now old.relay c.args.now o) c.in-Some.is c.beginning.ensures in
+    (Some b, begins, (false, c.falls_to.new.self, subst (λ (falls : Bool). FallsTo old b c.args.from c.args.now falls c.falls_to.new.self) stays c.falls_to.ensures, refl))
+
+pub returns-in-Ok : goal.returns-in-Ok
+returns-in-Ok g c =
+    let old = c.args.self.now in
+    let b = c.in-Some.beginning in
+    let mid = c.falls_to.new.self in
+    let falls : c.falls_to.result ≡ true = search rules in
+    let begins = subst (λ (o : Option Beginning). g.L.Learner.begins old.learner c.args.side c.args.from c.args.octets.now old.relay c.args.now o) c.in-Some.is c.beginning.ensures in
+    (Some b, begins, (true, mid, subst (λ (falls : Bool). FallsTo old b c.args.from c.args.now falls mid) falls c.falls_to.ensures, begun c.in-Ok.learnt.relay c.in-Ok.learnt.note c.make.new.self c.in-Ok.ensures.makes refl))
+
+pub returns-in-Err : goal.returns-in-Err
+returns-in-Err g c =
+    let old = c.args.self.now in
+    let b = c.in-Some.beginning in
+    let mid = c.falls_to.new.self in
+    let falls : c.falls_to.result ≡ true = search rules in
+    let begins = subst (λ (o : Option Beginning). g.L.Learner.begins old.learner c.args.side c.args.from c.args.octets.now old.relay c.args.now o) c.in-Some.is c.beginning.ensures in
+    (Some b, begins, (true, mid, subst (λ (falls : Bool). FallsTo old b c.args.from c.args.now falls mid) falls c.falls_to.ensures, refused (search rules)))

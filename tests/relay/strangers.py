@@ -1,0 +1,166 @@
+#!/usr/bin/env python3
+"""To whom a session falls, who is heard at all, and what a NACK may cost.
+
+    strangers.py PROGRAM"""
+import threading
+import time
+
+from base import part, soon
+from net import App, End, udp
+from rtp import Content, nack, packet, plain
+
+OWN, OTHER = 0x1a2b3c4d, 0x55667788
+RATE = 50
+
+
+class Stranger(threading.Thread):
+    """It sends packets in sequence, so many seconds apart, until it is stopped."""
+
+    def __init__(self, stage, to, apart, host="127.0.0.1", kind=96):
+        super().__init__(daemon=True)
+        self.socket, self.to, self.apart, self.kind = stage.keep(udp(host)), to[:2], apart, kind
+        self.sent, self.open = 0, True
+        self.start()
+
+    def run(self):
+        while self.open:
+            self.socket.sendto(packet(self.kind, 7000 + self.sent & 65535, OTHER, Content(1, 0, b"strange")), self.to)
+            self.sent += 1
+            time.sleep(self.apart)
+
+    def stop(self):
+        self.open = False
+        self.join()
+
+
+def played(player, contents):
+    """How many of these a player has, and how much else."""
+    wanted = {one.payload for one in contents}
+    came = [one.content.payload for one in player.packets() if one]
+    return len([one for one in came if one in wanted]), len([one for one in came if one not in wanted])
+
+
+def streams(stage, receiver, contents, **more):
+    App(stage, receiver.at, ssrc=OWN, **more).stream(contents, RATE)
+
+
+def one_packet(checks, stage):
+    """A packet of a stranger that comes first: the stream has the session with its tenth one."""
+    player = End(stage)
+    receiver = stage.receive(player.at)
+    stage.keep(udp()).sendto(packet(96, 9, OTHER, Content(1, 0, b"strange")), receiver.at)
+    soon(lambda: len(receiver.logged("session")) == 1)
+    contents = plain(60)
+    streams(stage, receiver, contents)
+    checks.count(soon(lambda: played(player, contents)[0] >= 51, 5), f"one packet: {played(player, contents)} of 60 are played")
+
+
+def now_and_then(checks, stage):
+    """A stranger that came first and sends on, twice a second."""
+    player = End(stage)
+    receiver = stage.receive(player.at)
+    stranger = Stranger(stage, receiver.at, 0.5)
+    soon(lambda: stranger.sent > 2)
+    contents = plain(120)
+    streams(stage, receiver, contents)
+    stranger.stop()
+    checks.count(soon(lambda: played(player, contents)[0] >= 111, 5), f"now and then: {played(player, contents)} of 120 are played")
+
+
+def once_a_stream(checks, stage):
+    """A stranger that sent a stream, and then a packet now and then: it has the session for another second."""
+    player = End(stage)
+    receiver = stage.receive(player.at)
+    stranger = Stranger(stage, receiver.at, 0.01)
+    soon(lambda: stranger.sent > 20)
+    stranger.apart = 0.5
+    time.sleep(0.1)
+    contents = plain(200)
+    streams(stage, receiver, contents)
+    stranger.stop()
+    checks.count(soon(lambda: played(player, contents)[0] >= 130, 5), f"once a stream: {played(player, contents)} of 200 are played")
+
+
+def flooded(checks, stage):
+    """A stream beside which a stranger sends twenty times as much is played whole, and nothing of the stranger's."""
+    player = End(stage)
+    receiver = stage.receive(player.at)
+    contents = plain(200)
+    app = App(stage, receiver.at, ssrc=OWN)
+    app.stream(contents[:20], RATE)
+    stranger = Stranger(stage, receiver.at, 0.001)
+    app.stream(contents[20:], RATE)
+    stranger.stop()
+    checks.count(soon(lambda: played(player, contents)[0] == 200, 5), f"flooded: {played(player, contents)} of 200 are played")
+    checks.same(played(player, contents)[1], 0, "flooded: packets of the stranger")
+    checks.count(stranger.sent > 500, f"flooded by {stranger.sent}")
+    lines = [one for one in receiver.errors().splitlines() if one.startswith("turned away ")]
+    port = stranger.socket.getsockname()[1]
+    checks.count(lines and len(lines) == 1 and lines[0].endswith(f"from 127.0.0.1:{port}"), f"flooded: who was turned away: {lines}")
+
+
+def applications(checks, stage):
+    """Before the network: a packet of another type that comes first does not keep the application's stream out."""
+    far = End(stage)
+    sender = stage.send(far.at)
+    stage.keep(udp()).sendto(packet(33, 9, OTHER, Content(1, 0, b"strange")), sender.at)
+    soon(lambda: len(far.came) == 1)
+    contents = plain(60)
+    streams(stage, sender, contents)
+    checks.count(soon(lambda: played(far, contents)[0] >= 51, 5), f"applications: {played(far, contents)} of 60 are sent")
+
+
+def peers(checks, stage):
+    """Nobody but the peers begins a session: by address, by port, by a name, by a prefix, at either relay."""
+    own = End(stage, "127.0.0.3")
+    for side in ("receive", "send"):
+        for words in ("127.0.0.3", f"127.0.0.9,127.0.0.3:{own.at[1]}", "127.0.0.2/31", "localhost,127.0.0.3", "127.0.0.3/32,::1"):
+            other = End(stage)
+            relay = getattr(stage, side)(other.at, "--peer", words, "--log", "/dev/null", listen="0.0.0.0:0", log=False)
+            to = ("127.0.0.1", relay.at[1])
+            stranger = Stranger(stage, to, 0.005, "127.0.0.5")
+            soon(lambda: stranger.sent > 30)
+            for i, content in enumerate(plain(30)):
+                own.send(packet(96, 100 + i, OWN, content), to)
+            checks.count(soon(lambda: played(other, plain(30)) == (30, 0), 5), f"{side} --peer {words}: {played(other, plain(30))}")
+            stranger.stop()
+            relay.stop()
+
+
+def other_port(checks, stage):
+    """A peer with a port is none at another one."""
+    player, own = End(stage), End(stage)
+    receiver = stage.receive(player.at, "--peer", f"127.0.0.1:{own.at[1]}")
+    streams(stage, receiver, plain(30))
+    checks.same(len(player.came), 0, "a port: played of another one")
+    own.send(packet(96, 1, OWN, plain(1)[0]), receiver.at)
+    checks.count(soon(lambda: len(player.came) == 1, 5), "a port: played")
+
+
+def gun(checks, stage):
+    """Whatever NACKs come: over any second at most twice the octets of the media are retransmitted, and 32 KiB more. (The media has more
+    than the two megabits a second that it is taken for at first.)"""
+    far, count, length = End(stage), 600, 1000
+    sender = stage.send(far.at, "--min-resend", 0)
+    app = App(stage, sender.at, ssrc=OWN, number=0)
+    contents = [Content(i, 0, i.to_bytes(4, "big") + bytes(length - 4)) for i in range(count)]
+    stream = threading.Thread(target=app.stream, args=(contents, 300), daemon=True)
+    stream.start()
+    far.waits_for(20)
+    asks = [nack(OWN, range(first, first + 16)) for first in range(0, count, 16)]
+    while stream.is_alive():
+        for one in asks:
+            far.send(one, ("127.0.0.1", sender.source[1]))
+        time.sleep(0.01)
+    came = [(moment, len(octets), int.from_bytes(octets[8:12], "big") == OWN) for moment, _, octets in far.came]
+    media, again = (in_a_second([(at, size) for at, size, is_media in came if is_media == one]) for one in (True, False))
+    checks.count(media < again <= 2 * 1.05 * media + 32768, f"the gun: of {media} octets in a second {again} are retransmitted")
+
+
+def in_a_second(came):
+    """The most octets in any second, of moments and sizes."""
+    return max((sum(size for at, size in came if 0 <= at - moment < 1) for moment, _ in came), default=0)
+
+
+if __name__ == "__main__":
+    part(one_packet, now_and_then, once_a_stream, flooded, applications, peers, other_port, gun)
