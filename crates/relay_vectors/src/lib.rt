@@ -10,6 +10,8 @@ mod lossy;
 #[cfg(test)]
 mod pacing;
 #[cfg(test)]
+mod packets;
+#[cfg(test)]
 mod receiving;
 #[cfg(test)]
 mod script;
@@ -17,5 +19,3 @@ mod script;
 mod sending;
 #[cfg(test)]
 mod silences;
-#[cfg(test)]
-mod times;

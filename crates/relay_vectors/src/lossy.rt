@@ -33,6 +33,8 @@ struct Way {
     draw: u64,
     /// When each comes, and its octets.
     on_way: VecDeque<(u64, Datagram)>,
+    /// There was no memory for one.
+    is_short: bool,
 }
 
 impl Way {
@@ -41,16 +43,17 @@ impl Way {
             permille,
             draw: seed,
             on_way: VecDeque::new(alloc),
+            is_short: false,
         }
     }
 
     /// What leaves for the network because of a turn is on its way, or lost.
-    fn takes(&mut self, turn: &Turn, out: &[u8], now: u64) -> Result<(), Fail> {
+    fn takes(&mut self, turn: &Turn, out: &[u8], now: u64) {
         let Some(departure) = turn.leaves else {
-            return Ok(());
+            return;
         };
         if departure.side != Side::Far || departure.len > out.len() {
-            return Ok(());
+            return;
         }
         // The generator of Knuth's MMIX.
         self.draw = self
@@ -58,12 +61,12 @@ impl Way {
             .wrapping_mul(6364136223846793005)
             .wrapping_add(1442695040888963407);
         if (self.draw >> 33) % 1000 < self.permille {
-            return Ok(());
+            return;
         }
         let mut octets = Datagram::new();
         let _ = octets.try_extend_from_slice(&out[..departure.len]);
-        self.on_way.push_back((now.saturating_add(DELAY), octets))?;
-        Ok(())
+        let pushed = self.on_way.push_back((now.saturating_add(DELAY), octets));
+        self.is_short = self.is_short || pushed.is_err();
     }
 
     /// What comes at this moment, if anything does.
@@ -78,29 +81,22 @@ impl Way {
 }
 
 /// A relay hears what comes at this moment, and does what it has to do.
-fn turns<R: Relay>(
-    relay: &mut R,
-    from: u16,
-    comes: &mut Way,
-    leaves: &mut Way,
-    now: u64,
-) -> Result<(), Fail> {
+fn turns<R: Relay>(relay: &mut R, from: u16, comes: &mut Way, leaves: &mut Way, now: u64) {
     for _ in 0..100u8 {
         let mut out = [0; MAX_DATAGRAM];
         let Some(octets) = comes.comes(now) else {
             break;
         };
         let turn = relay.hear(Side::Far, local(from), octets.as_slice(), now, &mut out);
-        leaves.takes(&turn, &out, now)?;
+        leaves.takes(&turn, &out, now);
     }
     for _ in 0..100u8 {
         let mut out = [0; MAX_DATAGRAM];
         let Some(turn) = relay.speak(now, &mut out) else {
             break;
         };
-        leaves.takes(&turn, &out, now)?;
+        leaves.takes(&turn, &out, now);
     }
-    Ok(())
 }
 
 fn session() -> Result<Session, Fail> {
@@ -167,10 +163,13 @@ fn run_over(alloc: Global, permille: u64, seed: u64) -> Result<Tally, Fail> {
         if now % 5 == 0 && now < PACKETS * 5 {
             let mut out = [0; MAX_DATAGRAM];
             let turn = sender.hear(Side::Near, local(4000), &packet(now / 5), now, &mut out);
-            forth.takes(&turn, &out, now)?;
+            forth.takes(&turn, &out, now);
         }
-        turns(&mut sender, RECEIVER, &mut back, &mut forth, now)?;
-        turns(&mut receiver, SENDER, &mut forth, &mut back, now)?;
+        turns(&mut sender, RECEIVER, &mut back, &mut forth, now);
+        turns(&mut receiver, SENDER, &mut forth, &mut back, now);
+    }
+    if forth.is_short || back.is_short {
+        return Err(Fail::from("memory is ample"));
     }
     let counts = receiver.counts();
     Ok(Tally {

@@ -1,9 +1,11 @@
 //! A relay behind a network.
 ghost use Rattle.std.specs.Prelude.{◌<◌, ◌≤◌};
 
-use crate::script::{Script, local};
+use crate::packets::Packet::{Media, Nack, Repair, These};
+use crate::script::{Passing, Script, local};
 use receiver::ReceiverConfig;
-use relays::{Bounds, Numbering, ReceiveRelay, Side, run};
+use relays::Side::{Far, Near};
+use relays::{Bounds, Numbering, ReceiveRelay, run};
 use rtpwire::Session;
 use std::alloc::Global;
 use std::test::Fail;
@@ -16,25 +18,9 @@ pub(crate) const PLAYER: u16 = 5006;
 
 const STRANGER: u16 = 6666;
 
-/// A relay that gives a place up after 200 milliseconds, until so many were played or given up.
-fn relay(alloc: Global, packets: u64) -> Result<ReceiveRelay<RingWindow>, Fail> {
-    relay_with(alloc, packets, 64)
-}
-
-/// The same over windows of this capacity.
-pub(crate) fn relay_with(
-    alloc: Global,
-    packets: u64,
-    capacity: usize,
-) -> Result<ReceiveRelay<RingWindow>, Fail>
-    requires some { 0 < capacity }
-    requires limit { capacity ≤ 8192 }
-{
-    relay_by(alloc, packets, capacity, None)
-}
-
-/// The same, whose packets are held by this clock.
-pub(crate) fn relay_by(
+/// A relay that gives a place up after 200 milliseconds, until so many were played or given up, over windows of this capacity, whose
+/// packets are held by this clock.
+fn relay(
     alloc: Global,
     packets: u64,
     capacity: usize,
@@ -67,204 +53,251 @@ pub(crate) fn relay_by(
     made.map_err(|_| Fail::from("memory is ample"))
 }
 
-/// A media packet with this number and this octet.
-pub(crate) fn media(seq: u16, octet: u8) -> [u8; 13] {
-    let [high, low] = seq.to_be_bytes();
-    [
-        0x80, 0x21, high, low, 0, 0, 0, octet, 0x11, 0x11, 0x11, 0x11, octet,
-    ]
+/// A relay, and a script of what came to it and what left.
+#[derive(Drop)]
+pub(crate) struct Run {
+    pub script: Script,
+    pub relay: ReceiveRelay<RingWindow>,
+}
+
+/// Runs a relay by a script, until so many were played or given up, over windows of this capacity, by this clock.
+pub(crate) fn runs(
+    mut script: Script,
+    alloc: Global,
+    packets: u64,
+    capacity: usize,
+    hold: Option<Playout>,
+) -> Result<Run, Fail>
+    requires some { 0 < capacity }
+    requires limit { capacity ≤ 8192 }
+{
+    let mut relay = relay(alloc, packets, capacity, hold)?;
+    if run(&mut script, &mut relay).is_err() {
+        return Err(Fail::from("it ends by its bounds"));
+    }
+    Ok(Run { script, relay })
+}
+
+/// What became of a run. It is small, since whatever a test holds costs its proof.
+#[derive(Clone, Copy)]
+pub(crate) struct Told {
+    /// Whether what left has what is wanted, each under the number beside it.
+    pub has_left: bool,
+    /// How many datagrams left.
+    pub gone: usize,
+    /// The moment of the end.
+    pub now: u64,
+    /// The port of the far side, or 0 where that is on another machine.
+    pub far: u16,
+    pub media: u64,
+    pub held_back: u64,
+    pub played: u64,
+    pub gaps: u64,
+}
+
+/// What became of a run, from which these are wanted to leave.
+pub(crate) fn tell(run: &Run, leaves: &[(usize, Passing)]) -> Told {
+    let counts = run.relay.counts();
+    let far = run.relay.far();
+    Told {
+        has_left: run.script.has(leaves),
+        gone: run.script.gone.len(),
+        now: run.script.now,
+        far: if far == local(far.port()) {
+            far.port()
+        } else {
+            0
+        },
+        media: counts.media,
+        held_back: counts.held_back,
+        played: counts.played,
+        gaps: counts.gaps,
+    }
+}
+
+/// What becomes of a relay over windows of 64, which holds nothing, where these datagrams come.
+fn done(
+    alloc: Global,
+    packets: u64,
+    comes: &[Passing],
+    leaves: &[(usize, Passing)],
+) -> Result<Told, Fail> {
+    let run = runs(Script::new(alloc, comes)?, alloc, packets, 64, None)?;
+    Ok(tell(&run, leaves))
 }
 
 #[test]
 fn a_lost_packet_is_asked_for_and_played_in_its_place(rt: HostRuntime) -> Result<(), Fail> {
-    let mut script = Script::new(rt.alloc());
-    script.comes(1, Side::Far, FAR, &media(65534, 1))?;
-    script.comes(2, Side::Far, STRANGER, &media(65535, 66))?;
-    script.comes(3, Side::Far, FAR, &media(0, 3))?;
-    script.comes(43, Side::Far, FAR, &repair(65535, 2))?;
-    let mut relay = relay(rt.alloc(), 3)?;
-    if run(&mut script, &mut relay).is_err() {
-        return Err(Fail::from("it ends by its bounds"));
-    }
+    const COMES: &[Passing] = &[
+        (1, Far, FAR, Media(65534, 1)),
+        (2, Far, STRANGER, Media(65535, 66)),
+        (3, Far, FAR, Media(0, 3)),
+        (43, Far, FAR, Repair(65535, 2)),
+    ];
     // Each NACK leaves twice.
-    let asked = script.went(1, 3, Side::Far, FAR, &nack(65535))
-        && script.went(2, 3, Side::Far, FAR, &nack(65535));
-    let played = script.went(0, 1, Side::Near, PLAYER, &media(65534, 1))
-        && script.went(3, 43, Side::Near, PLAYER, &media(65535, 2))
-        && script.went(4, 43, Side::Near, PLAYER, &media(0, 3));
-    if asked && played && script.gone.len() == 5 && script.now == 2043 {
-        Ok(())
-    } else {
-        Err(Fail::from("what left"))
-    }
+    const LEAVES: &[(usize, Passing)] = &[
+        (0, (1, Near, PLAYER, Media(65534, 1))),
+        (1, (3, Far, FAR, Nack(65535))),
+        (2, (3, Far, FAR, Nack(65535))),
+        (3, (43, Near, PLAYER, Media(65535, 2))),
+        (4, (43, Near, PLAYER, Media(0, 3))),
+    ];
+    let done = done(rt.alloc(), 3, COMES, LEAVES)?;
+    assert!(rt; done.has_left && done.gone == 5 && done.now == 2043);
+    Ok(())
 }
 
 #[test]
 fn a_place_that_is_given_up_is_a_hole(rt: HostRuntime) -> Result<(), Fail> {
-    let mut script = Script::new(rt.alloc());
-    script.comes(1, Side::Far, FAR, &media(10, 1))?;
-    script.comes(3, Side::Far, FAR, &media(12, 3))?;
-    let mut relay = relay(rt.alloc(), 3)?;
-    if run(&mut script, &mut relay).is_err() {
-        return Err(Fail::from("it ends by its bounds"));
-    }
+    const COMES: &[Passing] = &[(1, Far, FAR, Media(10, 1)), (3, Far, FAR, Media(12, 3))];
     // It was asked for at 3, 53, 103, twice each time, and given up at 203.
-    if script.gone.len() == 8 && script.went(7, 203, Side::Near, PLAYER, &media(12, 3)) {
-        Ok(())
-    } else {
-        Err(Fail::from("what left"))
-    }
+    const LEAVES: &[(usize, Passing)] = &[(7, (203, Near, PLAYER, Media(12, 3)))];
+    let done = done(rt.alloc(), 3, COMES, LEAVES)?;
+    assert!(rt; done.has_left && done.gone == 8);
+    Ok(())
 }
 
 /// Two packets of new numbers are enough 200 milliseconds after the last one of the old numbers, and no sooner.
 #[test]
 fn numbers_go_on_where_a_stream_restarts(rt: HostRuntime) -> Result<(), Fail> {
-    let mut script = Script::new(rt.alloc());
-    script.comes(1, Side::Far, FAR, &media(10, 1))?;
-    script.comes(2, Side::Far, FAR, &media(11, 2))?;
-    script.comes(3, Side::Far, FAR, &media(30000, 3))?;
-    script.comes(201, Side::Far, FAR, &media(30001, 4))?;
-    script.comes(202, Side::Far, FAR, &media(30002, 5))?;
-    let mut relay = relay(rt.alloc(), 4)?;
-    if run(&mut script, &mut relay).is_err() {
-        return Err(Fail::from("it ends by its bounds"));
-    }
-    if script.went(2, 202, Side::Near, PLAYER, &media(12, 3))
-        && script.went(3, 202, Side::Near, PLAYER, &media(13, 4))
-    {
-        Ok(())
-    } else {
-        Err(Fail::from("what left"))
-    }
-}
-
-/// The retransmission of a media packet.
-pub(crate) fn repair(seq: u16, octet: u8) -> [u8; 15] {
-    let [high, low] = seq.to_be_bytes();
-    [
-        0x80, 0x7f, 0, 7, 0, 0, 0, octet, 0x22, 0x22, 0x22, 0x22, high, low, octet,
-    ]
-}
-
-/// A NACK that names one number.
-fn nack(seq: u16) -> [u8; 16] {
-    let [high, low] = seq.to_be_bytes();
-    [
-        0x81, 0xcd, 0, 3, 0x33, 0x33, 0x33, 0x33, 0x11, 0x11, 0x11, 0x11, high, low, 0, 0,
-    ]
+    const COMES: &[Passing] = &[
+        (1, Far, FAR, Media(10, 1)),
+        (2, Far, FAR, Media(11, 2)),
+        (3, Far, FAR, Media(30000, 3)),
+        (201, Far, FAR, Media(30001, 4)),
+        (202, Far, FAR, Media(30002, 5)),
+    ];
+    const LEAVES: &[(usize, Passing)] = &[
+        (2, (202, Near, PLAYER, Media(12, 3))),
+        (3, (202, Near, PLAYER, Media(13, 4))),
+    ];
+    let done = done(rt.alloc(), 4, COMES, LEAVES)?;
+    assert!(rt; done.has_left);
+    Ok(())
 }
 
 /// A packet came 10 milliseconds behind a later one, and a retransmission took 40: so what is missing is asked for after 13 and, since
 /// such an answer takes 65 milliseconds, once more after 122.
 #[test]
 fn asks_follow_reordering_and_the_round_trip(rt: HostRuntime) -> Result<(), Fail> {
-    let mut script = Script::new(rt.alloc());
-    script.comes(1, Side::Far, FAR, &media(10, 1))?;
-    script.comes(3, Side::Far, FAR, &media(12, 3))?;
-    script.comes(13, Side::Far, FAR, &media(11, 2))?;
-    script.comes(20, Side::Far, FAR, &media(14, 5))?;
-    script.comes(60, Side::Far, FAR, &repair(13, 4))?;
-    script.comes(100, Side::Far, FAR, &media(16, 7))?;
-    let mut relay = relay(rt.alloc(), 7)?;
-    if run(&mut script, &mut relay).is_err() {
-        return Err(Fail::from("it ends by its bounds"));
-    }
-    let asked = script.went(1, 3, Side::Far, FAR, &nack(11))
-        && script.went(5, 20, Side::Far, FAR, &nack(13))
-        && script.went(9, 113, Side::Far, FAR, &nack(15))
-        && script.went(11, 235, Side::Far, FAR, &nack(15));
-    let played = script.went(3, 13, Side::Near, PLAYER, &media(11, 2))
-        && script.went(7, 60, Side::Near, PLAYER, &media(13, 4))
-        && script.went(13, 300, Side::Near, PLAYER, &media(16, 7));
-    if asked && played && script.gone.len() == 14 {
-        Ok(())
-    } else {
-        Err(Fail::from("what left"))
-    }
+    const COMES: &[Passing] = &[
+        (1, Far, FAR, Media(10, 1)),
+        (3, Far, FAR, Media(12, 3)),
+        (13, Far, FAR, Media(11, 2)),
+        (20, Far, FAR, Media(14, 5)),
+        (60, Far, FAR, Repair(13, 4)),
+        (100, Far, FAR, Media(16, 7)),
+    ];
+    const LEAVES: &[(usize, Passing)] = &[
+        (1, (3, Far, FAR, Nack(11))),
+        (3, (13, Near, PLAYER, Media(11, 2))),
+        (5, (20, Far, FAR, Nack(13))),
+        (7, (60, Near, PLAYER, Media(13, 4))),
+        (9, (113, Far, FAR, Nack(15))),
+        (11, (235, Far, FAR, Nack(15))),
+        (13, (300, Near, PLAYER, Media(16, 7))),
+    ];
+    let done = done(rt.alloc(), 7, COMES, LEAVES)?;
+    assert!(rt; done.has_left && done.gone == 14);
+    Ok(())
 }
 
 /// Another address sends what goes on with the session while nothing came from the old one for 100 milliseconds: from then on it is
 /// the far side's, and is asked. Before that it is a stranger's.
 #[test]
 fn a_far_side_that_moves(rt: HostRuntime) -> Result<(), Fail> {
-    let mut script = Script::new(rt.alloc());
-    script.comes(1, Side::Far, FAR, &media(10, 1))?;
-    // What the old address sends last is refused, and comes from it all the same.
-    script.comes(50, Side::Far, FAR, &media(10, 1))?;
-    script.comes(149, Side::Far, STRANGER, &media(11, 66))?;
-    script.comes(150, Side::Far, STRANGER, &media(12, 3))?;
-    // The old one is a stranger now, however it goes on.
-    script.comes(160, Side::Far, FAR, &media(13, 66))?;
-    script.comes(170, Side::Far, STRANGER, &media(13, 4))?;
-    script.comes(180, Side::Far, STRANGER, &media(14, 5))?;
-    script.comes(190, Side::Far, STRANGER, &media(11, 2))?;
-    let mut relay = relay(rt.alloc(), 5)?;
-    if run(&mut script, &mut relay).is_err() {
-        return Err(Fail::from("it ends by its bounds"));
-    }
-    let asked = script.went(1, 150, Side::Far, STRANGER, &nack(11))
-        && script.went(2, 150, Side::Far, STRANGER, &nack(11));
-    let played = script.went(0, 1, Side::Near, PLAYER, &media(10, 1))
-        && script.went(3, 190, Side::Near, PLAYER, &media(11, 2))
-        && script.went(4, 190, Side::Near, PLAYER, &media(12, 3))
-        && script.went(5, 190, Side::Near, PLAYER, &media(13, 4))
-        && script.went(6, 190, Side::Near, PLAYER, &media(14, 5));
-    if asked && played && script.gone.len() == 7 && relay.far() == local(STRANGER) {
-        Ok(())
-    } else {
-        Err(Fail::from("what left, and for whom"))
-    }
+    const COMES: &[Passing] = &[
+        (1, Far, FAR, Media(10, 1)),
+        // What the old address sends last is refused, and comes from it all the same.
+        (50, Far, FAR, Media(10, 1)),
+        (149, Far, STRANGER, Media(11, 66)),
+        (150, Far, STRANGER, Media(12, 3)),
+        // The old one is a stranger now, however it goes on.
+        (160, Far, FAR, Media(13, 66)),
+        (170, Far, STRANGER, Media(13, 4)),
+        (180, Far, STRANGER, Media(14, 5)),
+        (190, Far, STRANGER, Media(11, 2)),
+    ];
+    const LEAVES: &[(usize, Passing)] = &[
+        (0, (1, Near, PLAYER, Media(10, 1))),
+        (1, (150, Far, STRANGER, Nack(11))),
+        (2, (150, Far, STRANGER, Nack(11))),
+        (3, (190, Near, PLAYER, Media(11, 2))),
+        (4, (190, Near, PLAYER, Media(12, 3))),
+        (5, (190, Near, PLAYER, Media(13, 4))),
+        (6, (190, Near, PLAYER, Media(14, 5))),
+    ];
+    let done = done(rt.alloc(), 5, COMES, LEAVES)?;
+    assert!(rt; done.has_left && done.gone == 7);
+    assert!(rt; done.far == STRANGER);
+    Ok(())
 }
 
 /// What does not go on with the session is a stranger's, however long the far side is silent.
 #[test]
 fn strangers_stay_strangers(rt: HostRuntime) -> Result<(), Fail> {
-    let mut script = Script::new(rt.alloc());
-    script.comes(1, Side::Far, STRANGER, &media(9, 66))?;
-    script.comes(2, Side::Far, FAR, &media(10, 1))?;
-    let mut relay = relay(rt.alloc(), 3)?;
-    let mut other = media(11, 66);
-    other[11] = 0x12;
-    let mut kind = media(11, 66);
-    kind[1] = 0x22;
-    let repair = [
-        0x80, 0x7f, 0, 7, 0, 0, 0, 2, 0x22, 0x22, 0x22, 0x22, 0, 11, 66,
+    const COMES: &[Passing] = &[
+        (1, Far, STRANGER, Media(9, 66)),
+        (2, Far, FAR, Media(10, 1)),
+        (500, Far, STRANGER, Media(10, 66)),
+        (500, Far, STRANGER, Media(9, 66)),
+        (500, Far, STRANGER, Media(3010, 66)),
+        // Of another SSRC, of another payload type, and a retransmission.
+        (
+            500,
+            Far,
+            STRANGER,
+            These(b"\x80\x21\x00\x0b\x00\x00\x00\x42\x11\x11\x11\x12\x42"),
+        ),
+        (
+            500,
+            Far,
+            STRANGER,
+            These(b"\x80\x22\x00\x0b\x00\x00\x00\x42\x11\x11\x11\x11\x42"),
+        ),
+        (
+            500,
+            Far,
+            STRANGER,
+            These(b"\x80\x7f\x00\x07\x00\x00\x00\x02\x22\x22\x22\x22\x00\x0b\x42"),
+        ),
+        (510, Far, FAR, Media(11, 2)),
+        (520, Far, FAR, Media(12, 3)),
     ];
-    for stray in [media(10, 66), media(9, 66), media(3010, 66), other, kind] {
-        script.comes(500, Side::Far, STRANGER, &stray)?;
-    }
-    script.comes(500, Side::Far, STRANGER, &repair)?;
-    script.comes(510, Side::Far, FAR, &media(11, 2))?;
-    script.comes(520, Side::Far, FAR, &media(12, 3))?;
-    if run(&mut script, &mut relay).is_err() {
-        return Err(Fail::from("it ends by its bounds"));
-    }
-    let played = script.went(0, 2, Side::Near, PLAYER, &media(10, 1))
-        && script.went(1, 510, Side::Near, PLAYER, &media(11, 2))
-        && script.went(2, 520, Side::Near, PLAYER, &media(12, 3));
-    let counts = relay.counts();
-    if played && script.gone.len() == 3 && relay.far() == local(FAR) && counts.media == 3 {
-        Ok(())
-    } else {
-        Err(Fail::from("what was taken"))
-    }
+    const LEAVES: &[(usize, Passing)] = &[
+        (0, (2, Near, PLAYER, Media(10, 1))),
+        (1, (510, Near, PLAYER, Media(11, 2))),
+        (2, (520, Near, PLAYER, Media(12, 3))),
+    ];
+    let done = done(rt.alloc(), 3, COMES, LEAVES)?;
+    assert!(rt; done.has_left && done.gone == 3);
+    assert!(rt; done.far == FAR && done.media == 3);
+    Ok(())
 }
 
 /// The last number that shows the far side at another address lies 2999 ahead.
 #[test]
 fn a_far_side_that_moves_and_loses(rt: HostRuntime) -> Result<(), Fail> {
-    let mut script = Script::new(rt.alloc());
-    script.comes(1, Side::Far, FAR, &media(65535, 1))?;
-    script.comes(200, Side::Far, STRANGER, &media(2998, 2))?;
-    let mut relay = relay(rt.alloc(), 2)?;
-    if run(&mut script, &mut relay).is_err() {
-        return Err(Fail::from("it ends by its bounds"));
-    }
-    if relay.far() == local(STRANGER) && relay.counts().media == 2 {
-        Ok(())
-    } else {
-        Err(Fail::from("it moves"))
-    }
+    const COMES: &[Passing] = &[
+        (1, Far, FAR, Media(65535, 1)),
+        (200, Far, STRANGER, Media(2998, 2)),
+    ];
+    let done = done(rt.alloc(), 2, COMES, &[])?;
+    assert!(rt; done.far == STRANGER && done.media == 2);
+    Ok(())
+}
+
+/// How much media is taken and how much held back over windows of this capacity, where the number behind 0 is this one.
+fn taken(alloc: Global, capacity: usize, number: u16) -> Result<(u64, u64), Fail>
+    requires some { 0 < capacity }
+    requires limit { capacity ≤ 8192 }
+{
+    let comes = [(1, Far, FAR, Media(0, 1)), (2, Far, FAR, Media(number, 2))];
+    let mut script = Script::new(alloc, &comes)?;
+    let mut relay = relay(alloc, 1 + u64::from(number), capacity, None)?;
+    let _ = run(&mut script, &mut relay);
+    let counts = relay.counts();
+    Ok((counts.media, counts.held_back))
 }
 
 /// Windows of 4096 places bridge a gap of 4095: it is no jump. One more is, which 3000 was with smaller windows.
@@ -276,15 +309,8 @@ fn a_gap_that_a_window_bridges(rt: HostRuntime) -> Result<(), Fail> {
         (64, 3000, false),
         (64, 2999, true),
     ] {
-        let mut relay = relay_with(rt.alloc(), 1 + u64::from(number), capacity)?;
-        let mut script = Script::new(rt.alloc());
-        script.comes(1, Side::Far, FAR, &media(0, 1))?;
-        script.comes(2, Side::Far, FAR, &media(number, 2))?;
-        let _ = run(&mut script, &mut relay);
-        let counts = relay.counts();
-        if (counts.media == 2) != is_gap || (counts.held_back == 0) != is_gap {
-            return Err(Fail::from("a gap, or a jump"));
-        }
+        let (media, held_back) = taken(rt.alloc(), capacity, number)?;
+        assert!(rt; (media == 2) == is_gap && (held_back == 0) == is_gap);
     }
     Ok(())
 }

@@ -1,4 +1,5 @@
 //! An outside whose datagrams come by a script, and which writes down what leaves.
+use crate::packets::Packet;
 use arrayvec::ArrayVec;
 use relays::{Meeting, Octets, Outside, OutsideFault, Side, Turn};
 use rtpwire::Datagram;
@@ -6,7 +7,10 @@ use std::alloc::Global;
 use std::net::{Ipv4Addr, SocketAddr};
 use std::test::Fail;
 
-/// A datagram that comes: at which moment, to which side, from which port of this machine.
+/// A datagram that comes or that left: at which moment, to or by which side, from or for which port of this machine, and which.
+pub(crate) type Passing = (u64, Side, u16, Packet);
+
+/// A datagram that comes.
 #[derive(Drop)]
 pub(crate) struct Coming {
     pub at: u64,
@@ -15,7 +19,7 @@ pub(crate) struct Coming {
     pub octets: Octets,
 }
 
-/// A datagram that left: at which moment, by which side, for which port.
+/// A datagram that left.
 #[derive(Debug, Drop, PartialEq, Eq)]
 pub(crate) struct Gone {
     pub at: u64,
@@ -38,52 +42,51 @@ pub(crate) fn local(port: u16) -> SocketAddr {
     SocketAddr::from((Ipv4Addr::LOCALHOST, port))
 }
 
+impl Gone {
+    /// Whether it is this one.
+    pub(crate) fn is(&self, (at, side, port, packet): &Passing) -> bool {
+        self.at == *at
+            && self.side == *side
+            && self.port == *port
+            && self.octets.as_slice() == packet.octets().as_slice()
+    }
+}
+
 impl Script {
-    pub(crate) fn new(alloc: Global) -> Script {
-        Script {
+    /// These datagrams come.
+    pub(crate) fn new(alloc: Global, passings: &[Passing]) -> Result<Script, Fail> {
+        let mut script = Script {
             comes: Vec::new(alloc),
             come: 0,
             gone: Vec::new(alloc),
             now: 0,
+        };
+        for passing in passings {
+            script.comes(passing)?;
         }
+        Ok(script)
     }
 
-    /// These octets come.
-    pub(crate) fn comes(
-        &mut self,
-        at: u64,
-        side: Side,
-        port: u16,
-        octets: &[u8],
-    ) -> Result<(), Fail> {
-        let mut room = Octets::new();
-        if room.try_extend_from_slice(octets).is_err() {
-            return Err(Fail::from("octets of a datagram"));
-        }
+    /// This one comes behind them.
+    pub(crate) fn comes(&mut self, (at, side, port, packet): &Passing) -> Result<(), Fail> {
         self.comes.push(Coming {
-            at,
-            side,
-            port,
-            octets: room,
+            at: *at,
+            side: *side,
+            port: *port,
+            octets: packet.octets(),
         })?;
         Ok(())
     }
 
-    /// Whether the datagram of this number left so.
-    pub(crate) fn went(
-        &self,
-        number: usize,
-        at: u64,
-        side: Side,
-        port: u16,
-        octets: &[u8],
-    ) -> bool {
-        match self.gone.get(number) {
-            Some(it) => {
-                it.at == at && it.side == side && it.port == port && it.octets.as_slice() == octets
+    /// Whether what left has each of these under the number beside it.
+    pub(crate) fn has(&self, wanted: &[(usize, Passing)]) -> bool {
+        for (number, passing) in wanted {
+            match self.gone.get(*number) {
+                Some(gone) if gone.is(passing) => {}
+                _ => return false,
             }
-            None => false,
         }
+        true
     }
 }
 

@@ -1,7 +1,9 @@
 //! A relay before a network.
-use crate::script::{Script, local};
+use crate::packets::Packet::{self, These};
+use crate::script::{Passing, Script, local};
 use endpoint::ResendRule;
-use relays::{Bounds, Pace, Rate, SendRelay, Side, Stream, run};
+use relays::Side::{Far, Near};
+use relays::{Bounds, Pace, Rate, SendRelay, Stream, run};
 use rtpwire::Session;
 use sender::SenderConfig;
 use std::alloc::Global;
@@ -14,13 +16,9 @@ const FAR: u16 = 6004;
 
 const STRANGER: u16 = 6666;
 
-/// A relay of a session whose first number is 65535, for an application's stream, until so many packets were sent.
-fn relay(alloc: Global, packets: u64, pace: Pace) -> Result<SendRelay<RingHistory>, Fail> {
-    relay_by(alloc, packets, pace, ResendRule::ALWAYS)
-}
-
-/// The same by a rule of what is retransmitted.
-fn relay_by(
+/// A relay of a session whose first number is 65535, for an application's stream, until so many packets were sent, by a rule of what is
+/// retransmitted.
+fn relay(
     alloc: Global,
     packets: u64,
     pace: Pace,
@@ -50,102 +48,179 @@ fn relay_by(
     made.map_err(|_| Fail::from("memory is ample"))
 }
 
+/// What became of a relay. It is small, since whatever a test holds costs its proof.
+#[derive(Clone, Copy)]
+struct Told {
+    /// Whether what left has what is wanted, each under the number beside it.
+    has_left: bool,
+    /// How many datagrams left.
+    gone: usize,
+    /// The moment of the end.
+    now: u64,
+    sent: u64,
+    early: u64,
+    expired: u64,
+}
+
+/// What becomes of a relay that runs by a script, from which these are wanted to leave.
+fn runs(
+    script: &mut Script,
+    mut relay: SendRelay<RingHistory>,
+    leaves: &[(usize, Passing)],
+) -> Result<Told, Fail> {
+    if run(script, &mut relay).is_err() {
+        return Err(Fail::from("it ends by its bounds"));
+    }
+    let passed = relay.passed();
+    Ok(Told {
+        has_left: script.has(leaves),
+        gone: script.gone.len(),
+        now: script.now,
+        sent: relay.counts().sent,
+        early: passed.early,
+        expired: passed.expired,
+    })
+}
+
+/// What becomes of a relay for so many packets, by a rule of what is retransmitted, where these datagrams come.
+fn done_by(
+    alloc: Global,
+    packets: u64,
+    rate: Rate,
+    rule: ResendRule,
+    comes: &[Passing],
+    leaves: &[(usize, Passing)],
+) -> Result<Told, Fail> {
+    let mut script = Script::new(alloc, comes)?;
+    let relay = relay(alloc, packets, Pace::new(rate), rule)?;
+    runs(&mut script, relay, leaves)
+}
+
+/// The same for two packets, where whatever is asked for is retransmitted.
+fn done(
+    alloc: Global,
+    rate: Rate,
+    comes: &[Passing],
+    leaves: &[(usize, Passing)],
+) -> Result<Told, Fail> {
+    done_by(alloc, 2, rate, ResendRule::ALWAYS, comes, leaves)
+}
+
 /// A packet of the application: MPEG-2 transport stream, its number 1 and up, its marker set.
-const FIRST: [u8; 13] = [0x80, 0xa1, 0, 1, 0, 0, 0, 100, 0x0a, 0x0b, 0x0c, 0x0d, 0xaa];
+const FIRST: Packet = These(b"\x80\xa1\x00\x01\x00\x00\x00\x64\x0a\x0b\x0c\x0d\xaa");
 
-const SECOND: [u8; 13] = [0x80, 0x21, 0, 2, 0, 0, 0, 200, 0x0a, 0x0b, 0x0c, 0x0d, 0xbb];
+const SECOND: Packet = These(b"\x80\x21\x00\x02\x00\x00\x00\xc8\x0a\x0b\x0c\x0d\xbb");
 /// One of another stream.
-const OTHER: [u8; 13] = [0x80, 0x21, 0, 2, 0, 0, 0, 200, 0x0e, 0x0b, 0x0c, 0x0d, 0xbb];
+const OTHER: Packet = These(b"\x80\x21\x00\x02\x00\x00\x00\xc8\x0e\x0b\x0c\x0d\xbb");
 /// Both as the session's media.
-const SENT_FIRST: [u8; 13] = [
-    0x80, 0xa1, 0xff, 0xff, 0, 0, 0, 100, 0x11, 0x11, 0x11, 0x11, 0xaa,
-];
+const SENT_FIRST: Packet = These(b"\x80\xa1\xff\xff\x00\x00\x00\x64\x11\x11\x11\x11\xaa");
 
-const SENT_SECOND: [u8; 13] = [0x80, 0x21, 0, 0, 0, 0, 0, 200, 0x11, 0x11, 0x11, 0x11, 0xbb];
-
+const SENT_SECOND: Packet = These(b"\x80\x21\x00\x00\x00\x00\x00\xc8\x11\x11\x11\x11\xbb");
 /// Both as retransmissions: the original number stands before the payload (RFC 4588, section 4).
-const REPAIRED_FIRST: [u8; 15] = [
-    0x80, 0xff, 0, 7, 0, 0, 0, 100, 0x22, 0x22, 0x22, 0x22, 0xff, 0xff, 0xaa,
-];
+const REPAIRED_FIRST: Packet = These(
+    b"\x80\xff\x00\x07\x00\x00\x00\x64\x22\x22\x22\x22\xff\xff\xaa",
+);
 
-const REPAIRED_SECOND: [u8; 15] = [
-    0x80, 0x7f, 0, 8, 0, 0, 0, 200, 0x22, 0x22, 0x22, 0x22, 0, 0, 0xbb,
-];
+const REPAIRED_SECOND: Packet = These(
+    b"\x80\x7f\x00\x08\x00\x00\x00\xc8\x22\x22\x22\x22\x00\x00\xbb",
+);
+
+/// The first as its second retransmission, and the second as one more packet.
+const REPAIRED_AGAIN: Packet = These(
+    b"\x80\xff\x00\x08\x00\x00\x00\x64\x22\x22\x22\x22\xff\xff\xaa",
+);
+
+const SENT_AGAIN: Packet = These(b"\x80\x21\x00\x01\x00\x00\x00\xc8\x11\x11\x11\x11\xbb");
 
 /// A generic NACK of the session for number 65535.
-const NACK: [u8; 16] = [
-    0x81, 0xcd, 0, 3, 0x33, 0x33, 0x33, 0x33, 0x11, 0x11, 0x11, 0x11, 0xff, 0xff, 0, 0,
-];
+const NACK: Packet = Packet::Nack(65535);
 
 #[test]
 fn a_stream_is_sent_and_a_lost_packet_again(rt: HostRuntime) -> Result<(), Fail> {
-    let mut script = Script::new(rt.alloc());
-    script.comes(5, Side::Near, APPLICATION, &FIRST)?;
-    script.comes(6, Side::Near, APPLICATION, &OTHER)?;
-    script.comes(8, Side::Near, APPLICATION, &SECOND)?;
-    script.comes(20, Side::Far, STRANGER, &NACK)?;
-    script.comes(48, Side::Far, FAR, &NACK)?;
-    let mut relay = relay(rt.alloc(), 2, Pace::new(Rate::Free))?;
-    if run(&mut script, &mut relay).is_err() {
-        return Err(Fail::from("it ends by its bounds"));
-    }
-    let sent = script.went(0, 5, Side::Far, FAR, &SENT_FIRST)
-        && script.went(1, 8, Side::Far, FAR, &SENT_SECOND);
-    let repaired = script.went(2, 48, Side::Far, FAR, &REPAIRED_FIRST);
-    // The stream was silent for a tenth of a second.
-    let tail = script.went(3, 108, Side::Far, FAR, &REPAIRED_SECOND);
+    const COMES: &[Passing] = &[
+        (5, Near, APPLICATION, FIRST),
+        (6, Near, APPLICATION, OTHER),
+        (8, Near, APPLICATION, SECOND),
+        (20, Far, STRANGER, NACK),
+        (48, Far, FAR, NACK),
+    ];
+    const LEAVES: &[(usize, Passing)] = &[
+        (0, (5, Far, FAR, SENT_FIRST)),
+        (1, (8, Far, FAR, SENT_SECOND)),
+        (2, (48, Far, FAR, REPAIRED_FIRST)),
+        // The stream was silent for a tenth of a second.
+        (3, (108, Far, FAR, REPAIRED_SECOND)),
+    ];
+    let done = done(rt.alloc(), Rate::Free, COMES, LEAVES)?;
     // Two seconds after the last packet it is done.
-    if sent && repaired && tail && script.gone.len() == 4 && script.now == 2008 {
-        Ok(())
-    } else {
-        Err(Fail::from("what left"))
-    }
+    assert!(rt; done.has_left && done.gone == 4 && done.now == 2008);
+    Ok(())
 }
 
 #[test]
 fn retransmissions_keep_their_pace(rt: HostRuntime) -> Result<(), Fail> {
     // Two packets that are marked at once, at one kilobit a second: the first has 15 octets, which take 120 milliseconds.
-    let mut script = Script::new(rt.alloc());
-    script.comes(5, Side::Near, APPLICATION, &FIRST)?;
-    script.comes(8, Side::Near, APPLICATION, &SECOND)?;
-    let mut relay = relay(rt.alloc(), 2, Pace::new(Rate::Kilobits(1)))?;
-    let both = [
-        0x81, 0xcd, 0, 3, 0x33, 0x33, 0x33, 0x33, 0x11, 0x11, 0x11, 0x11, 0xff, 0xff, 0, 1,
+    const BOTH: &[u8] = b"\x81\xcd\x00\x03\x33\x33\x33\x33\x11\x11\x11\x11\xff\xff\x00\x01";
+    const COMES: &[Passing] = &[
+        (5, Near, APPLICATION, FIRST),
+        (8, Near, APPLICATION, SECOND),
+        (20, Far, FAR, These(BOTH)),
     ];
-    script.comes(20, Side::Far, FAR, &both)?;
-    if run(&mut script, &mut relay).is_err() {
-        return Err(Fail::from("it ends by its bounds"));
-    }
-    match (script.gone.get(2), script.gone.get(3)) {
-        (Some(first), Some(second)) if first.at == 20 && second.at == 140 => Ok(()),
-        _ => Err(Fail::from("when they left")),
-    }
+    const LEAVES: &[(usize, Passing)] = &[
+        (2, (20, Far, FAR, REPAIRED_FIRST)),
+        (3, (140, Far, FAR, REPAIRED_SECOND)),
+    ];
+    let done = done(rt.alloc(), Rate::Kilobits(1), COMES, LEAVES)?;
+    assert!(rt; done.has_left);
+    Ok(())
 }
 
 #[test]
 fn a_stream_that_takes_the_place_of_another(rt: HostRuntime) -> Result<(), Fail> {
-    let mut script = Script::new(rt.alloc());
-    script.comes(5, Side::Near, APPLICATION, &FIRST)?;
-    script.comes(1004, Side::Near, APPLICATION, &OTHER)?;
-    script.comes(1005, Side::Near, APPLICATION, &OTHER)?;
-    let mut relay = relay(rt.alloc(), 2, Pace::new(Rate::Free))?;
-    if run(&mut script, &mut relay).is_err() {
-        return Err(Fail::from("it ends by its bounds"));
-    }
-    let counts = relay.counts();
-    if counts.sent == 2 && script.went(2, 1005, Side::Far, FAR, &SENT_SECOND) {
-        Ok(())
-    } else {
-        Err(Fail::from("a second of silence"))
-    }
+    const COMES: &[Passing] = &[
+        (5, Near, APPLICATION, FIRST),
+        (1004, Near, APPLICATION, OTHER),
+        (1005, Near, APPLICATION, OTHER),
+    ];
+    // A second of silence was between them.
+    const LEAVES: &[(usize, Passing)] = &[(2, (1005, Far, FAR, SENT_SECOND))];
+    let done = done(rt.alloc(), Rate::Free, COMES, LEAVES)?;
+    assert!(rt; done.has_left && done.sent == 2);
+    Ok(())
 }
 
-/// A packet of the application, of 1200 octets, with this number.
-fn long(number: u16) -> [u8; 1200] {
-    let mut octets = [0; 1200];
-    octets[..12].copy_from_slice(&SECOND[..12]);
-    octets[2..4].copy_from_slice(&number.to_be_bytes());
-    octets
+/// Forty packets of the application at moment 5, of 1200 octets each, and a NACK for all of them at moment 20.
+fn forty(alloc: Global) -> Result<Script, Fail> {
+    const ALL: &[u8] =
+        b"\x81\xcd\x00\x05\x33\x33\x33\x33\x11\x11\x11\x11\xff\xff\xff\xff\x00\x10\xff\xff\x00\x21\x00\x1f";
+    let mut script = Script::new(alloc, &[])?;
+    for number in 0..40 {
+        script.comes(&(5, Near, APPLICATION, Packet::Long(number)))?;
+    }
+    script.comes(&(20, Far, FAR, These(ALL)))?;
+    Ok(script)
+}
+
+/// The moments at which so many datagrams left from one number on, or 0 where none did.
+fn moments<const N: usize>(script: &Script, first: usize) -> [u64; N] {
+    let mut moments = [0; N];
+    for (moment, gone) in moments.iter_mut().zip(script.gone.iter().skip(first)) {
+        *moment = gone.at;
+    }
+    moments
+}
+
+/// The moments at which the first 28 of the retransmissions leave, and the next three, and how much leaves.
+fn retransmitted(alloc: Global) -> Result<([u64; 28], [u64; 3], usize), Fail> {
+    let mut script = forty(alloc)?;
+    let pace = Pace::new(Rate::Percent(200));
+    let relay = relay(alloc, 40, pace, ResendRule::ALWAYS)?;
+    let _ = runs(&mut script, relay, &[])?;
+    Ok((
+        moments(&script, 40),
+        moments(&script, 68),
+        script.gone.len(),
+    ))
 }
 
 /// Twice the media's rate, by a NACK for forty packets: 28 of their retransmissions are the burst, of 1202 octets each, and leave at
@@ -153,63 +228,38 @@ fn long(number: u16) -> [u8; 1200] {
 /// millisecond are the pace. 28 are 269,248 bits, and the burst 262,144, so the next ones wait for 7104, 7184 and 7264 bits to run out.
 #[test]
 fn few_leave_at_once_and_many_at_twice_the_rate(rt: HostRuntime) -> Result<(), Fail> {
-    let mut relay = relay(rt.alloc(), 40, Pace::new(Rate::Percent(200)))?;
-    let mut script = Script::new(rt.alloc());
-    for number in 0..40 {
-        script.comes(5, Side::Near, APPLICATION, &long(number))?;
-    }
-    let all = [
-        0x81, 0xcd, 0, 5, 0x33, 0x33, 0x33, 0x33, 0x11, 0x11, 0x11, 0x11, 0xff, 0xff, 0xff, 0xff,
-        0, 16, 0xff, 0xff, 0, 33, 0, 0x1f,
-    ];
-    script.comes(20, Side::Far, FAR, &all)?;
-    if run(&mut script, &mut relay).is_err() {
-        return Err(Fail::from("it ends by its bounds"));
-    }
-    let mut at_once = [0; 28];
-    for (moment, gone) in at_once.iter_mut().zip(script.gone.iter().skip(40)) {
-        *moment = gone.at;
-    }
-    let mut behind = [0; 3];
-    for (moment, gone) in behind.iter_mut().zip(script.gone.iter().skip(68)) {
-        *moment = gone.at;
-    }
-    if at_once == [20; 28] && behind == [22, 24, 26] && script.gone.len() >= 79 {
-        Ok(())
-    } else {
-        Err(Fail::from("when they left"))
-    }
+    let (at_once, behind, gone) = retransmitted(rt.alloc())?;
+    assert!(rt; at_once == [20; 28] && behind == [22, 24, 26] && gone >= 79);
+    Ok(())
 }
 
 /// A NACK that leaves twice is answered once, and so is one nine milliseconds after it; 100 milliseconds after the packet was sent one is,
 /// and none after that.
 #[test]
 fn what_does_not_fit_the_time_is_passed_over(rt: HostRuntime) -> Result<(), Fail> {
+    const COMES: &[Passing] = &[
+        (5, Near, APPLICATION, FIRST),
+        (8, Near, APPLICATION, SECOND),
+        (48, Far, FAR, NACK),
+        (48, Far, FAR, NACK),
+        (57, Far, FAR, NACK),
+        (105, Far, FAR, NACK),
+        (106, Far, FAR, NACK),
+        (107, Near, APPLICATION, SECOND),
+    ];
+    // At the end the stream is silent for 100 milliseconds, and its last packet leaves again.
+    const LEAVES: &[(usize, Passing)] = &[
+        (0, (5, Far, FAR, SENT_FIRST)),
+        (1, (8, Far, FAR, SENT_SECOND)),
+        (2, (48, Far, FAR, REPAIRED_FIRST)),
+        (3, (105, Far, FAR, REPAIRED_AGAIN)),
+        (4, (107, Far, FAR, SENT_AGAIN)),
+    ];
     let rule = ResendRule {
         min_resend: 10,
         deadline: Some(100),
     };
-    let mut script = Script::new(rt.alloc());
-    script.comes(5, Side::Near, APPLICATION, &FIRST)?;
-    script.comes(8, Side::Near, APPLICATION, &SECOND)?;
-    let mut relay = relay_by(rt.alloc(), 3, Pace::new(Rate::Free), rule)?;
-    for moment in [48, 48, 57, 105, 106] {
-        script.comes(moment, Side::Far, FAR, &NACK)?;
-    }
-    script.comes(107, Side::Near, APPLICATION, &SECOND)?;
-    if run(&mut script, &mut relay).is_err() {
-        return Err(Fail::from("it ends by its bounds"));
-    }
-    let passed = relay.passed();
-    let mut moments = [0; 5];
-    for (moment, gone) in moments.iter_mut().zip(script.gone.iter()) {
-        *moment = gone.at;
-    }
-    // At the end the stream is silent for 100 milliseconds, and its last packet leaves again.
-    let is_counted = passed.early == 2 && passed.expired == 1;
-    if moments == [5, 8, 48, 105, 107] && script.gone.len() == 6 && is_counted {
-        Ok(())
-    } else {
-        Err(Fail::from("what left, and what was passed over"))
-    }
+    let done = done_by(rt.alloc(), 3, Rate::Free, rule, COMES, LEAVES)?;
+    assert!(rt; done.has_left && done.gone == 6 && done.early == 2 && done.expired == 1);
+    Ok(())
 }

@@ -1,7 +1,9 @@
-//! Test vectors of what crosses the wire: places, packets, trace frames and feedback, through the public calls of each
-//! crate. There is no code in it.
+//! Test vectors of what crosses the wire: places, packets, trace frames and feedback, and of what is measured of a path and of a
+//! stream, through the public calls of each crate. There is no code in it.
 #![tactic(auto)]
 
+#[cfg(test)]
+mod clocks;
 #[cfg(test)]
 mod contents;
 #[cfg(test)]
@@ -14,3 +16,7 @@ mod nearness;
 mod retransmission;
 #[cfg(test)]
 mod rtp;
+#[cfg(test)]
+mod silences;
+#[cfg(test)]
+mod times;

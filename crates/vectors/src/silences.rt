@@ -1,0 +1,106 @@
+//! Silences in which packets were lost: when each of them was sent.
+use places::Place;
+use std::test::Fail;
+use timing::{Arrivals, Silence};
+
+/// The place of this value.
+fn place(value: u64) -> Result<Place, Fail> {
+    match Place::new(value) {
+        Some(place) => Ok(place),
+        None => Err(Fail::from("a place")),
+    }
+}
+
+fn silence(peak: u64) -> Result<Silence, Fail> {
+    Ok(Silence {
+        below: place(70100)?,
+        above: place(70200)?,
+        length: 10000,
+        peak,
+    })
+}
+
+#[test]
+fn losses_lie_evenly_or_right_before_the_end(_rt: HostRuntime) -> Result<(), Fail> {
+    // One each 100 milliseconds, as many as came before.
+    let evenly = silence(10)?;
+    let all = evenly.lead(70150) == 5000 && evenly.lead(70199) == 100 && evenly.lead(70101) == 9900;
+    // The stream was ten times as fast: it paused, and these are its latest.
+    let late = silence(100)?;
+    let paused = late.lead(70150) == 500 && late.lead(70101) == 990;
+    // It was slower: they lie over all of it.
+    let slow = silence(1)?.lead(70101) == 9900;
+    let others = evenly.lead(70100) == 0 && evenly.lead(70200) == 0 && silence(0)?.lead(70150) == 0;
+    if all && paused && slow && others {
+        Ok(())
+    } else {
+        Err(Fail::from("when they were sent"))
+    }
+}
+
+/// What came behind fifty packets a second for four seconds, of places 70000 to 70199: the highest place before it, the next one to play,
+/// its place and its moment.
+const LATER: [(u64, u64, u64, u64); 5] = [
+    // Five seconds, in which 249 were lost.
+    (70199, 70200, 70449, 8980),
+    // One more is lost, while places of that silence are waited for.
+    (70449, 70440, 70451, 9020),
+    // A packet that comes late.
+    (70451, 70440, 70445, 9030),
+    // One behind 20 milliseconds, when all of those were passed.
+    (70451, 70452, 70453, 9040),
+    // It paused for five seconds.
+    (70453, 70454, 70456, 14040),
+];
+
+/// They come, up to so many of these.
+fn come(arrivals: &mut Arrivals, later: usize) -> Result<(), Fail> {
+    let mut highest = None;
+    for i in 0..200_u64 {
+        let next = place(70000_u64.saturating_add(i))?;
+        arrivals.come(highest, Some(next.value()), 30, next, i.saturating_mul(20));
+        highest = Some(next);
+    }
+    for (index, (highest, cursor, value, now)) in LATER.iter().enumerate() {
+        if index < later {
+            arrivals.come(
+                Some(place(*highest)?),
+                Some(*cursor),
+                30,
+                place(*value)?,
+                *now,
+            );
+        }
+    }
+    Ok(())
+}
+
+/// How long before its notice the packet of a place was sent, after so many of these.
+fn lead(later: usize, place: u64) -> Result<u64, Fail> {
+    let mut arrivals = Arrivals::new();
+    come(&mut arrivals, later)?;
+    Ok(arrivals.lead(place))
+}
+
+/// The same after all of these and a restart.
+fn lead_anew(place: u64) -> Result<u64, Fail> {
+    let mut arrivals = Arrivals::new();
+    come(&mut arrivals, 5)?;
+    arrivals.restart(14050);
+    Ok(arrivals.lead(place))
+}
+
+#[test]
+fn the_longest_silence_is_told(_rt: HostRuntime) -> Result<(), Fail> {
+    let nothing = lead(0, 70199)? == 0;
+    let told = lead(1, 70439)? == 200 && lead(1, 70200)? == 4980;
+    let still = lead(2, 70439)? == 200 && lead(2, 70450)? == 0;
+    let late = lead(3, 70439)? == 200;
+    let short = lead(4, 70452)? == 0;
+    let paused = lead(5, 70454)? == 40 && lead(5, 70455)? == 20;
+    if nothing && told && still && late && short && paused && lead_anew(70454)? == 0 {
+        Ok(())
+    } else {
+        Err(Fail::from("what a silence tells"))
+    }
+}
