@@ -149,28 +149,72 @@ fn list_and_ring_answer_the_same(rt: HostRuntime) -> Result<(), Fail> {
     Ok(())
 }
 
+/// A call of a history, or what it is to answer.
+#[derive(Clone, Copy)]
+enum Step {
+    Push(u8),
+    Mark(u64),
+    Repeat(u64),
+    /// The place that has this number.
+    Has(u16, Option<u64>),
+    /// The least place that is marked.
+    Marked(Option<u64>),
+    /// The octet, the repeats and the mark of the entry of a place.
+    Entry(u64, Option<(u8, u8, bool)>),
+}
+
+use Step::*;
+
+/// The value of a place, if there is one.
+fn value_of(place: Option<Place>) -> Option<u64> {
+    Some(place?.value())
+}
+
+/// Makes a call, or says whether the answer is so.
+fn does<H: History>(sending: &mut Sending<H>, step: Step) -> Result<bool, Fail> {
+    match step {
+        Push(octet) => push(sending, octet)?,
+        Mark(at) => mark(sending, at)?,
+        Repeat(at) => repeat(sending, at)?,
+        Has(number, at) => return Ok(value_of(sending.history.find(number)) == at),
+        Marked(at) => return Ok(value_of(sending.history.least_marked()) == at),
+        Entry(at, wanted) => return Ok(entry(&sending.history, at)? == wanted),
+    }
+    Ok(true)
+}
+
+/// The first step that a ring of two entries does not meet, whose first place is 65535.
+fn first_wrong(alloc: Global, steps: &[Step]) -> Result<Option<usize>, Fail> {
+    let mut sending: Sending<RingHistory> = start(alloc, 2, 65535).map_err(|_| "memory is ample")?;
+    for (index, step) in steps.iter().enumerate() {
+        if !does(&mut sending, *step)? {
+            return Ok(Some(index));
+        }
+    }
+    Ok(None)
+}
+
 #[test]
 fn a_history_from_start_to_end(rt: HostRuntime) -> Result<(), Fail> {
-    let mut sent: Sending<RingHistory> = start(rt.alloc(), 2, 65535).map_err(
-        |_| "memory is ample",
-    )?;
-    assert_eq!(rt; sent.history.find(65535), None);
-    push(&mut sent, 1)?;
-    push(&mut sent, 2)?;
-    assert_eq!(rt; sent.history.find(0), Place::new(65536));
-    mark(&mut sent, 65536)?;
-    mark(&mut sent, 65535)?;
-    assert_eq!(rt; sent.history.least_marked(), Place::new(65535));
-
-    // The third push drops the first entry, with its mark.
-    push(&mut sent, 3)?;
-    assert_eq!(rt; sent.history.find(65535), None);
-    assert_eq!(rt; sent.history.least_marked(), Place::new(65536));
-    repeat(&mut sent, 65536)?;
-    assert_eq!(rt; sent.history.least_marked(), None);
-    assert_eq!(rt; entry(&sent.history, 65536)?, Some((2, 1, false)));
-    assert_eq!(rt; entry(&sent.history, 65537)?, Some((3, 0, false)));
-    assert_eq!(rt; entry(&sent.history, 65535)?, None);
+    const STEPS: &[Step] = &[
+        Has(65535, None),
+        Push(1),
+        Push(2),
+        Has(0, Some(65536)),
+        Mark(65536),
+        Mark(65535),
+        Marked(Some(65535)),
+        // The third push drops the first entry, with its mark.
+        Push(3),
+        Has(65535, None),
+        Marked(Some(65536)),
+        Repeat(65536),
+        Marked(None),
+        Entry(65536, Some((2, 1, false))),
+        Entry(65537, Some((3, 0, false))),
+        Entry(65535, None),
+    ];
+    assert_eq!(rt; first_wrong(rt.alloc(), STEPS)?, None);
     Ok(())
 }
 

@@ -85,36 +85,65 @@ fn retransmissions_in_slices(rt: HostRuntime) -> Result<(), Fail> {
     Ok(())
 }
 
-/// A NACK of one pair has 16 octets. What is refused was not asked for.
-#[test]
-fn asks_in_slices(rt: HostRuntime) -> Result<(), Fail> {
+/// A receiver of four places, each of which is asked for once.
+fn receiver(alloc: Global) -> Result<Receiver<RingWindow>, Fail> {
     let (Ok(config), Ok(window)) = (
         ReceiverConfig::new(session()?, 100, 20, 1),
-        RingWindow::new(rt.alloc(), 4),
+        RingWindow::new(alloc, 4),
     ) else {
         return Err(Fail::from("a receiver"));
     };
-    let mut receiver = Receiver::new(config, window);
+    Ok(Receiver::new(config, window))
+}
+
+/// What an ask at a moment writes to the front of a slice of this length, or what it would need, and the octets of a room of 17 that
+/// begins with the slice.
+type Asked = (Result<Option<usize>, usize>, [u8; 17]);
+
+fn asked<W: Window>(receiver: &mut Receiver<W>, length: usize, now: u64) -> Asked {
     let mut out = [0xee; 17];
-    assert!(rt; matches!(receiver.ask_into(&mut out[..0], 0), Ok(None)));
+    let length = length.min(17);
+    let told = match receiver.ask_into(&mut out[..length], now) {
+        Ok(len) => Ok(len),
+        Err(TooShort { needed }) => Err(needed),
+    };
+    (told, out)
+}
+
+/// What a receiver asks before anything came; and at three moments once two packets came that have one between them.
+fn asks(alloc: Global) -> Result<(Asked, [Asked; 3]), Fail> {
+    let mut receiver = receiver(alloc)?;
+    let before = asked(&mut receiver, 0, 0);
     for octets in [
         b"\x80\x60\x00\x01\x00\x00\x00\x00\x11\x11\x11\x11",
         b"\x80\x60\x00\x03\x00\x00\x00\x00\x11\x11\x11\x11",
     ] {
-        assert!(rt; receiver.on_media(octets, 0).is_ok());
+        if receiver.on_media(octets, 0).is_err() {
+            return Err(Fail::from("the packet is taken"));
+        }
     }
+    let behind = [
+        asked(&mut receiver, 15, 0),
+        asked(&mut receiver, 17, 0),
+        asked(&mut receiver, 17, 1000),
+    ];
+    Ok((before, behind))
+}
+
+/// A NACK of one pair has 16 octets. What is refused was not asked for.
+#[test]
+fn asks_in_slices(rt: HostRuntime) -> Result<(), Fail> {
+    const UNTOUCHED: [u8; 17] = [0xee; 17];
+    const NACK: [u8; 17] = *b"\x81\xcd\x00\x03\x33\x33\x33\x33\x11\x11\x11\x11\x00\x02\x00\x00\xee";
+    let (before, behind) = asks(rt.alloc())?;
+    assert!(rt; before == (Ok(None), UNTOUCHED));
     assert!(rt;
-        matches!(
-            receiver.ask_into(&mut out[..15], 0),
-            Err(TooShort { needed: 16 })
-        )
+        behind
+            == [
+                (Err(16), UNTOUCHED),
+                (Ok(Some(16)), NACK),
+                (Ok(None), UNTOUCHED)
+            ]
     );
-    assert_eq!(rt; out, [0xee; 17]);
-    assert!(rt; matches!(receiver.ask_into(&mut out, 0), Ok(Some(16))));
-    assert_eq!(rt;
-        &out,
-        b"\x81\xcd\x00\x03\x33\x33\x33\x33\x11\x11\x11\x11\x00\x02\x00\x00\xee"
-    );
-    assert!(rt; matches!(receiver.ask_into(&mut out, 1000), Ok(None)));
     Ok(())
 }

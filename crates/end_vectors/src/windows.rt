@@ -215,16 +215,36 @@ fn asks_for_two_missing_places(rt: HostRuntime) -> Result<(), Fail> {
     Ok(())
 }
 
+/// The value of a place, if there is one.
+fn value_of(place: Option<&Place>) -> Option<u64> {
+    Some(place?.value())
+}
+
+/// How many places are due of a list that misses those between 0 and 1200, the first and the last of them, and how many are missing.
+fn many_due(alloc: Global) -> Result<(usize, [Option<u64>; 2], usize), Fail> {
+    let (first, last) = (place(0)?, place(1200)?);
+    let Ok(mut window) = ListWindow::new(alloc, 2000) else {
+        return Err(Fail::from("memory is ample"));
+    };
+    let puts = [
+        window.put(first, content(0), 0),
+        window.put(last, content(1), 0),
+    ];
+    if puts != [Ok(0), Ok(0)] {
+        return Err(Fail::from("both are put"));
+    }
+    let due = window.due(0, 1, 1);
+    Ok((
+        due.len(),
+        [value_of(due.first()), value_of(due.last())],
+        window.missing(),
+    ))
+}
+
 #[test]
 fn no_more_than_1088_places_are_due(rt: HostRuntime) -> Result<(), Fail> {
-    let mut window = ListWindow::new(rt.alloc(), 2000).map_err(|_| "memory is ample")?;
-    assert_eq!(rt; window.put(place(0)?, content(0), 0), Ok(0));
-    assert_eq!(rt; window.put(place(1200)?, content(1), 0), Ok(0));
-    let due = window.due(0, 1, 1);
-    assert_eq!(rt; due.len(), 1088);
-    assert_eq!(rt; due.first(), Some(&place(1)?));
-    assert_eq!(rt; due.last(), Some(&place(1088)?));
-    assert_eq!(rt; window.missing(), 1199);
+    let told = many_due(rt.alloc())?;
+    assert_eq!(rt; told, (1088, [Some(1), Some(1088)], 1199));
     Ok(())
 }
 
