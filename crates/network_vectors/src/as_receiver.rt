@@ -1,6 +1,6 @@
 //! An endpoint without jumps, padding or RTCP answers as its receiver does.
 use crate::ends::{Draws, config, media, receiver, repair};
-use endpoint::{Heard, Probation, ReceivingEndpoint};
+use endpoint::{Heard, Probation, ReceiveCounts, ReceivingEndpoint};
 use receiver::{ReceiveFault, Receiver, Taken};
 use std::alloc::Global;
 use std::test::Fail;
@@ -55,9 +55,9 @@ impl Pair {
     }
 }
 
-#[test]
-fn an_endpoint_without_jumps(rt: HostRuntime) -> Result<(), Fail> {
-    let mut pair = start(rt.alloc())?;
+/// How many of 3000 drawn calls are answered alike, also by the next moment, and what the endpoint counts then.
+fn alike(alloc: Global) -> Result<(u32, ReceiveCounts), Fail> {
+    let mut pair = start(alloc)?;
     let mut draws = Draws::new(7);
     let mut alike = 0u32;
     for step in 0..3000u64 {
@@ -67,9 +67,14 @@ fn an_endpoint_without_jumps(rt: HostRuntime) -> Result<(), Fail> {
         let next = pair.alone.next_moment() == pair.endpoint.core().next_moment();
         alike = alike.wrapping_add(u32::from(same && next));
     }
+    Ok((alike, pair.endpoint.counts()))
+}
+
+#[test]
+fn an_endpoint_without_jumps(rt: HostRuntime) -> Result<(), Fail> {
+    let (alike, counts) = alike(rt.alloc())?;
     assert_eq!(rt; alike, 3000);
     // Each kind of answer was among them.
-    let counts = pair.endpoint.counts();
     let least = [
         counts.media,
         counts.retransmissions,

@@ -116,6 +116,42 @@ fn overdue(alloc: Global, arrivals: &[Arrival], delay: u64) -> Result<Vec<u16>, 
     Ok(numbers)
 }
 
+/// The numbers that a receiver with this delay asks for, and whether these are the ones that are to be asked for.
+fn asked_for(alloc: Global, arrivals: &[Arrival], delay: u64) -> Result<(Vec<u16>, bool), Fail> {
+    let asked = asked(alloc, arrivals, delay)?;
+    let is_so = overdue(alloc, arrivals, delay)?.as_slice() == asked.as_slice();
+    Ok((asked, is_so))
+}
+
+/// What a network does to the packets, and how many are asked for without a delay, and with one above the depth.
+#[derive(Clone, Copy)]
+struct Seen {
+    come: usize,
+    lost: usize,
+    hasty: usize,
+    patient: usize,
+    /// Those are asked for that are to be, by either.
+    is_overdue: bool,
+    /// All that is lost is asked for with the delay.
+    are_lost_asked: bool,
+}
+
+fn see(alloc: Global, network: Network) -> Result<Seen, Fail> {
+    let (arrivals, lost) = carried(alloc, network)?;
+    let (hasty, is_hasty) = asked_for(alloc, arrivals.as_slice(), 0)?;
+    let (patient, is_patient) = asked_for(alloc, arrivals.as_slice(), DEPTH)?;
+    Ok(Seen {
+        come: arrivals.len(),
+        lost: lost.len(),
+        hasty: hasty.len(),
+        patient: patient.len(),
+        is_overdue: is_hasty && is_patient,
+        are_lost_asked: lost
+            .iter()
+            .all(|number| patient.as_slice().contains(number)),
+    })
+}
+
 /// Of 1000 packets, of which about a hundred are reordered, none is asked for with a delay above the depth, and each that comes
 /// behind a later one without a delay.
 #[test]
@@ -127,14 +163,9 @@ fn what_is_only_reordered(rt: HostRuntime) -> Result<(), Fail> {
             reorders: 10,
             is_deep: false,
         };
-        let (arrivals, lost) = carried(rt.alloc(), network)?;
-        assert_eq!(rt; (arrivals.len(), lost.len()), (1000, 0));
-        let late = overdue(rt.alloc(), arrivals.as_slice(), 0)?;
-        assert!(rt; late.len() > 70 && late.len() < 130);
-        let hasty = asked(rt.alloc(), arrivals.as_slice(), 0)?;
-        assert_eq!(rt; hasty.as_slice(), late.as_slice());
-        let patient = asked(rt.alloc(), arrivals.as_slice(), DEPTH)?;
-        assert_eq!(rt; patient.len(), 0);
+        let seen = see(rt.alloc(), network)?;
+        assert_eq!(rt; (seen.come, seen.lost, seen.patient), (1000, 0, 0));
+        assert!(rt; seen.hasty > 70 && seen.hasty < 130 && seen.is_overdue);
     }
     Ok(())
 }
@@ -151,21 +182,14 @@ fn what_is_lost_and_what_is_reordered(rt: HostRuntime) -> Result<(), Fail> {
             reorders: 10,
             is_deep,
         };
-        let (arrivals, lost) = carried(rt.alloc(), network)?;
-        assert_eq!(rt; arrivals.len() + lost.len(), 1000);
-        assert!(rt; lost.len() > 70 && lost.len() < 130);
-        let late = overdue(rt.alloc(), arrivals.as_slice(), DEPTH)?;
-        let patient = asked(rt.alloc(), arrivals.as_slice(), DEPTH)?;
-        assert_eq!(rt; patient.as_slice(), late.as_slice());
-        assert!(rt;
-            lost.iter()
-                .all(|number| patient.as_slice().contains(number))
-        );
-        let more = patient.len().saturating_sub(lost.len());
-        assert!(rt; more <= lost.len() / 20 && (is_deep || more == 0));
+        let seen = see(rt.alloc(), network)?;
+        assert_eq!(rt; seen.come.wrapping_add(seen.lost), 1000);
+        assert!(rt; seen.lost > 70 && seen.lost < 130);
+        assert!(rt; seen.is_overdue && seen.are_lost_asked);
+        let more = seen.patient.saturating_sub(seen.lost);
+        assert!(rt; more <= seen.lost / 20 && (is_deep || more == 0));
+        assert!(rt; seen.hasty > seen.lost.saturating_add(70));
         deep = deep.saturating_add(more);
-        let hasty = asked(rt.alloc(), arrivals.as_slice(), 0)?;
-        assert!(rt; hasty.len() > lost.len() + 70);
     }
     assert!(rt; deep > 0);
     Ok(())

@@ -1,5 +1,6 @@
 //! A receiving endpoint at jumps of the sequence number (RFC 3550, appendix A.1), packets that are all padding, and RTCP.
-use crate::ends::{config, media, repair};
+use crate::ends::Packet::{self, Media, Repair, These};
+use crate::ends::{Does, config, media, wrong};
 use endpoint::*;
 use receiver::ReceiveFault;
 use std::alloc::Global;
@@ -79,21 +80,33 @@ fn old_packets_once_more(rt: HostRuntime) -> Result<(), Fail> {
     Ok(())
 }
 
+impl Does<(Packet, u8)> for ReceivingEndpoint<RingWindow> {
+    fn does(&mut self, (packet, told): &(Packet, u8)) -> bool {
+        letter(self.on_datagram(packet.octets().as_slice(), 0)) == *told
+    }
+}
+
+/// The first packet that is something else, if one is, and how many places are missing. It has what is large, as whatever a test holds
+/// costs its proof.
+fn wrong_packet(alloc: Global, packets: &[(Packet, u8)]) -> Result<(Option<usize>, usize), Fail> {
+    let mut endpoint = endpoint(alloc)?;
+    let index = wrong(&mut endpoint, packets);
+    Ok((index, endpoint.core().missing()))
+}
+
 #[test]
 fn what_is_no_media(rt: HostRuntime) -> Result<(), Fail> {
-    let mut endpoint = endpoint(rt.alloc())?;
-    let _ = endpoint.on_datagram(media(7, 0).as_slice(), 0);
-    let probe = [0xa0, 96, 0, 8, 0, 0, 0, 0, 0x11, 0x11, 0x11, 0x11, 0, 0, 3];
-    let report = [0x80, 200, 0, 1, 0x11, 0x11, 0x11, 0x11];
-    let cut = [0x80, 96, 0, 9];
-    let told = [
-        letter(endpoint.on_datagram(probe.as_slice(), 0)),
-        letter(endpoint.on_datagram(report.as_slice(), 0)),
-        letter(endpoint.on_datagram(cut.as_slice(), 0)),
-        letter(endpoint.on_datagram(media(9, 0).as_slice(), 0)),
+    const PACKETS: &[(Packet, u8)] = &[
+        (Media(7), b't'),
+        (
+            These(b"\xa0\x60\x00\x08\x00\x00\x00\x00\x11\x11\x11\x11\x00\x00\x03"),
+            b't',
+        ),
+        (These(b"\x80\xc8\x00\x01\x11\x11\x11\x11"), b'c'),
+        (These(b"\x80\x60\x00\x09"), b'x'),
+        (Media(9), b't'),
     ];
-    assert_eq!(rt; told, [b't', b'c', b'x', b't']);
-    assert_eq!(rt; endpoint.core().missing(), 0);
+    assert_eq!(rt; wrong_packet(rt.alloc(), PACKETS)?, (None, 0));
     Ok(())
 }
 
@@ -110,20 +123,21 @@ fn the_bounds_of_control(rt: HostRuntime) {
 /// is cut. The two are still in sequence. Behind media that is believed they are not.
 #[test]
 fn what_leaves_what_is_held_back(rt: HostRuntime) -> Result<(), Fail> {
-    let mut endpoint = endpoint(rt.alloc())?;
-    let foreign = [0x80, 96, 0, 9, 0, 0, 0, 0, 0x99, 0x99, 0x99, 0x99];
-    let told = [
-        letter(endpoint.on_datagram(media(1, 0).as_slice(), 0)),
-        letter(endpoint.on_datagram(media(3, 0).as_slice(), 0)),
-        letter(endpoint.on_datagram(media(20000, 0).as_slice(), 0)),
-        letter(endpoint.on_datagram(media(4, 0).as_slice(), 0)),
-        letter(endpoint.on_datagram(media(20001, 0).as_slice(), 0)),
-        letter(endpoint.on_datagram(foreign.as_slice(), 0)),
-        letter(endpoint.on_datagram(repair(2, 0).as_slice(), 0)),
-        letter(endpoint.on_datagram(b"\x80\xc8\x00\x01\x11\x11\x11\x11", 0)),
-        letter(endpoint.on_datagram(b"\x80\x60\x00", 0)),
-        letter(endpoint.on_datagram(media(20002, 0).as_slice(), 0)),
+    const PACKETS: &[(Packet, u8)] = &[
+        (Media(1), b't'),
+        (Media(3), b't'),
+        (Media(20000), b'h'),
+        (Media(4), b't'),
+        (Media(20001), b'h'),
+        (
+            These(b"\x80\x60\x00\x09\x00\x00\x00\x00\x99\x99\x99\x99"),
+            b'x',
+        ),
+        (Repair(2), b'p'),
+        (These(b"\x80\xc8\x00\x01\x11\x11\x11\x11"), b'c'),
+        (These(b"\x80\x60\x00"), b'x'),
+        (Media(20002), b'r'),
     ];
-    assert_eq!(rt; told, *b"tththxpcxr");
+    assert_eq!(rt; wrong_packet(rt.alloc(), PACKETS)?.0, None);
     Ok(())
 }

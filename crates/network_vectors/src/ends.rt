@@ -3,7 +3,7 @@ ghost use Rattle.std.specs.Prelude.{◌<◌, ◌≤◌};
 
 use arrayvec::ArrayVec;
 use receiver::{Receiver, ReceiverConfig};
-use rtpwire::{Content, Session};
+use rtpwire::{Content, Datagram, Session};
 use sender::{Sender, SenderConfig};
 use std::alloc::Global;
 use std::test::Fail;
@@ -82,6 +82,46 @@ pub(crate) fn repair(seq: u16, timestamp: u32) -> [u8; 14] {
     [
         0x80, 97, 0, 5, a, b, c, d, 0x22, 0x22, 0x22, 0x22, high, low,
     ]
+}
+
+/// A datagram of a row.
+#[derive(Clone, Copy)]
+pub(crate) enum Packet {
+    /// Media with this number, of timestamp 0.
+    Media(u16),
+    /// Its retransmission.
+    Repair(u16),
+    /// These octets.
+    These(&'static [u8]),
+}
+
+impl Packet {
+    /// Its octets. What is longer than a datagram has none.
+    pub(crate) fn octets(self) -> Datagram {
+        let mut octets = Datagram::new();
+        let _ = match self {
+            Packet::Media(seq) => octets.try_extend_from_slice(&media(seq, 0)),
+            Packet::Repair(seq) => octets.try_extend_from_slice(&repair(seq, 0)),
+            Packet::These(these) => octets.try_extend_from_slice(these),
+        };
+        octets
+    }
+}
+
+/// What goes by steps, each of which is done or is wanted to be so.
+pub(crate) trait Does<S> {
+    /// Does a step, and says whether what is wanted is so.
+    fn does(&mut self, step: &S) -> bool;
+}
+
+/// The first step, by its index, at which something else is so than is wanted.
+pub(crate) fn wrong<S, D: Does<S>>(it: &mut D, steps: &[S]) -> Option<usize> {
+    for (index, step) in steps.iter().enumerate() {
+        if !it.does(step) {
+            return Some(index);
+        }
+    }
+    None
 }
 
 /// The sequence numbers that a generic NACK names, read by hand (RFC 4585, section 6.2.1).

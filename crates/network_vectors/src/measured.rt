@@ -1,191 +1,253 @@
 //! What is measured of a path beside an endpoint, and the times of asks that follow: a round trip from the first ask for a place to
 //! its answer, one place at a time and none in doubt (RFC 6298, sections 2 and 3), and how far packets come behind later ones.
-use crate::ends::{config, media, repair};
+use crate::ends::{Does, config, media, repair, wrong};
 use endpoint::*;
 use std::alloc::Global;
 use std::test::Fail;
 use stores::RingWindow;
 
+/// An endpoint, and what is measured beside it.
+#[derive(Drop)]
+struct Measured {
+    endpoint: AskingEndpoint<RingWindow>,
+    meter: PathMeter,
+}
+
 /// A window of 16; a patience of 200, a first ask after 20, and then one each 40, nine times.
-fn asking(alloc: Global) -> Result<AskingEndpoint<RingWindow>, Fail> {
+fn start(alloc: Global) -> Result<Measured, Fail> {
     match AskingEndpoint::new(alloc, config(200, 20, 40, 9)?, Probation::usual(), 16) {
-        Ok(made) => Ok(made),
+        Ok(endpoint) => Ok(Measured {
+            endpoint,
+            meter: PathMeter::new(),
+        }),
         Err(_) => Err(Fail::from("memory is ample")),
     }
 }
 
-fn hears(
-    endpoint: &mut AskingEndpoint<RingWindow>,
-    meter: &mut PathMeter,
-    octets: &[u8],
-    now: u64,
-) {
-    let standing = Standing::before(endpoint.endpoint().core(), octets);
-    let (answer, _) = endpoint.on_datagram(octets, now);
-    meter.hear(&answer, &standing, now);
+/// What is done, or wanted.
+#[derive(Clone, Copy)]
+enum Step {
+    /// Media with this number comes.
+    Media(u16),
+    /// A retransmission of it comes.
+    Repair(u16),
+    /// Something is asked for.
+    Asks,
+    /// A place is played or given up.
+    Passes,
+    /// A play of this place is told.
+    Tells(u16),
+    /// Both restart.
+    Restarts,
+    /// These times are set, and followed anew.
+    Sets(u64, u64, u64),
+    Follows,
+    /// The round trip, or 0, and whether it is new.
+    Knows(u64, bool),
+    /// Patience, delay and retry.
+    Times(u64, u64, u64),
 }
 
-/// Media with these numbers.
-fn takes(
-    endpoint: &mut AskingEndpoint<RingWindow>,
-    meter: &mut PathMeter,
-    numbers: &[u16],
-    now: u64,
-) {
-    for seq in numbers {
-        hears(endpoint, meter, media(*seq, 0).as_slice(), now);
+use Step::*;
+
+impl Measured {
+    fn hears(&mut self, octets: &[u8], now: u64) {
+        let standing = Standing::before(self.endpoint.endpoint().core(), octets);
+        let (answer, _) = self.endpoint.on_datagram(octets, now);
+        self.meter.hear(&answer, &standing, now);
     }
-}
 
-/// Whether something was asked for.
-fn asks(endpoint: &mut AskingEndpoint<RingWindow>, meter: &mut PathMeter, now: u64) -> bool {
-    match endpoint.ask_most(now, 100) {
-        Some(nack) => {
-            meter.ask(endpoint.endpoint().core(), nack.as_slice(), now);
-            true
+    /// Whether something is asked for.
+    fn asks(&mut self, now: u64) -> bool {
+        match self.endpoint.ask_most(now, 100) {
+            Some(nack) => {
+                self.meter
+                    .ask(self.endpoint.endpoint().core(), nack.as_slice(), now);
+                true
+            }
+            None => false,
         }
-        None => false,
+    }
+
+    /// Whether these times are set.
+    fn sets(&mut self, patience: u64, delay: u64, retry: u64) -> bool {
+        let is_set = self.endpoint.set_times(patience, delay, retry).is_ok();
+        self.meter.renew();
+        is_set
+    }
+
+    fn restarts(&mut self) {
+        self.endpoint.restart();
+        self.meter.restart();
+    }
+
+    fn knows(&self, trip: u64, is_new: bool) -> bool {
+        self.meter.path().trip.time().unwrap_or(0) == trip && self.meter.is_new() == is_new
+    }
+
+    fn has_times(&self, patience: u64, delay: u64, retry: u64) -> bool {
+        let config = self.endpoint.endpoint().core().config();
+        config.patience() == patience && config.delay() == delay && config.retry() == retry
     }
 }
 
-/// The round trip, or 0, and whether it is new.
-fn known(meter: &PathMeter) -> (u64, bool) {
-    (meter.path().trip.time().unwrap_or(0), meter.is_new())
+impl Does<(u64, Step)> for Measured {
+    fn does(&mut self, (now, step): &(u64, Step)) -> bool {
+        let now = *now;
+        match *step {
+            Media(seq) => self.hears(media(seq, 0).as_slice(), now),
+            Repair(seq) => self.hears(repair(seq, 0).as_slice(), now),
+            Passes => self.endpoint.pass(now),
+            Tells(seq) => self.meter.pass(places::Place::first(seq)),
+            Restarts => self.restarts(),
+            Follows => self.meter.follow(&mut self.endpoint, now),
+            Asks => return self.asks(now),
+            Sets(patience, delay, retry) => return self.sets(patience, delay, retry),
+            Knows(trip, is_new) => return self.knows(trip, is_new),
+            Times(patience, delay, retry) => return self.has_times(patience, delay, retry),
+        }
+        true
+    }
 }
 
-/// Patience, delay and retry.
-fn times(endpoint: &AskingEndpoint<RingWindow>) -> [u64; 3] {
-    let config = endpoint.endpoint().core().config();
-    [config.patience(), config.delay(), config.retry()]
-}
-
-/// Number 2 is missing since 5, and is asked for at 25.
-fn asks_for_two(endpoint: &mut AskingEndpoint<RingWindow>, meter: &mut PathMeter) {
-    takes(endpoint, meter, &[1], 0);
-    takes(endpoint, meter, &[3], 5);
-    let _ = asks(endpoint, meter, 25);
+/// The first step that goes wrong, if one does. It has what is large, as whatever a test holds costs its proof.
+fn wrong_step(alloc: Global, steps: &[(u64, Step)]) -> Result<Option<usize>, Fail> {
+    let mut measured = start(alloc)?;
+    Ok(wrong(&mut measured, steps))
 }
 
 #[test]
 fn a_first_ask(rt: HostRuntime) -> Result<(), Fail> {
-    let mut endpoint = asking(rt.alloc())?;
-    let mut meter = PathMeter::new();
-    asks_for_two(&mut endpoint, &mut meter);
-    assert_eq!(rt; known(&meter), (0, false));
-    hears(&mut endpoint, &mut meter, repair(2, 0).as_slice(), 65);
-    assert_eq!(rt; known(&meter), (40, true));
-    assert_eq!(rt; times(&endpoint), [200, 20, 40]);
-    // An answer takes 40 + 20 + 5, and asks lie no closer: two more fit into the 135 that are left.
-    meter.follow(&mut endpoint, 65);
-    assert_eq!(rt; known(&meter), (40, false));
-    assert_eq!(rt; times(&endpoint), [200, 0, 67]);
+    const STEPS: &[(u64, Step)] = &[
+        (0, Media(1)),
+        (5, Media(3)),
+        (25, Asks),
+        (25, Knows(0, false)),
+        (65, Repair(2)),
+        (65, Knows(40, true)),
+        (65, Times(200, 20, 40)),
+        // An answer takes 40 + 20 + 5, and asks lie no closer: two more fit into the 135 that are left.
+        (65, Follows),
+        (65, Knows(40, false)),
+        (65, Times(200, 0, 67)),
+    ];
+    assert_eq!(rt; wrong_step(rt.alloc(), STEPS)?, None);
     Ok(())
 }
 
 #[test]
 fn a_second_ask(rt: HostRuntime) -> Result<(), Fail> {
-    let mut endpoint = asking(rt.alloc())?;
-    let mut meter = PathMeter::new();
-    asks_for_two(&mut endpoint, &mut meter);
-    let again = asks(&mut endpoint, &mut meter, 65);
-    assert_eq!(rt; again, true);
-    // Which of both it answers is not known.
-    hears(&mut endpoint, &mut meter, repair(2, 0).as_slice(), 70);
-    assert_eq!(rt; known(&meter), (0, false));
-    takes(&mut endpoint, &mut meter, &[5], 100);
-    let first = asks(&mut endpoint, &mut meter, 120);
-    assert_eq!(rt; first, true);
-    hears(&mut endpoint, &mut meter, repair(4, 0).as_slice(), 150);
-    assert_eq!(rt; known(&meter), (30, true));
+    const STEPS: &[(u64, Step)] = &[
+        (0, Media(1)),
+        (5, Media(3)),
+        (25, Asks),
+        (65, Asks),
+        // Which of both it answers is not known.
+        (70, Repair(2)),
+        (70, Knows(0, false)),
+        (100, Media(5)),
+        (120, Asks),
+        (150, Repair(4)),
+        (150, Knows(30, true)),
+    ];
+    assert_eq!(rt; wrong_step(rt.alloc(), STEPS)?, None);
     Ok(())
 }
 
 #[test]
 fn the_first_of_a_nack_is_measured(rt: HostRuntime) -> Result<(), Fail> {
-    let mut endpoint = asking(rt.alloc())?;
-    let mut meter = PathMeter::new();
-    takes(&mut endpoint, &mut meter, &[1, 4], 0);
-    let asked = asks(&mut endpoint, &mut meter, 20);
-    assert_eq!(rt; asked, true);
-    hears(&mut endpoint, &mut meter, repair(3, 0).as_slice(), 30);
-    assert_eq!(rt; known(&meter), (0, false));
-    hears(&mut endpoint, &mut meter, repair(2, 0).as_slice(), 50);
-    assert_eq!(rt; known(&meter), (30, true));
-    // Its answer measures it no second time.
-    hears(&mut endpoint, &mut meter, repair(2, 0).as_slice(), 90);
-    assert_eq!(rt; known(&meter), (30, true));
+    const STEPS: &[(u64, Step)] = &[
+        (0, Media(1)),
+        (0, Media(4)),
+        (20, Asks),
+        (30, Repair(3)),
+        (30, Knows(0, false)),
+        (50, Repair(2)),
+        (50, Knows(30, true)),
+        // Its answer measures it no second time.
+        (90, Repair(2)),
+        (90, Knows(30, true)),
+    ];
+    assert_eq!(rt; wrong_step(rt.alloc(), STEPS)?, None);
     Ok(())
 }
 
 #[test]
 fn a_place_that_is_gone(rt: HostRuntime) -> Result<(), Fail> {
-    let mut endpoint = asking(rt.alloc())?;
-    let mut meter = PathMeter::new();
-    asks_for_two(&mut endpoint, &mut meter);
-    // Number 1 is played, and 2 given up. The next one that is asked for is measured.
-    endpoint.pass(205);
-    endpoint.pass(205);
-    takes(&mut endpoint, &mut meter, &[5], 300);
-    let asked = asks(&mut endpoint, &mut meter, 320);
-    assert_eq!(rt; asked, true);
-    hears(&mut endpoint, &mut meter, repair(4, 0).as_slice(), 345);
-    assert_eq!(rt; known(&meter), (25, true));
+    const STEPS: &[(u64, Step)] = &[
+        (0, Media(1)),
+        (5, Media(3)),
+        (25, Asks),
+        // Number 1 is played, and 2 given up. The next one that is asked for is measured.
+        (205, Passes),
+        (205, Passes),
+        (300, Media(5)),
+        (320, Asks),
+        (345, Repair(4)),
+        (345, Knows(25, true)),
+    ];
+    assert_eq!(rt; wrong_step(rt.alloc(), STEPS)?, None);
     Ok(())
 }
 
 #[test]
 fn a_place_that_was_passed(rt: HostRuntime) -> Result<(), Fail> {
-    let mut endpoint = asking(rt.alloc())?;
-    let mut meter = PathMeter::new();
-    asks_for_two(&mut endpoint, &mut meter);
-    // A play of it was told, so its answer is no measurement.
-    meter.pass(places::Place::first(2));
-    hears(&mut endpoint, &mut meter, repair(2, 0).as_slice(), 65);
-    assert_eq!(rt; known(&meter), (0, false));
+    const STEPS: &[(u64, Step)] = &[
+        (0, Media(1)),
+        (5, Media(3)),
+        (25, Asks),
+        // A play of it was told, so its answer is no measurement.
+        (25, Tells(2)),
+        (65, Repair(2)),
+        (65, Knows(0, false)),
+    ];
+    assert_eq!(rt; wrong_step(rt.alloc(), STEPS)?, None);
     Ok(())
 }
 
 #[test]
 fn packets_that_come_late(rt: HostRuntime) -> Result<(), Fail> {
-    let mut endpoint = asking(rt.alloc())?;
-    let mut meter = PathMeter::new();
-    asks_for_two(&mut endpoint, &mut meter);
-    hears(&mut endpoint, &mut meter, repair(2, 0).as_slice(), 65);
-    meter.follow(&mut endpoint, 65);
-    takes(&mut endpoint, &mut meter, &[5], 72);
-    takes(&mut endpoint, &mut meter, &[4], 80);
-    assert_eq!(rt; known(&meter), (40, true));
-    meter.follow(&mut endpoint, 80);
-    assert_eq!(rt; times(&endpoint), [200, 10, 125]);
-    // One that comes as late again is nothing new, and one that is on its way twice is none that was waited for.
-    takes(&mut endpoint, &mut meter, &[7], 90);
-    takes(&mut endpoint, &mut meter, &[6], 98);
-    takes(&mut endpoint, &mut meter, &[6], 120);
-    assert_eq!(rt; known(&meter), (40, false));
+    const STEPS: &[(u64, Step)] = &[
+        (0, Media(1)),
+        (5, Media(3)),
+        (25, Asks),
+        (65, Repair(2)),
+        (65, Follows),
+        (72, Media(5)),
+        (80, Media(4)),
+        (80, Knows(40, true)),
+        (80, Follows),
+        (80, Times(200, 10, 125)),
+        // One that comes as late again is nothing new, and one that is on its way twice is none that was waited for.
+        (90, Media(7)),
+        (98, Media(6)),
+        (120, Media(6)),
+        (120, Knows(40, false)),
+    ];
+    assert_eq!(rt; wrong_step(rt.alloc(), STEPS)?, None);
     Ok(())
 }
 
 #[test]
 fn a_restart_by_call(rt: HostRuntime) -> Result<(), Fail> {
-    let mut endpoint = asking(rt.alloc())?;
-    let mut meter = PathMeter::new();
-    asks_for_two(&mut endpoint, &mut meter);
-    hears(&mut endpoint, &mut meter, repair(2, 0).as_slice(), 65);
-    meter.follow(&mut endpoint, 65);
-    takes(&mut endpoint, &mut meter, &[5], 70);
-    let asked = asks(&mut endpoint, &mut meter, 70);
-    assert_eq!(rt; asked, true);
-    endpoint.restart();
-    meter.restart();
-    takes(&mut endpoint, &mut meter, &[3], 75);
-    hears(&mut endpoint, &mut meter, repair(4, 0).as_slice(), 76);
-    assert_eq!(rt; known(&meter), (40, false));
-    // Other times follow the round trip anew, which was measured before.
-    let set = endpoint.set_times(400, 7, 9).is_ok();
-    assert_eq!(rt; set, true);
-    meter.renew();
-    assert_eq!(rt; known(&meter), (40, true));
-    meter.follow(&mut endpoint, 80);
-    assert_eq!(rt; times(&endpoint), [400, 0, 67]);
+    const STEPS: &[(u64, Step)] = &[
+        (0, Media(1)),
+        (5, Media(3)),
+        (25, Asks),
+        (65, Repair(2)),
+        (65, Follows),
+        (70, Media(5)),
+        (70, Asks),
+        (70, Restarts),
+        (75, Media(3)),
+        (76, Repair(4)),
+        (76, Knows(40, false)),
+        // Other times follow the round trip anew, which was measured before.
+        (76, Sets(400, 7, 9)),
+        (76, Knows(40, true)),
+        (80, Follows),
+        (80, Times(400, 0, 67)),
+    ];
+    assert_eq!(rt; wrong_step(rt.alloc(), STEPS)?, None);
     Ok(())
 }

@@ -50,8 +50,9 @@ fn makes<W: Window>(
     }
 }
 
-/// What a receiver answers to 3000 drawn calls, as octets. Numbers rise by and by, and moments mostly.
-fn answers<W: Window>(alloc: Global, mut receiver: Receiver<W>) -> Result<Vec<u8>, Fail> {
+/// What a receiver of this configuration answers to 3000 drawn calls, as octets. Numbers rise by and by, and moments mostly.
+fn answers(alloc: Global, config: ReceiverConfig) -> Result<Vec<u8>, Fail> {
+    let mut receiver = receiver(alloc, config, 64)?;
     let mut draws = Draws::new(7);
     let mut log = Vec::new(alloc);
     for step in 0..3000u64 {
@@ -71,12 +72,12 @@ fn a_delay_of_nothing(rt: HostRuntime) -> Result<(), Fail> {
     let Ok(plain) = ReceiverConfig::new(session()?, 30, 8, 2) else {
         return Err(Fail::from("a good configuration"));
     };
-    let today = answers(alloc, receiver(alloc, plain, 64)?)?;
+    let today = answers(alloc, plain)?;
     for config in [plain.with_delay(0), plain.with_delay(9).with_delay(0)] {
-        let same = answers(alloc, receiver(alloc, config, 64)?)?;
+        let same = answers(alloc, config)?;
         assert!(rt; same.as_slice() == today.as_slice());
     }
-    let other = answers(alloc, receiver(alloc, plain.with_delay(1), 64)?)?;
+    let other = answers(alloc, plain.with_delay(1))?;
     assert!(rt; other.as_slice() != today.as_slice());
     Ok(())
 }

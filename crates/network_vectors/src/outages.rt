@@ -46,21 +46,21 @@ fn asked<W: Window>(
     Ok((first, numbers.len()))
 }
 
-/// Asks again and again at one moment for at most so many places, until nothing is asked for, at most 6001 times.
-fn asks_all<W: Window>(
-    alloc: Global,
-    receiver: &mut Receiver<W>,
-    most: usize,
-) -> Result<Vec<(u16, usize)>, Fail> {
+/// How many places are missing of an outage, and what is asked for at one moment, again and again for at most so many places, until
+/// nothing is asked for, at most 6001 times.
+fn asks_all(alloc: Global, most: usize) -> Result<(usize, Vec<(u16, usize)>), Fail> {
+    let mut receiver = receiver(alloc, config(100, 0, 20, 3)?, 8192)?;
+    loses(&mut receiver)?;
+    let missing = receiver.missing();
     let mut all = Vec::new(alloc);
     for _ in 0..=LOST {
-        let told = asked(alloc, receiver, 0, most)?;
+        let told = asked(alloc, &mut receiver, 0, most)?;
         if told.1 == 0 {
             break;
         }
         all.push(told)?;
     }
-    Ok(all)
+    Ok((missing, all))
 }
 
 /// At one moment each ask has as many places as are allowed, the last one what is left, and none comes twice.
@@ -74,10 +74,8 @@ fn at_one_moment_all_are_asked_for_once(rt: HostRuntime) -> Result<(), Fail> {
         (LONGEST, 5, 560),
         (5000, 5, 560),
     ] {
-        let mut receiver = receiver(rt.alloc(), config(100, 0, 20, 3)?, 8192)?;
-        loses(&mut receiver)?;
-        assert_eq!(rt; receiver.missing() as u64, LOST);
-        let all = asks_all(rt.alloc(), &mut receiver, most)?;
+        let (missing, all) = asks_all(rt.alloc(), most)?;
+        assert_eq!(rt; missing as u64, LOST);
         let each = most.min(LONGEST);
         let mut next = 2u64;
         for (index, (first, count)) in all.iter().enumerate() {

@@ -1,14 +1,11 @@
 //! Retransmissions that fit the time: rows of moments, worked by hand.
-use crate::ends::session;
+use crate::ends::{Does, session, wrong};
 use endpoint::*;
 use rtpwire::{Carried, MAX_DATAGRAM, Words};
 use sender::SenderConfig;
 use std::alloc::Global;
 use std::test::Fail;
 use stores::RingHistory;
-
-/// The number of a packet, or none.
-type Number = Option<u16>;
 
 /// A history of 4, the first numbers 1 and 5, three retransmissions of each packet.
 fn timely(
@@ -29,8 +26,31 @@ fn timely(
     }
 }
 
-/// Sends a packet, and tells its number.
-fn sends(endpoint: &mut TimelyEndpoint<RingHistory>, now: u64) -> Number {
+/// What is done, or wanted.
+#[derive(Clone, Copy)]
+enum Step {
+    /// A packet is sent, which has this number.
+    Sends(u16),
+    /// A NACK for the number 1 and, by the mask, for as many of the three after it as are said.
+    Asks(u8),
+    /// The last packet is marked.
+    Marks,
+    /// The number of what is retransmitted, and the octets that tell the retransmission's own number and this one.
+    Resends(u16, [u8; 2]),
+    /// Nothing is retransmitted.
+    Waits,
+    /// A slice of 16 octets is too short for what is retransmitted.
+    IsShort,
+    /// So many were passed over since they were too early, and so many since they were expired.
+    Passed(u64, u64),
+    /// So many retransmissions left, and so many were refused by the limit.
+    Counted(u64, u64),
+}
+
+use Step::*;
+
+/// The number of a packet that is sent.
+fn sent(endpoint: &mut TimelyEndpoint<RingHistory>, now: u64) -> Option<u16> {
     let mut out = [0; MAX_DATAGRAM];
     match Carried::of_fields(b"abc", 0, false, Words::Numbers(&[]), None) {
         Ok(carried) => match endpoint.send_into(out.as_mut_slice(), &carried, 0, now) {
@@ -41,8 +61,8 @@ fn sends(endpoint: &mut TimelyEndpoint<RingHistory>, now: u64) -> Number {
     }
 }
 
-/// The number that is retransmitted, and the octets that tell it and the retransmission's own.
-fn resends(endpoint: &mut TimelyEndpoint<RingHistory>, now: u64) -> Option<(u16, [u8; 2])> {
+/// The number that is retransmitted, and the octets that tell the retransmission's own and it.
+fn resent(endpoint: &mut TimelyEndpoint<RingHistory>, now: u64) -> Option<(u16, [u8; 2])> {
     let mut out = [0; MAX_DATAGRAM];
     match endpoint.retransmit_into(out.as_mut_slice(), now) {
         Ok(Some((place, _))) => Some((place.number(), [out[3], out[13]])),
@@ -50,7 +70,7 @@ fn resends(endpoint: &mut TimelyEndpoint<RingHistory>, now: u64) -> Option<(u16,
     }
 }
 
-/// A NACK for the number 1 and, by the mask, for as many of the three after it as are said.
+/// Hears a NACK.
 fn asks(endpoint: &mut TimelyEndpoint<RingHistory>, mask: u8) {
     let nack = [
         0x81, 0xcd, 0, 3, 0x33, 0x33, 0x33, 0x33, 0x11, 0x11, 0x11, 0x11, 0, 1, 0, mask,
@@ -58,151 +78,147 @@ fn asks(endpoint: &mut TimelyEndpoint<RingHistory>, mask: u8) {
     let _ = endpoint.on_datagram(nack.as_slice());
 }
 
+impl Does<(u64, Step)> for TimelyEndpoint<RingHistory> {
+    fn does(&mut self, (now, step): &(u64, Step)) -> bool {
+        match *step {
+            Sends(number) => sent(self, *now) == Some(number),
+            Resends(number, octets) => resent(self, *now) == Some((number, octets)),
+            Waits => resent(self, *now).is_none(),
+            IsShort => self.retransmit_into([0; 16].as_mut_slice(), *now).is_err(),
+            Passed(early, expired) => self.passed() == ResendCounts { early, expired },
+            Counted(retransmissions, exhausted) => {
+                let counts = self.endpoint().counts();
+                counts.retransmissions == retransmissions && counts.exhausted == exhausted
+            }
+            Asks(mask) => {
+                asks(self, mask);
+                true
+            }
+            Marks => {
+                let _ = self.mark_last();
+                true
+            }
+        }
+    }
+}
+
+/// The first step that goes wrong by a rule, if one does. It has what is large, as whatever a test holds costs its proof.
+fn wrong_step(
+    alloc: Global,
+    min_resend: u64,
+    deadline: Option<u64>,
+    steps: &[(u64, Step)],
+) -> Result<Option<usize>, Fail> {
+    let mut endpoint = timely(alloc, min_resend, deadline)?;
+    Ok(wrong(&mut endpoint, steps))
+}
+
 #[test]
 fn not_again_so_soon(rt: HostRuntime) -> Result<(), Fail> {
-    let mut endpoint = timely(rt.alloc(), 20, None)?;
-    assert_eq!(rt; sends(&mut endpoint, 0), Some(1));
-    asks(&mut endpoint, 0);
-    assert_eq!(rt; resends(&mut endpoint, 5), Some((1, [5, 1])));
-    // Its answer is on the way: 19 milliseconds later it still is, and 20 later it has had its time.
-    asks(&mut endpoint, 0);
-    assert_eq!(rt; resends(&mut endpoint, 10), None);
-    assert_eq!(rt;
-        endpoint.passed(),
-        ResendCounts {
-            early: 1,
-            expired: 0
-        }
-    );
-    asks(&mut endpoint, 0);
-    assert_eq!(rt; resends(&mut endpoint, 24), None);
-    asks(&mut endpoint, 0);
-    // The number of the retransmission is the next one, and the packet may go a third time.
-    assert_eq!(rt; resends(&mut endpoint, 25), Some((1, [6, 1])));
-    asks(&mut endpoint, 0);
-    assert_eq!(rt; resends(&mut endpoint, 45), Some((1, [7, 1])));
-    asks(&mut endpoint, 0);
-    assert_eq!(rt; resends(&mut endpoint, 65), None);
-    assert_eq!(rt;
-        endpoint.passed(),
-        ResendCounts {
-            early: 2,
-            expired: 0
-        }
-    );
-    assert_eq!(rt; endpoint.endpoint().counts().retransmissions, 3);
-    assert_eq!(rt; endpoint.endpoint().counts().exhausted, 1);
+    const STEPS: &[(u64, Step)] = &[
+        (0, Sends(1)),
+        (5, Asks(0)),
+        (5, Resends(1, [5, 1])),
+        // Its answer is on the way: 19 milliseconds later it still is, and 20 later it has had its time.
+        (10, Asks(0)),
+        (10, Waits),
+        (10, Passed(1, 0)),
+        (24, Asks(0)),
+        (24, Waits),
+        (25, Asks(0)),
+        // The number of the retransmission is the next one, and the packet may go a third time.
+        (25, Resends(1, [6, 1])),
+        (45, Asks(0)),
+        (45, Resends(1, [7, 1])),
+        (65, Asks(0)),
+        (65, Waits),
+        (65, Passed(2, 0)),
+        (65, Counted(3, 1)),
+    ];
+    assert_eq!(rt; wrong_step(rt.alloc(), 20, None, STEPS)?, None);
     Ok(())
 }
 
 #[test]
 fn not_past_the_deadline(rt: HostRuntime) -> Result<(), Fail> {
-    let mut endpoint = timely(rt.alloc(), 0, Some(100))?;
-    assert_eq!(rt;
-        [sends(&mut endpoint, 0), sends(&mut endpoint, 1)],
-        [Some(1), Some(2)]
-    );
-    asks(&mut endpoint, 0);
-    assert_eq!(rt; resends(&mut endpoint, 100), Some((1, [5, 1])));
-    // One millisecond later the first is past its deadline, and the second has still one to go.
-    asks(&mut endpoint, 1);
-    assert_eq!(rt; resends(&mut endpoint, 101), Some((2, [6, 2])));
-    assert_eq!(rt; resends(&mut endpoint, 101), None);
-    assert_eq!(rt;
-        endpoint.passed(),
-        ResendCounts {
-            early: 0,
-            expired: 1
-        }
-    );
-    asks(&mut endpoint, 1);
-    assert_eq!(rt; resends(&mut endpoint, 102), None);
-    assert_eq!(rt;
-        endpoint.passed(),
-        ResendCounts {
-            early: 0,
-            expired: 3
-        }
-    );
+    const STEPS: &[(u64, Step)] = &[
+        (0, Sends(1)),
+        (1, Sends(2)),
+        (100, Asks(0)),
+        (100, Resends(1, [5, 1])),
+        // One millisecond later the first is past its deadline, and the second has still one to go.
+        (101, Asks(1)),
+        (101, Resends(2, [6, 2])),
+        (101, Waits),
+        (101, Passed(0, 1)),
+        (102, Asks(1)),
+        (102, Waits),
+        (102, Passed(0, 3)),
+    ];
+    assert_eq!(rt; wrong_step(rt.alloc(), 0, Some(100), STEPS)?, None);
     Ok(())
 }
 
 #[test]
 fn the_oldest_that_can_be_in_time(rt: HostRuntime) -> Result<(), Fail> {
-    let mut endpoint = timely(rt.alloc(), 20, Some(100))?;
-    for now in [0, 30, 60, 90] {
-        let _ = sends(&mut endpoint, now);
-    }
-    asks(&mut endpoint, 1);
-    assert_eq!(rt; resends(&mut endpoint, 95), Some((1, [5, 1])));
-    assert_eq!(rt; resends(&mut endpoint, 95), Some((2, [6, 2])));
-    // All four are asked for: the first is expired, though it was sent again too, the second is on its way.
-    asks(&mut endpoint, 7);
-    assert_eq!(rt; resends(&mut endpoint, 110), Some((3, [7, 3])));
-    assert_eq!(rt;
-        endpoint.passed(),
-        ResendCounts {
-            early: 1,
-            expired: 1
-        }
-    );
-    assert_eq!(rt; resends(&mut endpoint, 110), Some((4, [8, 4])));
-    assert_eq!(rt; resends(&mut endpoint, 110), None);
-    // A fifth packet takes the cell of the first, and has its own moments.
-    assert_eq!(rt; sends(&mut endpoint, 300), Some(5));
-    let _ = endpoint.mark_last();
-    assert_eq!(rt; resends(&mut endpoint, 300), Some((5, [9, 5])));
-    let _ = endpoint.mark_last();
-    assert_eq!(rt; resends(&mut endpoint, 319), None);
-    assert_eq!(rt;
-        endpoint.passed(),
-        ResendCounts {
-            early: 2,
-            expired: 1
-        }
-    );
+    const STEPS: &[(u64, Step)] = &[
+        (0, Sends(1)),
+        (30, Sends(2)),
+        (60, Sends(3)),
+        (90, Sends(4)),
+        (95, Asks(1)),
+        (95, Resends(1, [5, 1])),
+        (95, Resends(2, [6, 2])),
+        // All four are asked for: the first is expired, though it was sent again too, the second is on its way.
+        (110, Asks(7)),
+        (110, Resends(3, [7, 3])),
+        (110, Passed(1, 1)),
+        (110, Resends(4, [8, 4])),
+        (110, Waits),
+        // A fifth packet takes the cell of the first, and has its own moments.
+        (300, Sends(5)),
+        (300, Marks),
+        (300, Resends(5, [9, 5])),
+        (319, Marks),
+        (319, Waits),
+        (319, Passed(2, 1)),
+    ];
+    assert_eq!(rt; wrong_step(rt.alloc(), 20, Some(100), STEPS)?, None);
     Ok(())
 }
 
 #[test]
 fn with_no_rule_as_before(rt: HostRuntime) -> Result<(), Fail> {
-    let mut endpoint = timely(
-        rt.alloc(),
-        ResendRule::ALWAYS.min_resend,
-        ResendRule::ALWAYS.deadline,
-    )?;
-    assert_eq!(rt; sends(&mut endpoint, 1000), Some(1));
-    // Whatever the moment, also one before it was sent.
-    for (now, own) in [(5, 5), (5, 6), (u64::MAX, 7)] {
-        asks(&mut endpoint, 0);
-        assert_eq!(rt; resends(&mut endpoint, now), Some((1, [own, 1])));
-    }
+    const STEPS: &[(u64, Step)] = &[
+        (1000, Sends(1)),
+        // Whatever the moment, also one before it was sent.
+        (5, Asks(0)),
+        (5, Resends(1, [5, 1])),
+        (5, Asks(0)),
+        (5, Resends(1, [6, 1])),
+        (5, Asks(0)),
+        (u64::MAX, Resends(1, [7, 1])),
+        (5, Passed(0, 0)),
+    ];
+    let always = ResendRule::ALWAYS;
     assert_eq!(rt;
-        endpoint.passed(),
-        ResendCounts {
-            early: 0,
-            expired: 0
-        }
+        wrong_step(rt.alloc(), always.min_resend, always.deadline, STEPS)?,
+        None
     );
     Ok(())
 }
 
 #[test]
 fn a_slice_that_is_too_short(rt: HostRuntime) -> Result<(), Fail> {
-    let mut endpoint = timely(rt.alloc(), 20, Some(100))?;
-    let _ = [sends(&mut endpoint, 0), sends(&mut endpoint, 50)];
-    asks(&mut endpoint, 1);
-    let mut short = [0; 16];
-    let answer = endpoint.retransmit_into(short.as_mut_slice(), 101);
-    assert!(rt; answer.is_err());
-    // What is expired was passed over, and what may go is still the next.
-    assert_eq!(rt;
-        endpoint.passed(),
-        ResendCounts {
-            early: 0,
-            expired: 1
-        }
-    );
-    assert_eq!(rt; resends(&mut endpoint, 101), Some((2, [5, 2])));
+    const STEPS: &[(u64, Step)] = &[
+        (0, Sends(1)),
+        (50, Sends(2)),
+        (101, Asks(1)),
+        (101, IsShort),
+        // What is expired was passed over, and what may go is still the next.
+        (101, Passed(0, 1)),
+        (101, Resends(2, [5, 2])),
+    ];
+    assert_eq!(rt; wrong_step(rt.alloc(), 20, Some(100), STEPS)?, None);
     Ok(())
 }

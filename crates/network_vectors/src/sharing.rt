@@ -51,19 +51,37 @@ fn told<H: History>(sender: &mut Sender<H>, octets: &[u8]) -> Told {
     }
 }
 
-/// The index of the first datagram that one of the two senders doesn't answer so.
-fn wrong<H: History>(
-    first: &mut Sender<H>,
-    second: &mut Sender<H>,
-    rows: &[(&[u8], Told, Told)],
-) -> Option<usize> {
+/// What comes to two senders, and what each answers.
+type Row = (&'static [u8], Told, Told);
+
+/// The index of the first datagram that one of the two senders of these configurations doesn't answer so, and whether each takes
+/// another one by the call that is for it alone. It has what is large, as whatever a test holds costs its proof.
+fn wrong(
+    alloc: Global,
+    first: SenderConfig,
+    second: SenderConfig,
+    rows: &[Row],
+    alone: &[u8],
+) -> Result<(Option<usize>, bool, bool), Fail> {
+    let mut first = sent(alloc, first)?;
+    let mut second = sent(alloc, second)?;
+    let mut wrong = None;
     for (index, (octets, by_first, by_second)) in rows.iter().enumerate() {
-        if told(first, octets) != *by_first || told(second, octets) != *by_second {
-            return Some(index);
+        let is_so = told(&mut first, octets) == *by_first
+            && told(&mut second, octets) == *by_second;
+        if !is_so && wrong.is_none() {
+            wrong = Some(index);
         }
     }
-    None
+    Ok((
+        wrong,
+        first.on_feedback(alone).is_ok(),
+        second.on_feedback(alone).is_ok(),
+    ))
 }
+
+/// What is answered to what is refused.
+const REFUSED: [u32; 6] = [0; 6];
 
 /// A NACK for the number 1 of the media 0x11111111, from its receiver; and one for the numbers 2 and 3 of the media
 /// 0x55555555, from the receiver of that.
@@ -93,43 +111,36 @@ const LAST: &[u8] = b"\x81\xcd\x00\x03\x33\x33\x33\x33\x11\x11\x11\x11\x00\x03\x
 
 #[test]
 fn two_streams_in_one_datagram(rt: HostRuntime) -> Result<(), Fail> {
-    let mut first = sent(rt.alloc(), config(0x11111111, 0x33333333, 3)?)?;
-    let mut second = sent(rt.alloc(), config(0x55555555, 0x77777777, 3)?)?;
-    let refused = [0; 6];
-    let rows = [
-        (CUT, (11, refused), (11, refused)),
+    const ROWS: &[Row] = &[
+        (CUT, (11, REFUSED), (11, REFUSED)),
         (BOTH, (0, [1, 1, 1, 1, 0, 0]), (0, [2, 1, 1, 2, 0, 0])),
         // What is marked already is no place more.
         (BOTH, (0, [0, 1, 1, 1, 0, 0]), (0, [0, 1, 1, 2, 0, 0])),
-        (STRANGER, (19, refused), (18, refused)),
-        (STRANGER_FIRST, (19, refused), (0, [0, 1, 1, 2, 0, 0])),
-        (STRANGER_LAST, (18, refused), (0, [0, 1, 1, 2, 0, 0])),
-        (NEVER_SENT, (0, [1, 1, 0, 2, 1, 0]), (18, refused)),
+        (STRANGER, (19, REFUSED), (18, REFUSED)),
+        (STRANGER_FIRST, (19, REFUSED), (0, [0, 1, 1, 2, 0, 0])),
+        (STRANGER_LAST, (18, REFUSED), (0, [0, 1, 1, 2, 0, 0])),
+        (NEVER_SENT, (0, [1, 1, 0, 2, 1, 0]), (18, REFUSED)),
     ];
-    assert_eq!(rt; wrong(&mut first, &mut second, &rows), None);
+    let first = config(0x11111111, 0x33333333, 3)?;
+    let second = config(0x55555555, 0x77777777, 3)?;
+    let (wrong, ..) = wrong(rt.alloc(), first, second, ROWS, CUT)?;
+    assert_eq!(rt; wrong, None);
     Ok(())
 }
 
 #[test]
 fn a_reporter_that_is_not_known(rt: HostRuntime) -> Result<(), Fail> {
+    const ROWS: &[Row] = &[
+        (STRANGER, (0, [1, 1, 0, 1, 0, 0]), (19, REFUSED)),
+        (STRANGER_LAST, (0, [0, 1, 1, 1, 0, 0]), (18, REFUSED)),
+        (BOTH, (0, [1, 1, 1, 1, 0, 0]), (0, [1, 1, 1, 1, 0, 0])),
+    ];
     let known = config(0x11111111, 0x33333333, 3)?;
     let any = known.with_any_reporter();
     let says = (known.any_reporter(), any.any_reporter(), any.repeats());
     assert_eq!(rt; says, (false, true, 3));
-    let mut first = sent(rt.alloc(), any)?;
-    let mut second = sent(rt.alloc(), known)?;
-    let refused = [0; 6];
-    let rows = [
-        (STRANGER, (0, [1, 1, 0, 1, 0, 0]), (19, refused)),
-        (STRANGER_LAST, (0, [0, 1, 1, 1, 0, 0]), (18, refused)),
-        (BOTH, (0, [1, 1, 1, 1, 0, 0]), (0, [1, 1, 1, 1, 0, 0])),
-    ];
-    assert_eq!(rt; wrong(&mut first, &mut second, &rows), None);
-    let alone = (
-        first.on_feedback(STRANGER).is_ok(),
-        second.on_feedback(STRANGER).is_ok(),
-    );
-    assert_eq!(rt; alone, (true, false));
+    let told = wrong(rt.alloc(), any, known, ROWS, STRANGER)?;
+    assert_eq!(rt; told, (None, true, false));
     Ok(())
 }
 
@@ -141,25 +152,31 @@ fn repaired<H: History>(sender: &mut Sender<H>) -> Option<u64> {
     }
 }
 
-#[test]
-fn the_last_packet_and_the_limit(rt: HostRuntime) -> Result<(), Fail> {
+/// Marks the last packet, and says how many places are marked by it.
+fn marks<H: History>(sender: &mut Sender<H>) -> u32 {
+    sender.mark_last().places
+}
+
+/// How many places are marked at a sender that sent nothing and, twice, at one that sent three packets and may retransmit each once.
+/// Its retransmissions then, as the places of two. How many places are marked after that, and what it answers to a NACK.
+fn limited(alloc: Global) -> Result<([u32; 3], [Option<u64>; 2], u32, Told), Fail> {
     let once = config(0x11111111, 0x33333333, 1)?;
-    let Ok(history) = RingHistory::new(rt.alloc(), 8) else {
+    let Ok(history) = RingHistory::new(alloc, 8) else {
         return Err(Fail::from("memory is ample"));
     };
     let mut silent = Sender::new(once, history);
-    let mut sender = sent(rt.alloc(), once)?;
-    let marks = (
-        silent.mark_last().places,
-        sender.mark_last().places,
-        sender.mark_last().places,
-    );
-    assert_eq!(rt; marks, (0, 1, 0));
-    assert_eq!(rt;
-        (repaired(&mut sender), repaired(&mut sender)),
-        (Some(65539), None)
-    );
-    let after = (sender.mark_last().places, told(&mut sender, LAST));
-    assert_eq!(rt; after, (0, (0, [0, 1, 0, 1, 0, 1])));
+    let mut sender = sent(alloc, once)?;
+    let before = [marks(&mut silent), marks(&mut sender), marks(&mut sender)];
+    let repairs = [repaired(&mut sender), repaired(&mut sender)];
+    let after = marks(&mut sender);
+    Ok((before, repairs, after, told(&mut sender, LAST)))
+}
+
+#[test]
+fn the_last_packet_and_the_limit(rt: HostRuntime) -> Result<(), Fail> {
+    let (before, repairs, after, told) = limited(rt.alloc())?;
+    assert_eq!(rt; before, [0, 1, 0]);
+    assert_eq!(rt; repairs, [Some(65539), None]);
+    assert_eq!(rt; (after, told), (0, (0, [0, 1, 0, 1, 0, 1])));
     Ok(())
 }

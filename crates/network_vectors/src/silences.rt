@@ -1,6 +1,6 @@
 //! A stream that restarts, by a probation with a silence: what is held back goes on with whatever lies near it, and is believed
 //! sooner where the stream before is silent. Each row was worked by hand.
-use crate::ends::{config, media};
+use crate::ends::{Does, config, media, wrong};
 use endpoint::{Heard, Probation, ReceivingEndpoint};
 use receiver::{Played, ReceiveFault};
 use std::alloc::Global;
@@ -44,17 +44,13 @@ fn start(alloc: Global, silence: Option<u64>) -> Result<ReceivingEndpoint<RingWi
     }
 }
 
-/// Whether each packet, by its number and moment, is what stands beside it.
-fn goes(
-    endpoint: &mut ReceivingEndpoint<RingWindow>,
-    rows: &[(u16, u64, Was)],
-) -> Result<(), Fail> {
-    for (seq, now, was) in rows {
-        if told(endpoint.on_datagram(media(*seq, 0).as_slice(), *now)) != *was {
-            return Err(Fail::from("a packet was something else"));
-        }
+/// A packet, by its number and moment, and what it is.
+type Row = (u16, u64, Was);
+
+impl Does<Row> for ReceivingEndpoint<RingWindow> {
+    fn does(&mut self, (seq, now, was): &Row) -> bool {
+        told(self.on_datagram(media(*seq, 0).as_slice(), *now)) == *was
     }
-    Ok(())
 }
 
 /// The place of the packet that a play gave, if it gave one.
@@ -66,147 +62,162 @@ fn place_of(played: Played) -> Option<u64> {
 }
 
 /// Whether plays give these places, and then none.
-fn plays(
-    endpoint: &mut ReceivingEndpoint<RingWindow>,
-    now: u64,
-    places: &[u64],
-) -> Result<(), Fail> {
+fn plays(endpoint: &mut ReceivingEndpoint<RingWindow>, now: u64, places: &[u64]) -> bool {
     for place in places {
         if place_of(endpoint.play(now)) != Some(*place) {
-            return Err(Fail::from("another place"));
+            return false;
         }
     }
-    if place_of(endpoint.play(now)).is_some() {
-        return Err(Fail::from("one more"));
-    }
-    Ok(())
+    place_of(endpoint.play(now)).is_none()
+}
+
+/// The first packet that is something else, if one is, and how many places are missing then. It has what is large, as whatever a test
+/// holds costs its proof.
+fn wrong_row(
+    alloc: Global,
+    silence: Option<u64>,
+    rows: &[Row],
+) -> Result<(Option<usize>, usize), Fail> {
+    let mut endpoint = start(alloc, silence)?;
+    let index = wrong(&mut endpoint, rows);
+    Ok((index, endpoint.core().missing()))
+}
+
+/// The first packet that is something else, if one is, and whether plays give these places then.
+fn wrong_or_played(
+    alloc: Global,
+    rows: &[Row],
+    now: u64,
+    places: &[u64],
+) -> Result<(Option<usize>, bool), Fail> {
+    let mut endpoint = start(alloc, Some(200))?;
+    let index = wrong(&mut endpoint, rows);
+    Ok((index, plays(&mut endpoint, now, places)))
 }
 
 /// Losses and reordering don't end what is held back, and a packet of the living stream does. Once nothing of that one was taken
 /// for 200 milliseconds, two packets are enough.
 #[test]
 fn a_silence(rt: HostRuntime) -> Result<(), Fail> {
-    let mut endpoint = start(rt.alloc(), Some(200))?;
-    goes(
-        &mut endpoint,
-        &[
-            (100, 1000, Media),
-            (50000, 1010, Held(1)),
-            (50002, 1020, Held(2)),
-            (101, 1030, Media),
-            (50003, 1040, Held(1)),
-            (50005, 1229, Held(2)),
-            (50004, 1230, Restarted(3, 2)),
-            (50006, 1231, Media),
-        ],
-    )?;
-    plays(&mut endpoint, 1231, &[115539, 115540, 115541, 115542])
+    const ROWS: &[Row] = &[
+        (100, 1000, Media),
+        (50000, 1010, Held(1)),
+        (50002, 1020, Held(2)),
+        (101, 1030, Media),
+        (50003, 1040, Held(1)),
+        (50005, 1229, Held(2)),
+        (50004, 1230, Restarted(3, 2)),
+        (50006, 1231, Media),
+    ];
+    let places = [115539, 115540, 115541, 115542];
+    assert_eq!(rt;
+        wrong_or_played(rt.alloc(), ROWS, 1231, &places)?,
+        (None, true)
+    );
+    Ok(())
 }
 
 /// The same packets by the rule in sequence: two are enough at any moment, and only if nothing comes between them.
 #[test]
 fn in_sequence(rt: HostRuntime) -> Result<(), Fail> {
-    let mut endpoint = start(rt.alloc(), None)?;
-    goes(
-        &mut endpoint,
-        &[
-            (100, 1000, Media),
-            (20000, 1010, Held(1)),
-            (20002, 1020, Held(1)),
-            (101, 1030, Media),
-            (20003, 1040, Held(1)),
-            (20005, 1229, Held(1)),
-            (20004, 5000, Held(1)),
-            (20005, 5000, Restarted(2, 2)),
-        ],
-    )
+    const ROWS: &[Row] = &[
+        (100, 1000, Media),
+        (20000, 1010, Held(1)),
+        (20002, 1020, Held(1)),
+        (101, 1030, Media),
+        (20003, 1040, Held(1)),
+        (20005, 1229, Held(1)),
+        (20004, 5000, Held(1)),
+        (20005, 5000, Restarted(2, 2)),
+    ];
+    assert_eq!(rt; wrong_row(rt.alloc(), None, ROWS)?.0, None);
+    Ok(())
 }
 
 /// Without a silence four are wanted, ahead and behind alike, and the two that are missing among them are asked for.
 #[test]
 fn no_silence(rt: HostRuntime) -> Result<(), Fail> {
     for far in [20000u16, 60000] {
-        let mut endpoint = start(rt.alloc(), Some(200))?;
-        goes(
-            &mut endpoint,
-            &[
-                (100, 1000, Media),
-                (far, 1001, Held(1)),
-                (far.wrapping_add(2), 1002, Held(2)),
-                (far.wrapping_add(3), 1003, Held(3)),
-                (far.wrapping_add(5), 1004, Restarted(4, 1)),
-            ],
-        )?;
-        assert_eq!(rt; endpoint.core().missing(), 2);
+        let rows = [
+            (100, 1000, Media),
+            (far, 1001, Held(1)),
+            (far.wrapping_add(2), 1002, Held(2)),
+            (far.wrapping_add(3), 1003, Held(3)),
+            (far.wrapping_add(5), 1004, Restarted(4, 1)),
+        ];
+        assert_eq!(rt; wrong_row(rt.alloc(), Some(200), &rows)?, (None, 2));
     }
     Ok(())
+}
+
+/// The number that lies 40000 places behind 0.
+const OLD: u16 = 25536;
+
+/// The first of 999 packets of a living stream, by its index, where it is something else, or where one of the two old ones before it is;
+/// and how often the stream restarted.
+fn disturbed(alloc: Global) -> Result<(Option<usize>, u64), Fail> {
+    let mut endpoint = start(alloc, Some(200))?;
+    let mut index = wrong(&mut endpoint, &[(0, 1000, Media)]);
+    for seq in 1..1000u16 {
+        let now = 1000 + u64::from(seq);
+        let old = OLD.wrapping_add(seq);
+        let _ = endpoint.play(now);
+        let rows = [
+            (old, now, Held(1)),
+            (old.wrapping_add(1), now, Held(2)),
+            (seq, now, Media),
+        ];
+        if index.is_none() && wrong(&mut endpoint, &rows).is_some() {
+            index = Some(usize::from(seq));
+        }
+    }
+    Ok((index, endpoint.counts().restarts))
 }
 
 /// Old packets that come once more, however many: each packet of the living stream ends what they began. Two of them in
 /// sequence, which restart a stream by the other rule where they lie more than half a cycle behind, restart nothing.
 #[test]
 fn a_living_stream(rt: HostRuntime) -> Result<(), Fail> {
-    let mut endpoint = start(rt.alloc(), Some(200))?;
-    let old = 40_000u16.wrapping_neg();
-    goes(&mut endpoint, &[(0, 1000, Media)])?;
-    for index in 1..1000u16 {
-        let now = 1000 + u64::from(index);
-        let _ = endpoint.play(now);
-        goes(
-            &mut endpoint,
-            &[
-                (old.wrapping_add(index), now, Held(1)),
-                (old.wrapping_add(index).wrapping_add(1), now, Held(2)),
-                (index, now, Media),
-            ],
-        )?;
-    }
-    assert_eq!(rt; endpoint.counts().restarts, 0);
-    let mut other = start(rt.alloc(), None)?;
-    goes(
-        &mut other,
-        &[
-            (0, 1000, Media),
-            (old, 1001, Held(1)),
-            (old.wrapping_add(1), 1001, Restarted(2, 1)),
-        ],
-    )
+    const ROWS: &[Row] = &[
+        (0, 1000, Media),
+        (OLD, 1001, Held(1)),
+        (OLD + 1, 1001, Restarted(2, 1)),
+    ];
+    assert_eq!(rt; disturbed(rt.alloc())?, (None, 0));
+    assert_eq!(rt; wrong_row(rt.alloc(), None, ROWS)?.0, None);
+    Ok(())
 }
 
 /// What is refused, by either receiver, ends nothing: a packet of the stream before that comes twice, and one of what is held back.
 /// It is no sign of life either.
 #[test]
 fn refusals(rt: HostRuntime) -> Result<(), Fail> {
-    let mut endpoint = start(rt.alloc(), Some(200))?;
-    goes(
-        &mut endpoint,
-        &[
-            (100, 1000, Media),
-            (101, 1000, Media),
-            (500, 1001, Held(1)),
-            (101, 1150, Refused(36)),
-            (502, 1151, Held(2)),
-            (502, 1152, Refused(36)),
-            (503, 1200, Restarted(3, 2)),
-        ],
-    )
+    const ROWS: &[Row] = &[
+        (100, 1000, Media),
+        (101, 1000, Media),
+        (500, 1001, Held(1)),
+        (101, 1150, Refused(36)),
+        (502, 1151, Held(2)),
+        (502, 1152, Refused(36)),
+        (503, 1200, Restarted(3, 2)),
+    ];
+    assert_eq!(rt; wrong_row(rt.alloc(), Some(200), ROWS)?.0, None);
+    Ok(())
 }
 
 /// What lies far from what is held back begins anew, and does so again.
 #[test]
 fn another_jump(rt: HostRuntime) -> Result<(), Fail> {
-    let mut endpoint = start(rt.alloc(), Some(200))?;
-    goes(
-        &mut endpoint,
-        &[
-            (100, 1000, Media),
-            (500, 1001, Held(1)),
-            (502, 1002, Held(2)),
-            (9000, 1003, Held(1)),
-            (503, 1004, Held(1)),
-            (504, 1200, Restarted(2, 1)),
-        ],
-    )
+    const ROWS: &[Row] = &[
+        (100, 1000, Media),
+        (500, 1001, Held(1)),
+        (502, 1002, Held(2)),
+        (9000, 1003, Held(1)),
+        (503, 1004, Held(1)),
+        (504, 1200, Restarted(2, 1)),
+    ];
+    assert_eq!(rt; wrong_row(rt.alloc(), Some(200), ROWS)?.0, None);
+    Ok(())
 }
 
 /// How many packets are held back, and after how many milliseconds the stream is heard again: 50 packets a second, of which every so

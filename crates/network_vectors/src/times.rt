@@ -67,6 +67,46 @@ fn plays<W: Window>(alloc: Global, receiver: &mut Receiver<W>) -> Result<Vec<(u6
     Ok(plays)
 }
 
+/// What comes of times that are set at moment 30. It is small, since whatever a test holds costs its proof.
+#[derive(Drop)]
+struct Changed {
+    /// The number of the refusal, or 0.
+    refusal: u8,
+    /// Patience, delay and retry.
+    times: (u64, u64, u64),
+    /// What is missing, of the numbers 2 and 4.
+    missing: [Option<(u64, u8, u64)>; 2],
+    asks: Vec<(u64, u16)>,
+    plays: Vec<(u64, bool)>,
+}
+
+/// Sets these times, and then asks or plays.
+fn set(
+    alloc: Global,
+    (patience, delay, retry): (u64, u64, u64),
+    is_played: bool,
+) -> Result<Changed, Fail> {
+    let mut receiver = asked_once(alloc)?;
+    let refusal = match receiver.set_times(patience, delay, retry) {
+        Ok(()) => 0,
+        Err(fault) => fault.number(),
+    };
+    let now = receiver.config();
+    let missing = [missing(&receiver, 2), missing(&receiver, 4)];
+    let (asks, plays) = if is_played {
+        (Vec::new(alloc), plays(alloc, &mut receiver)?)
+    } else {
+        (asks(alloc, &mut receiver)?, Vec::new(alloc))
+    };
+    Ok(Changed {
+        refusal,
+        times: (now.patience(), now.delay(), now.retry()),
+        missing,
+        asks,
+        plays,
+    })
+}
+
 /// Number 2 was asked for at moment 10, and is asked for twice more; number 4 was noticed at moment 30.
 #[test]
 fn a_retry_and_a_delay_that_are_set(rt: HostRuntime) -> Result<(), Fail> {
@@ -77,17 +117,10 @@ fn a_retry_and_a_delay_that_are_set(rt: HostRuntime) -> Result<(), Fail> {
         (25, 20, &[(30, 2), (50, 2), (55, 4), (75, 4), (95, 4)]),
     ];
     for (delay, retry, wanted) in rows {
-        let mut receiver = asked_once(rt.alloc())?;
-        assert!(rt; receiver.set_times(100, delay, retry).is_ok());
-        let now = receiver.config();
-        assert_eq!(rt;
-            (now.patience(), now.delay(), now.retry()),
-            (100, delay, retry)
-        );
-        let told = (missing(&receiver, 2), missing(&receiver, 4));
-        assert_eq!(rt; told, (Some((10, 1, 10)), Some((30, 0, 0))));
-        let asks = asks(rt.alloc(), &mut receiver)?;
-        assert_eq!(rt; asks.as_slice(), wanted);
+        let set = set(rt.alloc(), (100, delay, retry), false)?;
+        assert_eq!(rt; (set.refusal, set.times), (0, (100, delay, retry)));
+        assert_eq!(rt; set.missing, [Some((10, 1, 10)), Some((30, 0, 0))]);
+        assert_eq!(rt; set.asks.as_slice(), wanted);
     }
     Ok(())
 }
@@ -102,10 +135,9 @@ fn a_patience_that_is_set(rt: HostRuntime) -> Result<(), Fail> {
         (1000, &[]),
     ];
     for (patience, wanted) in rows {
-        let mut receiver = asked_once(rt.alloc())?;
-        assert!(rt; receiver.set_times(patience, 0, 20).is_ok());
-        let plays = plays(rt.alloc(), &mut receiver)?;
-        assert_eq!(rt; plays.as_slice(), wanted);
+        let set = set(rt.alloc(), (patience, 0, 20), true)?;
+        assert_eq!(rt; set.refusal, 0);
+        assert_eq!(rt; set.plays.as_slice(), wanted);
     }
     Ok(())
 }
@@ -113,13 +145,8 @@ fn a_patience_that_is_set(rt: HostRuntime) -> Result<(), Fail> {
 /// It works as before.
 #[test]
 fn a_retry_of_nothing_is_refused(rt: HostRuntime) -> Result<(), Fail> {
-    let mut receiver = asked_once(rt.alloc())?;
-    let before = receiver.config();
-    match receiver.set_times(0, 0, 0) {
-        Ok(()) => return Err(Fail::from("a refusal")),
-        Err(fault) => assert_eq!(rt; fault.number(), 53),
-    }
-    assert!(rt; receiver.config() == before);
-    assert_eq!(rt; asks(rt.alloc(), &mut receiver)?.len(), 5);
+    let set = set(rt.alloc(), (0, 0, 0), false)?;
+    assert_eq!(rt; (set.refusal, set.times), (53, (100, 0, 20)));
+    assert_eq!(rt; set.asks.len(), 5);
     Ok(())
 }
