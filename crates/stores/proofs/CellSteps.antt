@@ -4,7 +4,6 @@ use Rattle.std.proofs.Common.{◌≡◌, ℕ, zero, suc, ◌+◌, ◌<◌, ◌�
 use Rattle.std.specs.Prelude.{IsSomeAnd}
 use Rattle.std.specs.Option.{option_map}
 use Rattle.std.proofs.lemmas.List.{map-set, drop-map}
-use Rattle.std.proofs.lemmas.Bool.Decides.{nat_tests}
 use Rattle.std.proofs.lemmas.Option.{slice_get-map}
 use Rattle.circular_buffer.specs.Buffer.{Buffer, buffer}
 use Rattle.rtpwire.specs.declared.content.Content.{Content}
@@ -13,14 +12,15 @@ use Rattle.stores.specs.declared.cell.Cell.TheVariants.{Taken, Unseen}
 use Rattle.stores.specs.declared.slot.Slot.{Slot}
 use Rattle.stores.specs.declared.slot.Slot.TheVariants.{Missing}
 use Rattle.stores.specs.Asking.{is_missing, CanBeAsked, asked_at}
-use Rattle.stores.specs.Pool.{slot_in, slots_in, numbers_of, times, IsPool, AreSlots, freed, CanCellBeAsked, asked_cell}
-use Rattle.stores.proofs.Pooled.{pool_missing, pool_freed, pool_passed, pool_dropped, pool_asked}
+use Rattle.stores.specs.Pool.{slot_in, slots_in, numbers_of, IsPool, AreSlots, freed, CanCellBeAsked, asked_cell}
+use Rattle.stores.proofs.Numbers.{no_numbers}
+use Rattle.stores.proofs.Pooled.{pool_count, pool_missing, pool_freed, pool_passed, pool_dropped, pool_asked}
 use Rattle.stores.proofs.Filling.{same_pool, same_buffers, slot_count, Leaves}
 
 -- no cells and no buffers
 empty_pool : IsPool [] [] []
-unfolding numbers_of times
-empty_pool = record { once = λ n. grind (arith, nat_tests); all = refl }
+unfolding numbers_of
+empty_pool = no_numbers
 
 pub empty_slots : (ring : Buffer Cell) (contents : List Content) (free : List ℕ) (capacity most free_most : ℕ) → ring ≡ buffer [] capacity → contents ≡ [] → free ≡ [] → capacity ≤ 8192 → capacity ≤ most → capacity ≤ free_most
     → AreSlots ring contents free most free_most
@@ -157,7 +157,7 @@ pub room_to_free : (cells : List Cell) (contents : List Content) (free : List �
 unfolding numbers_of
 room_to_free [] contents free n is found = absurd cc
 room_to_free (Unseen a b c ∷ cells) contents free n is found = absurd cc
-room_to_free (Taken m ∷ cells) contents free n is found = let all = is.all in omega arith
+room_to_free (Taken m ∷ cells) contents free n is found = let all = pool_count (Taken m ∷ cells) contents free is in omega arith
 
 -- a cell whose place was not taken
 pub record UnseenAt (cells : List Cell) (i : ℕ) : Type 0 where

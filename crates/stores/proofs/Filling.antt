@@ -9,7 +9,7 @@ use Rattle.stores.specs.declared.cell.Cell.TheVariants.{Taken, Unseen}
 use Rattle.stores.specs.declared.slot.Slot.{Slot}
 use Rattle.stores.specs.declared.slot.Slot.TheVariants.{Held}
 use Rattle.stores.specs.Pool.{slot_in, slots_in, numbers_of, IsPool, AreSlots, grown_contents, grown_free}
-use Rattle.stores.proofs.Pooled.{pool_grown, slots_grown, pool_append, slots_append, pool_set, slots_set, held_le, held_lt, free_known}
+use Rattle.stores.proofs.Pooled.{pool_count, pool_grown, slots_grown, pool_append, slots_append, pool_set, slots_set, held_le, held_lt, free_known}
 
 pub same_pool : (cells cells' : List Cell) (contents contents' : List Content) (free free' : List ℕ) → cells' ≡ cells → contents' ≡ contents → free' ≡ free → IsPool cells contents free → IsPool cells' contents' free'
 same_pool cells cells' contents contents' free free' a b c is =
@@ -25,10 +25,10 @@ slot_count contents cells = length-map cells (slot_in contents)
 
 -- where no buffer is free, there are as many as held places
 pub all_used : (cells : List Cell) (contents : List Content) (free : List ℕ) → IsPool cells contents free → free ≡ [] → length contents ≡ length (numbers_of cells)
-all_used cells contents free is none = let all = is.all in let empty = ap length none in omega (arith, all, empty)
+all_used cells contents free is none = let all = pool_count cells contents free is in let empty = ap length none in omega (arith, all, empty)
 
 grown_few : (cells : List Cell) (contents : List Content) (free : List ℕ) (k : ℕ) → IsPool cells contents free → length contents ≤ k → length (numbers_of cells) < k → length (grown_contents contents free) ≤ k
-grown_few cells contents [] k is few room = let all = is.all in let longer = length-append contents (blank_content ∷ []) in omega (arith, all, longer, room)
+grown_few cells contents [] k is few room = let all = pool_count cells contents [] is in let longer = length-append contents (blank_content ∷ []) in omega (arith, all, longer, room)
 grown_few cells contents (n ∷ free) k is few room = few
 
 -- the free numbers, once there is one, are those of buffers

@@ -20,8 +20,9 @@ pub mod BitMoves
 pub mod SetOfItems
 pub mod EntryIndex
 pub mod MissingIndex
+pub mod Numbers
 pub mod Pooled
-pub mod Begun
+pub mod EntryNumbers
 pub mod Filling
 pub mod CellSteps
 pub mod Determined

@@ -1,6 +1,5 @@
 -- Cells, the buffers of their contents and the free ones, when a buffer is used or freed.
-use Rattle.std.proofs.Common.{◌≡◌, ◌≢◌, ℕ, zero, suc, ◌+◌, ◌<◌, ◌≤◌, ◌==◌, ◌++◌, List, [], ◌∷◌, length, take, drop, get_or, slice_get, slice_set, nat_lt, Some, All, ap, sym, ◌∙◌, refl, arith, length-append, length-set, append-nil, append_assoc}
-use Rattle.std.specs.Prelude.{if◌then◌else◌}
+use Rattle.std.proofs.Common.{◌≡◌, ◌≢◌, ℕ, zero, suc, ◌+◌, ◌<◌, ◌≤◌, ◌++◌, List, [], ◌∷◌, length, take, drop, get_or, slice_get, slice_set, Some, All, ap, sym, subst, ◌∙◌, refl, arith, length-append, length-set, append-nil, append_assoc}
 use Rattle.std.proofs.lemmas.Bool.Decides.{nat_tests}
 use Rattle.std.proofs.lemmas.List.{take-append-drop, map-append, map-set, get_or-set_same, get_or-set_other}
 use Rattle.std.proofs.lemmas.List.Elements.{All-from_get_or}
@@ -11,38 +10,9 @@ use Rattle.stores.specs.declared.cell.Cell.{Cell}
 use Rattle.stores.specs.declared.cell.Cell.TheVariants.{Taken, Unseen}
 use Rattle.stores.specs.declared.slot.Slot.{Slot}
 use Rattle.stores.specs.declared.slot.Slot.TheVariants.{Held}
-use Rattle.stores.specs.Pool.{slot_in, slots_in, numbers_of, times, IsPool, grown_contents, grown_free, freed}
-
--- numbers among others
-
-times_append : (n : ℕ) (xs ys : List ℕ) → times n (xs ++ ys) ≡ times n xs + times n ys
-unfolding times
-times_append n [] ys = omega arith
-times_append n (x ∷ xs) ys = omega (arith, times_append n xs ys)
-
-times_item : (xs : List ℕ) (i : ℕ) → i < length xs → 0 < times (get_or xs i 0) xs
-unfolding times
-times_item [] i within = absurd (omega arith)
-times_item (x ∷ xs) zero within = grind (arith, nat_tests)
-times_item (x ∷ xs) (suc i) within = let rest = times_item xs i (omega arith) in omega arith
-
-times_one : (n m : ℕ) (xs : List ℕ) → times n (m ∷ xs) ≡ (if m == n then 1 else 0) + times n xs
-unfolding times
-times_one n m xs = refl
-
-times_self : (n : ℕ) → times n (n ∷ []) ≡ 1
-unfolding times
-times_self n = grind (arith, nat_tests)
-
-below_some : (n k : ℕ) → 0 < (if nat_lt n k then 1 else 0) → n < k
-below_some n k some = grind (arith, nat_tests)
-
-below_one : (n k : ℕ) → (if nat_lt n k then 1 else 0) ≤ 1
-below_one n k = grind (arith, nat_tests)
-
-below_more : (n k : ℕ) → (if nat_lt n (k + 1) then 1 else 0) ≡ (if nat_lt n k then 1 else 0) + times n (k ∷ [])
-unfolding times
-below_more n k = grind (arith, nat_tests)
+use Rattle.stores.specs.Numbers.{times, AreNumbers}
+use Rattle.stores.specs.Pool.{slot_in, slots_in, numbers_of, IsPool, grown_contents, grown_free, freed}
+use Rattle.stores.proofs.Numbers.{times_append, times_item, times_self, number_below, number_once, numbers_more, numbers_moved}
 
 -- numbers of cells
 
@@ -116,14 +86,18 @@ times_of_cell (Unseen a b c ∷ cells) (suc i) n found = times_of_cell cells i n
 pub cell_known : (cells : List Cell) (contents : List Content) (free : List ℕ) (i n : ℕ) → IsPool cells contents free → slice_get cells i ≡ Some (Taken n) → n < length contents
 cell_known cells contents free i n is found =
     let some = times_of_cell cells i n found in
-    let once = is.once n in
-    below_some n (length contents) (omega arith)
+    let joined = times_append n (numbers_of cells) free in
+    number_below (numbers_of cells ++ free) (length contents) n is (omega arith)
 
 pub free_known : (cells : List Cell) (contents : List Content) (free : List ℕ) → IsPool cells contents free → All (λ n. n < length contents) free
 free_known cells contents free is = All-from_get_or (λ n. n < length contents) free 0 (λ i within.
     let some = times_item free i within in
-    let once = is.once (get_or free i 0) in
-    below_some (get_or free i 0) (length contents) (omega arith))
+    let joined = times_append (get_or free i 0) (numbers_of cells) free in
+    number_below (numbers_of cells ++ free) (length contents) (get_or free i 0) is (omega arith))
+
+-- as many as buffers
+pub pool_count : (cells : List Cell) (contents : List Content) (free : List ℕ) → IsPool cells contents free → length (numbers_of cells) + length free ≡ length contents
+pool_count cells contents free is = sym (length-append (numbers_of cells) free) ∙ is.all
 
 -- a buffer more
 
@@ -147,14 +121,8 @@ slots_grown contents (n ∷ free) cells = refl
 pub pool_grown : (cells : List Cell) (contents : List Content) (free : List ℕ) → IsPool cells contents free → IsPool cells (grown_contents contents free) (grown_free contents free)
 pool_grown cells contents [] is =
     let longer : length (contents ++ blank_content ∷ []) ≡ length contents + 1 = length-append contents (blank_content ∷ []) in
-    record {
-      once = λ n. let before = is.once n in
-          let none = times_append n [] [] in
-          let more = below_more n (length contents) in
-          let after : times n (numbers_of cells) + times n (length contents ∷ []) ≡ (if nat_lt n (length contents + 1) then 1 else 0) = omega (arith, before, more, none) in
-          after ∙ ap (λ k. if nat_lt n k then 1 else 0) (sym longer);
-      all = let before = is.all in omega arith;
-    }
+    let used : AreNumbers (numbers_of cells) (length contents) = subst (λ ns. AreNumbers ns (length contents)) (append-nil (numbers_of cells)) is in
+    subst (λ k. AreNumbers (numbers_of cells ++ length contents ∷ []) k) (sym longer) (numbers_more (numbers_of cells) (length contents) used)
 pool_grown cells contents (n ∷ free) is = is
 
 pub grown_some : (contents : List Content) (free : List ℕ) → 0 < length (grown_free contents free)
@@ -166,18 +134,18 @@ grown_some contents (n ∷ free) = omega arith
 -- no cell has a number that is free
 unused : (cells : List Cell) (contents : List Content) (free : List ℕ) (n : ℕ) → IsPool cells contents (free ++ n ∷ []) → times n (numbers_of cells) ≡ 0
 unused cells contents free n is =
-    let once = is.once n in
+    let once = number_once (numbers_of cells ++ (free ++ n ∷ [])) (length contents) n is in
+    let joined = times_append n (numbers_of cells) (free ++ n ∷ []) in
     let apart = times_append n free (n ∷ []) in
     let self = times_self n in
-    let most = below_one n (length contents) in
     omega arith
 
 is_there : (cells : List Cell) (contents : List Content) (free : List ℕ) (n : ℕ) → IsPool cells contents (free ++ n ∷ []) → n < length contents
 is_there cells contents free n is =
-    let once = is.once n in
+    let joined = times_append n (numbers_of cells) (free ++ n ∷ []) in
     let apart = times_append n free (n ∷ []) in
     let self = times_self n in
-    below_some n (length contents) (omega arith)
+    number_below (numbers_of cells ++ (free ++ n ∷ [])) (length contents) n is (omega arith)
 
 -- what a buffer holds that no cell has changes no slot
 slots_filled : (contents : List Content) (n : ℕ) (content : Content) (cells : List Cell) → times n (numbers_of cells) ≡ 0
@@ -195,23 +163,32 @@ slots_filled contents n content (Unseen a b c ∷ cells) none =
 filled_there : (contents : List Content) (n : ℕ) (content : Content) → n < length contents → slot_in (slice_set contents n content) (Taken n) ≡ Held content
 filled_there contents n content there = ap Held (get_or-set_same contents n content blank_content there)
 
+-- the last free number goes to cells, wherever it stands among them
+number_taken : (cells cells₂ : List Cell) (contents : List Content) (free : List ℕ) (n : ℕ) (content : Content) → ((m : ℕ) → times m (numbers_of cells₂) ≡ times m (n ∷ []) + times m (numbers_of cells))
+    → length (numbers_of cells₂) ≡ 1 + length (numbers_of cells) → IsPool cells contents (free ++ n ∷ []) → IsPool cells₂ (slice_set contents n content) free
+number_taken cells cells₂ contents free n content more one_more is =
+    subst (λ k. AreNumbers (numbers_of cells₂ ++ free) k) (sym (length-set contents n content))
+    (numbers_moved (numbers_of cells ++ (free ++ n ∷ [])) (numbers_of cells₂ ++ free) (length contents)
+    (λ m.
+    let here = more m in
+    let now = times_append m (numbers_of cells₂) free in
+    let before = times_append m (numbers_of cells) (free ++ n ∷ []) in
+    let apart = times_append m free (n ∷ []) in
+    omega (arith, here, now, before, apart))
+    (let now = length-append (numbers_of cells₂) free in
+    let before = length-append (numbers_of cells) (free ++ n ∷ []) in
+    let apart = length-append free (n ∷ []) in
+    omega (arith, one_more, now, before, apart))
+    is)
+
 pub pool_append : (cells : List Cell) (contents : List Content) (free : List ℕ) (n : ℕ) (content : Content) → IsPool cells contents (free ++ n ∷ [])
     → IsPool (cells ++ Taken n ∷ []) (slice_set contents n content) free
 pool_append cells contents free n content is =
     let numbers : numbers_of (cells ++ Taken n ∷ []) ≡ numbers_of cells ++ n ∷ [] = numbers_append cells (Taken n ∷ []) ∙ ap (λ (ns : List ℕ). numbers_of cells ++ ns) (numbers_taken n) in
-    let size : length (slice_set contents n content) ≡ length contents = length-set contents n content in
-    record {
-      once = λ m.
-          let before = is.once m in
-          let apart = times_append m free (n ∷ []) in
-          let joined = times_append m (numbers_of cells) (n ∷ []) in
-          ap (λ (ns : List ℕ). times m ns + times m free) numbers ∙ omega (arith, before, apart, joined) ∙ ap (λ k. if nat_lt m k then 1 else 0) (sym size);
-      all =
-          let before = is.all in
-          let apart = length-append free (n ∷ []) in
-          let joined = ap length numbers ∙ length-append (numbers_of cells) (n ∷ []) in
-          omega arith;
-    }
+    number_taken cells (cells ++ Taken n ∷ []) contents free n content
+    (λ m. let joined = times_append m (numbers_of cells) (n ∷ []) in ap (times m) numbers ∙ omega (arith, joined))
+    (let joined = length-append (numbers_of cells) (n ∷ []) in ap length numbers ∙ omega (arith, joined))
+    is
 
 pub slots_append : (cells : List Cell) (contents : List Content) (free : List ℕ) (n : ℕ) (content : Content) → IsPool cells contents (free ++ n ∷ [])
     → slots_in (slice_set contents n content) (cells ++ Taken n ∷ []) ≡ slots_in contents cells ++ Held content ∷ []
@@ -223,19 +200,7 @@ slots_append cells contents free n content is =
 pub pool_set : (cells : List Cell) (contents : List Content) (free : List ℕ) (i n noticed asks last : ℕ) (content : Content) → slice_get cells i ≡ Some (Unseen noticed asks last)
     → IsPool cells contents (free ++ n ∷ []) → IsPool (slice_set cells i (Taken n)) (slice_set contents n content) free
 pool_set cells contents free i n noticed asks last content found is =
-    let size : length (slice_set contents n content) ≡ length contents = length-set contents n content in
-    record {
-      once = λ m.
-          let before = is.once m in
-          let apart = times_append m free (n ∷ []) in
-          let more = times_set cells i n m noticed asks last found in
-          omega (arith, before, apart, more) ∙ ap (λ k. if nat_lt m k then 1 else 0) (sym size);
-      all =
-          let before = is.all in
-          let apart = length-append free (n ∷ []) in
-          let more = count_set cells i n noticed asks last found in
-          omega arith;
-    }
+    number_taken cells (slice_set cells i (Taken n)) contents free n content (λ m. times_set cells i n m noticed asks last found) (count_set cells i n noticed asks last found) is
 
 pub slots_set : (cells : List Cell) (contents : List Content) (free : List ℕ) (i n : ℕ) (content : Content) → IsPool cells contents (free ++ n ∷ [])
     → slots_in (slice_set contents n content) (slice_set cells i (Taken n)) ≡ slice_set (slots_in contents cells) i (Held content)
@@ -246,28 +211,38 @@ slots_set cells contents free i n content is =
 
 -- the first cell goes
 
+-- numbers that cells had are free
+numbers_freed : (numbers left free : List ℕ) (count : ℕ) → AreNumbers ((numbers ++ left) ++ free) count → AreNumbers (left ++ (free ++ numbers)) count
+numbers_freed numbers left free count are =
+    numbers_moved ((numbers ++ left) ++ free) (left ++ (free ++ numbers)) count
+    (λ m.
+    let a = times_append m (numbers ++ left) free in
+    let b = times_append m numbers left in
+    let c = times_append m left (free ++ numbers) in
+    let d = times_append m free numbers in
+    omega (arith, a, b, c, d))
+    (let a = length-append (numbers ++ left) free in
+    let b = length-append numbers left in
+    let c = length-append left (free ++ numbers) in
+    let d = length-append free numbers in
+    omega (arith, a, b, c, d))
+    are
+
 pub pool_freed : (cells : List Cell) (contents : List Content) (free : List ℕ) (n : ℕ) → slice_get cells 0 ≡ Some (Taken n) → IsPool cells contents free
     → IsPool (drop 1 cells) contents (free ++ n ∷ [])
-unfolding numbers_of times
+unfolding numbers_of
 pool_freed [] contents free n found is = absurd cc
 pool_freed (Unseen a b c ∷ cells) contents free n found is = absurd cc
 pool_freed (Taken m ∷ cells) contents free n found is =
     let same : m ≡ n = cc in
-    record {
-      once = λ k.
-          let before = is.once k in
-          let apart = times_append k free (n ∷ []) in
-          let one = ap (λ j. times k (j ∷ [])) same in
-          omega arith;
-      all = let before = is.all in let apart = length-append free (n ∷ []) in omega arith;
-    }
+    subst (λ k. AreNumbers (numbers_of cells ++ (free ++ k ∷ [])) (length contents)) same (numbers_freed (m ∷ []) (numbers_of cells) free (length contents) is)
 
 pub pool_passed : (cells : List Cell) (contents : List Content) (free : List ℕ) (noticed asks last : ℕ) → slice_get cells 0 ≡ Some (Unseen noticed asks last) → IsPool cells contents free
     → IsPool (drop 1 cells) contents free
 unfolding numbers_of
 pool_passed [] contents free noticed asks last found is = absurd cc
 pool_passed (Taken m ∷ cells) contents free noticed asks last found is = absurd cc
-pool_passed (Unseen a b c ∷ cells) contents free noticed asks last found is = record { once = is.once; all = is.all }
+pool_passed (Unseen a b c ∷ cells) contents free noticed asks last found is = is
 
 -- the first cells go
 
@@ -276,24 +251,13 @@ cells_apart n cells = ap numbers_of (sym (take-append-drop n cells)) ∙ numbers
 
 pub pool_dropped : (cells : List Cell) (contents : List Content) (free : List ℕ) (n : ℕ) → IsPool cells contents free → IsPool (drop n cells) contents (free ++ numbers_of (take n cells))
 pool_dropped cells contents free n is =
-    let apart = cells_apart n cells in
-    record {
-      once = λ m.
-          let before = is.once m in
-          let all = ap (times m) apart ∙ times_append m (numbers_of (take n cells)) (numbers_of (drop n cells)) in
-          let more = times_append m free (numbers_of (take n cells)) in
-          omega arith;
-      all =
-          let before = is.all in
-          let whole = ap length apart ∙ length-append (numbers_of (take n cells)) (numbers_of (drop n cells)) in
-          let more = length-append free (numbers_of (take n cells)) in
-          omega arith;
-    }
+    numbers_freed (numbers_of (take n cells)) (numbers_of (drop n cells)) free (length contents)
+    (subst (λ ns. AreNumbers (ns ++ free) (length contents)) (cells_apart n cells) is)
 
 -- there is room for their numbers
 pub room_to_free_many : (cells : List Cell) (contents : List Content) (free : List ℕ) (n : ℕ) → IsPool cells contents free → length free + length (numbers_of (take n cells)) ≤ length contents
 room_to_free_many cells contents free n is =
-    let all = is.all in
+    let all = pool_count cells contents free is in
     let whole = ap length (cells_apart n cells) ∙ length-append (numbers_of (take n cells)) (numbers_of (drop n cells)) in
     omega arith
 
@@ -340,10 +304,9 @@ pub pool_missing : (cells : List Cell) (contents : List Content) (free : List �
 pool_missing cells contents free noticed asks last is =
     let same : numbers_of (cells ++ Unseen noticed asks last ∷ []) ≡ numbers_of cells =
     numbers_append cells (Unseen noticed asks last ∷ []) ∙ ap (λ (ns : List ℕ). numbers_of cells ++ ns) (numbers_unseen noticed asks last) ∙ append-nil (numbers_of cells) in
-    record { once = λ n. ap (λ (ns : List ℕ). times n ns + times n free) same ∙ is.once n; all = ap (λ (ns : List ℕ). length ns + length free) same ∙ is.all }
+    subst (λ ns. AreNumbers (ns ++ free) (length contents)) (sym same) is
 
 pub pool_asked : (cells : List Cell) (contents : List Content) (free : List ℕ) (i noticed asks last noticed' asks' last' : ℕ) → slice_get cells i ≡ Some (Unseen noticed asks last)
     → IsPool cells contents free → IsPool (slice_set cells i (Unseen noticed' asks' last')) contents free
 pool_asked cells contents free i noticed asks last noticed' asks' last' found is =
-    let same = numbers_asked cells i noticed asks last noticed' asks' last' found in
-    record { once = λ n. ap (λ (ns : List ℕ). times n ns + times n free) same ∙ is.once n; all = ap (λ (ns : List ℕ). length ns + length free) same ∙ is.all }
+    subst (λ ns. AreNumbers (ns ++ free) (length contents)) (sym (numbers_asked cells i noticed asks last noticed' asks' last' found)) is

@@ -10,5 +10,6 @@ pub mod PastByPlace
 pub mod Bits
 pub mod Index
 pub mod Lent
+pub mod Numbers
 pub mod Pool
 pub mod Entries

@@ -1,6 +1,6 @@
 -- How a ring window keeps its slots: cells that are small, and contents in buffers. A cell of a place that is held has the
 -- number of its content's buffer; the numbers that no cell has are free.
-use Rattle.std.specs.Prelude.{◌≡◌, ℕ, ◌+◌, ◌<◌, ◌≤◌, ◌==◌, List, [], ◌∷◌, ◌++◌, length, map, get_or, Option, Some, None, if◌then◌else◌, nat_lt}
+use Rattle.std.specs.Prelude.{ℕ, ◌+◌, ◌<◌, ◌≤◌, List, [], ◌∷◌, ◌++◌, length, map, get_or, Option, Some, None}
 use Rattle.circular_buffer.specs.Buffer.{Buffer}
 use Rattle.rtpwire.specs.declared.content.Content.{Content}
 use Rattle.rtpwire.specs.Content.{blank_content}
@@ -8,6 +8,7 @@ use Rattle.stores.specs.declared.cell.Cell.{Cell}
 use Rattle.stores.specs.declared.cell.Cell.TheVariants.{Taken, Unseen}
 use Rattle.stores.specs.declared.slot.Slot.{Slot}
 use Rattle.stores.specs.declared.slot.Slot.TheVariants.{Held, Missing}
+use Rattle.stores.specs.Numbers.{AreNumbers}
 
 -- the slot that a cell is
 abbrev pub slot_in : List Content → Cell → Slot
@@ -23,16 +24,10 @@ numbers_of [] = []
 numbers_of (Taken number ∷ cells) = number ∷ numbers_of cells
 numbers_of (Unseen noticed asks last ∷ cells) = numbers_of cells
 
--- how often a number is among others
-unfoldable pub times : ℕ → List ℕ → ℕ
-times n [] = 0
-times n (m ∷ numbers) = (if m == n then 1 else 0) + times n numbers
-
 -- Each buffer is one cell's or free, and no more than one of these: the numbers of the cells and the free ones are together
--- those of the buffers, each once.
-pub record IsPool (cells : List Cell) (contents : List Content) (free : List ℕ) : Type 0 where
-  pub once : (n : ℕ) → times n (numbers_of cells) + times n free ≡ (if nat_lt n (length contents) then 1 else 0)
-  pub all : length (numbers_of cells) + length free ≡ length contents
+-- those of the buffers.
+abbrev pub IsPool : List Cell → List Content → List ℕ → Type 0
+IsPool cells contents free = AreNumbers (numbers_of cells ++ free) (length contents)
 
 -- What is true of the slots of every ring window. There is memory for as many buffers, and free numbers, as cells.
 pub record AreSlots (cells : Buffer Cell) (contents : List Content) (free : List ℕ) (contents_most free_most : ℕ) : Type 0 where

@@ -2,11 +2,12 @@
 ghost use Rattle.std.specs.Prelude.{◌≡◌, ◌+◌, ◌-◌, ◌<◌, ◌≤◌, [], ◌∷◌, ◌++◌, length, drop, slice_get, slice_set, IfOk, Some, IsSomeAnd};
 ghost use Rattle.std.specs.Vec.{vec_capacity};
 ghost use Rattle.circular_buffer.specs.Buffer.{buffer};
-ghost use Rattle.stores.specs.Bits.{turned};
 ghost use Rattle.stores.specs.Past.{fresh, marked, unmarked, repeated, CanBeRepeated};
 
 use crate::entry::HistoryEntry;
 use crate::memory::OutOfMemory;
+use crate::ring::append;
+use circular_buffer::HeapCircularBuffer;
 use places::Place;
 use rtpwire::{Carried, Content};
 use std::alloc::Global;
@@ -14,25 +15,27 @@ use std::marker::Model;
 
 /// Entries in a ring, whose memory is reserved once. Where there are as many as there may be, a new one is written over
 /// the oldest. A contract sees them as a list, the oldest first.
+///
+/// What lies in the ring are their numbers: those are moved, and no entry is. A list of free numbers, as a ring window has
+/// one, would be empty always, since an entry goes only where the next one takes its number.
 #[derive(Debug, Drop)]
 pub struct Entries {
     list: Vec<HistoryEntry>,
-    // Where in the list the oldest one lies. The last one of the list is followed by the first.
-    start: usize,
-    capacity: usize,
+    // Which one of the list each entry is, the oldest first.
+    order: HeapCircularBuffer<u16>,
 }
 
 impl Model for Entries {
     ghost use Rattle.std.specs.Vec.{vec_capacity};
     ghost use Rattle.circular_buffer.specs.Buffer.{Buffer, buffer};
     ghost use Rattle.stores.specs.declared.entry.HistoryEntry.{HistoryEntry};
-    ghost use Rattle.stores.specs.Entries.{AreEntries, begun_at};
+    ghost use Rattle.stores.specs.Entries.{AreEntries, entries_in};
 
     ghost Value = { Buffer HistoryEntry };
 
-    ghost view = { λ s. buffer (begun_at s.start s.list.items) s.capacity };
+    ghost view = { λ s. buffer (entries_in s.list.items s.order.items) s.order.capacity };
 
-    ghost invariant = { λ s. AreEntries s.list.items s.start s.capacity (vec_capacity s.list) };
+    ghost invariant = { λ s. AreEntries s.order s.list.items (vec_capacity s.list) };
 }
 
 impl Entries {
@@ -45,11 +48,8 @@ impl Entries {
         ensures { IfOk result (λ entries. entries ≡ buffer [] capacity) }
     {
         let list = Vec::with_capacity(alloc, capacity)?;
-        Ok(Entries {
-            list,
-            start: 0,
-            capacity,
-        })
+        let order = HeapCircularBuffer::with_capacity(alloc, capacity)?;
+        Ok(Entries { list, order })
     }
 
     /// How many entries there are.
@@ -57,14 +57,14 @@ impl Entries {
         ensures len { result ≡ length self.now.items }
         ensures within { result ≤ self.now.capacity }
     {
-        self.list.len()
+        self.order.len()
     }
 
     /// How many there may be.
     pub fn capacity(&self) -> usize
         ensures { result ≡ self.now.capacity }
     {
-        self.capacity
+        self.order.capacity()
     }
 
     /// The entry at this index, counted from the oldest.
@@ -72,7 +72,7 @@ impl Entries {
         requires { index < length self.now.items }
         ensures { slice_get self.now.items index ≡ Some result.now }
     {
-        let at = turned(self.start, self.list.len(), index);
+        let at = number_at(&self.order, index);
         &self.list[at]
     }
 
@@ -82,7 +82,7 @@ impl Entries {
         ensures { IsSomeAnd (slice_get self.old.items index)
             (λ entry. self.new ≡ buffer (slice_set self.old.items index (marked entry)) self.old.capacity) }
     {
-        let at = turned(self.start, self.list.len(), index);
+        let at = number_at(&self.order, index);
         self.list[at].marked = true;
     }
 
@@ -92,7 +92,7 @@ impl Entries {
         ensures { IsSomeAnd (slice_get self.old.items index)
             (λ entry. self.new ≡ buffer (slice_set self.old.items index (unmarked entry)) self.old.capacity) }
     {
-        let at = turned(self.start, self.list.len(), index);
+        let at = number_at(&self.order, index);
         self.list[at].marked = false;
     }
 
@@ -103,7 +103,7 @@ impl Entries {
         ensures { IsSomeAnd (slice_get self.old.items index)
             (λ entry. self.new ≡ buffer (slice_set self.old.items index (repeated entry)) self.old.capacity) }
     {
-        let at = turned(self.start, self.list.len(), index);
+        let at = number_at(&self.order, index);
         let entry = &mut self.list[at];
         entry.repeats += 1;
         entry.marked = false;
@@ -114,29 +114,23 @@ impl Entries {
     pub fn push(&mut self, place: Place, carried: &Carried<'_>)
         ensures { self.new ≡ buffer (drop (length self.old.items + 1 - self.old.capacity) self.old.items ++ fresh place carried.now ∷ []) self.old.capacity }
     {
-        if self.list.len() < self.capacity {
+        if self.list.len() < self.order.capacity() {
+            append(&mut self.order, self.list.len() as u16);
             add(&mut self.list, place, carried);
         } else {
-            renew(&mut self.list[self.start], place, carried);
-            self.start = turned(self.start, self.list.len(), 1);
+            let oldest = self.order.pop_front().unwrap();
+            renew(&mut self.list[usize::from(oldest)], place, carried);
+            append(&mut self.order, oldest);
         }
     }
 }
 
-/// The index in a list of so many of what is `index` ahead of the one at `start`, where the last is followed by the
-/// first.
-fn turned(start: usize, len: usize, index: usize) -> usize
-    requires start { start < len }
-    requires index { index ≤ len }
-    requires limit { len ≤ 8192 }
-    ensures at { result ≡ turned len start index }
-    ensures within { result < len }
+/// The number of the entry at this index.
+fn number_at(order: &HeapCircularBuffer<u16>, index: usize) -> usize
+    requires { index < length order.now.items }
+    ensures { slice_get order.now.items index ≡ Some result }
 {
-    if start + index < len {
-        start + index
-    } else {
-        start + index - len
-    }
+    usize::from(*order.get(index).unwrap())
 }
 
 /// Adds an entry to a list that has room. Its content is blanked here, when it is first used, and never again.

@@ -14,6 +14,7 @@ mod list_history;
 mod list_window;
 mod memory;
 mod pool;
+mod ring;
 mod ring_history;
 mod ring_window;
 mod slot;

@@ -13,6 +13,7 @@ ghost use Rattle.stores.specs.Pool.{freed, numbers_of, CanCellBeAsked, asked_cel
 use crate::cell::Cell;
 use crate::memory::OutOfMemory;
 use crate::pool::{fill_free, grow};
+use crate::ring::append;
 use crate::slot::{Slot, SlotRef};
 use circular_buffer::HeapCircularBuffer;
 use rtpwire::{Carried, Content};
@@ -215,15 +216,6 @@ fn ask_cell(cell: &mut Cell, now: u64)
         *asks += 1;
         *last = now;
     }
-}
-
-/// Appends a cell to a ring that is not full.
-fn append(ring: &mut HeapCircularBuffer<Cell>, cell: Cell)
-    requires { length ring.old.items < ring.old.capacity }
-    ensures items { ring.new.items ≡ ring.old.items ++ cell ∷ [] }
-    ensures capacity { ring.new.capacity ≡ ring.old.capacity }
-{
-    ring.push_back(cell);
 }
 
 /// Drops the first cell of a ring that is not empty. It stays where it was in memory.

@@ -1,23 +1,20 @@
-use Rattle.std.proofs.Common.{◌≡◌, Some, length, slice_get, ap, ◌∙◌, refl, rules, arith}
-use Rattle.std.proofs.lemmas.Option.{slice_get_read}
-use Rattle.circular_buffer.specs.Buffer.{Buffer}
-use Rattle.stores.specs.declared.entry.HistoryEntry.{HistoryEntry}
-use Rattle.stores.specs.Bits.{turned}
+use Rattle.std.proofs.Common.{arith}
 use Rattle.stores.specs.Past.{marked}
-use Rattle.stores.proofs.Begun.{begun-changed, begun-length}
+use Rattle.stores.proofs.EntryNumbers.{number_known, change_kept, change_seen}
 use Rattle.stores.proofs.entries.Entries.mark.Goals as goal
+
+pub index_mut-requires : goal.index_mut-requires
+index_mut-requires c =
+    let fields = c.self.inside in
+    let known = number_known fields.order fields.list.items _ c.args.self.now c.self.invariant c.self.view_is c.args.index c.number_at-at.result c.number_at-at.ensures in
+    omega (arith, known)
+
+pub invariant_of-self : goal.invariant_of-self
+invariant_of-self c =
+    let fields = c.self.inside in
+    change_kept fields.order fields.list.items _ c.args.self.now c.self.invariant c.self.view_is c.number_at-at.result (marked c.index_mut.result.now)
 
 pub returns : goal.returns
 returns c =
     let fields = c.self.inside in
-    let xs = fields.list.items in
-    let are = c.self.invariant in
-    let room = are.room in
-    let within = are.within in
-    let same = begun-length fields.start xs in
-    let seen = ap (λ (b : Buffer HistoryEntry). length b.items) c.self.view_is in
-    let len = c.len.ensures in
-    let on = c.turned-at.ensures.within in
-    let found : slice_get xs c.turned-at.result ≡ Some c.index_mut.result.now = slice_get_read xs (length xs) c.turned-at.result c.index_mut.result.now refl (omega arith) c.index_mut.ensures.value in
-    let at : c.turned-at.result ≡ turned (length xs) fields.start c.args.index = c.turned-at.ensures.at ∙ ap (λ n. turned n fields.start c.args.index) (omega arith) in
-    begun-changed marked fields.start c.args.index c.turned-at.result fields.capacity xs c.args.self.now c.index_mut.result.now c.self.view_is (search rules) c.requires at found
+    change_seen fields.order fields.list.items _ c.args.self.now c.self.invariant c.self.view_is marked c.args.index c.number_at-at.result c.index_mut.result.now c.number_at-at.ensures c.index_mut.ensures.value

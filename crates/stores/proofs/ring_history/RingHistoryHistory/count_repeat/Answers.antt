@@ -4,7 +4,7 @@ use Rattle.stores.specs.declared.entry.HistoryEntry.{HistoryEntry}
 use Rattle.stores.specs.Bits.{IsSetOf}
 use Rattle.stores.specs.Past.{IsRun, repeated, CanBeRepeated}
 use Rattle.stores.specs.PastByPlace.{is_marked}
-use Rattle.stores.proofs.Begun.{entry_changed}
+use Rattle.stores.proofs.EntryNumbers.{entry_changed}
 use Rattle.stores.proofs.Runs.{set_is_change, run_set, ends_set}
 use Rattle.stores.proofs.SetOfItems.{set_after_change}
 use Rattle.stores.proofs.ring_history.RingHistoryHistory.count_repeat.Goals as goal
