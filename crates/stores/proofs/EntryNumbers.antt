@@ -1,8 +1,7 @@
 -- Entries that are read by their numbers: what is read, replaced and added.
-use Rattle.std.proofs.Common.{◌≡◌, ◌≢◌, ℕ, zero, suc, ◌+◌, ◌-◌, ◌<◌, ◌≤◌, ◌++◌, List, [], ◌∷◌, length, drop, get_or, slice_get, slice_set, Option, Some, None, IsSomeAnd, subst, ap, sym, ◌∙◌, refl, arith, length-set, length-append}
+use Rattle.std.proofs.Common.{◌≡◌, ◌≢◌, ℕ, zero, suc, ◌<◌, ◌≤◌, ◌++◌, List, [], ◌∷◌, length, get_or, slice_get, slice_set, Option, Some, None, IsSomeAnd, subst, ap, sym, ◌∙◌, refl, arith, length-set}
 use Rattle.std.specs.Option.{option_map}
 use Rattle.std.proofs.lemmas.List.{length-map, map-append, get_or-set_same, get_or-set_other, get_or_append_left}
-use Rattle.std.proofs.Math.Seq.{get_or-append_seam}
 use Rattle.std.proofs.lemmas.Option.{same_Some, slice_get-map, slice_get_read, get_or_from_slice_get}
 use Rattle.circular_buffer.specs.Buffer.{Buffer, buffer}
 use Rattle.rtpwire.specs.Content.{blank_content}
@@ -10,11 +9,7 @@ use Rattle.stores.specs.declared.entry.HistoryEntry.{HistoryEntry}
 use Rattle.stores.specs.Past.{fresh}
 use Rattle.stores.specs.Numbers.{times, AreNumbers}
 use Rattle.stores.specs.Entries.{entry_in, entries_in, AreEntries}
-use Rattle.stores.proofs.Numbers.{times_found, times_self, number_below, number_once, no_numbers, numbers_more, numbers_turned}
-
--- entries with the same order and room are one
-same_entry_buffers : {s t : List HistoryEntry} {m n : ℕ} → s ≡ t → m ≡ n → buffer s m ≡ buffer t n
-same_entry_buffers a b = cc
+use Rattle.stores.proofs.Numbers.{times_found, times_self, number_below, number_once, last_below, last_alone, no_numbers}
 
 -- as many as numbers
 pub entry_count : (list : List HistoryEntry) (numbers : List ℕ) → length (entries_in list numbers) ≡ length numbers
@@ -35,7 +30,7 @@ entries_other list n x numbers none =
     same_entries list (slice_set list n x) numbers (λ m some. get_or-set_other list n m x (fresh 0 blank_content) (λ same. absurd (let at = ap (λ k. times k numbers) same in omega arith)))
 
 -- an entry more
-entries_longer : (list : List HistoryEntry) (x : HistoryEntry) (numbers : List ℕ) → AreNumbers numbers (length list) → entries_in (list ++ x ∷ []) numbers ≡ entries_in list numbers
+pub entries_longer : (list : List HistoryEntry) (x : HistoryEntry) (numbers : List ℕ) → AreNumbers numbers (length list) → entries_in (list ++ x ∷ []) numbers ≡ entries_in list numbers
 entries_longer list x numbers are =
     same_entries list (list ++ x ∷ []) numbers (λ m some. get_or_append_left list (x ∷ []) (fresh 0 blank_content) m (number_below numbers (length list) m are some))
 
@@ -57,31 +52,13 @@ entries_set list (m ∷ numbers) (suc i) n x there once found =
     let rest : entries_in (slice_set list n x) numbers ≡ slice_set (entries_in list numbers) i x = entries_set list numbers i n x there (omega arith) found in
     cc
 
--- the oldest entry is written over
-entries_renewed : (list : List HistoryEntry) (numbers : List ℕ) (n : ℕ) (x : HistoryEntry) → AreNumbers numbers (length list) → slice_get numbers 0 ≡ Some n
-    → entries_in (slice_set list n x) (drop 1 numbers ++ n ∷ []) ≡ drop 1 (entries_in list numbers) ++ x ∷ []
-unfolding times
-entries_renewed list [] n x are first = absurd cc
-entries_renewed list (m ∷ numbers) n x are first =
-    let same : m ≡ n = same_Some m n first in
-    let self = ap (λ k. times n (k ∷ [])) same ∙ times_self n in
-    let once = number_once (m ∷ numbers) (length list) n are in
-    let there = number_below (m ∷ numbers) (length list) n are (times_found (m ∷ numbers) 0 n first) in
+-- the entry of the last number is written
+pub entries_last : (list : List HistoryEntry) (numbers : List ℕ) (n : ℕ) (x : HistoryEntry) → AreNumbers (numbers ++ n ∷ []) (length list)
+    → entries_in (slice_set list n x) (numbers ++ n ∷ []) ≡ entries_in list numbers ++ x ∷ []
+entries_last list numbers n x are =
     map-append (entry_in (slice_set list n x)) numbers (n ∷ [])
-    ∙ ap (λ (xs : List HistoryEntry). xs ++ entry_in (slice_set list n x) n ∷ []) (entries_other list n x numbers (omega arith))
-    ∙ ap (λ (y : HistoryEntry). entries_in list numbers ++ y ∷ []) (get_or-set_same list n x (fresh 0 blank_content) there)
-
--- an entry comes that is none of a packet sent before
-entries_added : (list : List HistoryEntry) (numbers : List ℕ) (x : HistoryEntry) → AreNumbers numbers (length list)
-    → entries_in (list ++ x ∷ []) (numbers ++ length list ∷ []) ≡ entries_in list numbers ++ x ∷ []
-entries_added list numbers x are =
-    map-append (entry_in (list ++ x ∷ [])) numbers (length list ∷ [])
-    ∙ ap (λ (xs : List HistoryEntry). xs ++ entry_in (list ++ x ∷ []) (length list) ∷ []) (entries_longer list x numbers are)
-    ∙ ap (λ (y : HistoryEntry). entries_in list numbers ++ y ∷ []) (get_or-append_seam list x [] (fresh 0 blank_content))
-
-numbers_first : (n : ℕ) (numbers : List ℕ) (count : ℕ) → slice_get numbers 0 ≡ Some n → AreNumbers numbers count → AreNumbers (drop 1 numbers ++ n ∷ []) count
-numbers_first n [] count first are = absurd cc
-numbers_first n (m ∷ numbers) count first are = subst (λ k. AreNumbers (numbers ++ k ∷ []) count) (same_Some m n first) (numbers_turned m numbers count are)
+    ∙ ap (λ (xs : List HistoryEntry). xs ++ entry_in (slice_set list n x) n ∷ []) (entries_other list n x numbers (last_alone numbers n (length list) are))
+    ∙ ap (λ (y : HistoryEntry). entries_in list numbers ++ y ∷ []) (get_or-set_same list n x (fresh 0 blank_content) (last_below numbers n (length list) are))
 
 -- no entries
 pub no_entries : (order : Buffer ℕ) (list : List HistoryEntry) (capacity most : ℕ) → order ≡ buffer [] capacity → list ≡ [] → 0 < capacity → capacity ≤ 8192 → capacity ≤ most → AreEntries order list most
@@ -96,11 +73,6 @@ no_entries order list capacity most is none nonzero limit enough =
       limit = omega (arith, size, limit);
       reserved = omega (arith, size, enough);
     }
-
--- the entries that are left: what is true of them, and which they are
-pub record Leaves (order : Buffer ℕ) (list : List HistoryEntry) (most : ℕ) (left : Buffer HistoryEntry) : Type 0 where
-  pub are : AreEntries order list most
-  pub view : buffer (entries_in list order.items) order.capacity ≡ left
 
 module _ (order : Buffer ℕ) (list : List HistoryEntry) (most : ℕ) (old : Buffer HistoryEntry) (are : AreEntries order list most) (view : buffer (entries_in list order.items) order.capacity ≡ old) where
   -- the number at an index is that of an entry
@@ -135,63 +107,6 @@ module _ (order : Buffer ℕ) (list : List HistoryEntry) (most : ℕ) (old : Buf
       let changed : buffer (entries_in (slice_set list n (change x)) order.items) order.capacity ≡ buffer (slice_set old.items i (change x)) old.capacity =
       ap (λ (xs : List HistoryEntry). buffer xs order.capacity) set ∙ ap (λ (b : Buffer HistoryEntry). buffer (slice_set b.items i (change x)) b.capacity) view in
       subst (λ (o : Option HistoryEntry). IsSomeAnd o (λ e. buffer (entries_in (slice_set list n (change x)) order.items) order.capacity ≡ buffer (slice_set old.items i (change e)) old.capacity)) (sym (entry_read i n x found read)) changed
-
-  seen_count : length old.items ≡ length list
-  seen_count = ap (λ (b : Buffer HistoryEntry). length b.items) (sym view) ∙ entry_count list order.items ∙ are.numbers.all
-
-  -- an entry comes while there is room
-  pub push_added : (order₂ : Buffer ℕ) (list₂ : List HistoryEntry) (most₂ n : ℕ) (x : HistoryEntry) → order₂.items ≡ order.items ++ n ∷ [] → order₂.capacity ≡ order.capacity → n ≡ length list
-      → list₂ ≡ list ++ x ∷ [] → most₂ ≡ most → length list < order.capacity
-      → Leaves order₂ list₂ most₂ (buffer (drop (length old.items + 1 - old.capacity) old.items ++ x ∷ []) old.capacity)
-  push_added order₂ list₂ most₂ n x numbers size next longer same_most fits =
-      let count = seen_count in
-      let capacity = ap (λ (b : Buffer HistoryEntry). b.capacity) view in
-      let none : length old.items + 1 - old.capacity ≡ 0 = omega (arith, count, capacity, fits) in
-      let one_more : length list₂ ≡ length list + 1 = ap length longer ∙ length-append list (x ∷ []) in
-      let order_is : order₂.items ≡ order.items ++ length list ∷ [] = numbers ∙ ap (λ k. order.items ++ k ∷ []) next in
-      let limit = are.limit in
-      let nonzero = are.nonzero in
-      let reserved = are.reserved in
-      record {
-        are = record {
-          numbers = subst (λ ns. AreNumbers ns (length list₂)) (sym order_is) (subst (λ k. AreNumbers (order.items ++ length list ∷ []) k) (sym one_more) (numbers_more order.items (length list) are.numbers));
-          room = omega (arith, one_more, size, fits);
-          nonzero = omega (arith, size, nonzero);
-          limit = omega (arith, size, limit);
-          reserved = omega (arith, size, reserved, same_most);
-        };
-        view = same_entry_buffers
-            (ap (λ (xs : List HistoryEntry). entries_in xs order₂.items) longer ∙ ap (entries_in (list ++ x ∷ [])) order_is ∙ entries_added list order.items x are.numbers
-            ∙ ap (λ (b : Buffer HistoryEntry). b.items ++ x ∷ []) view ∙ ap (λ k. drop k old.items ++ x ∷ []) (sym none))
-            (size ∙ capacity);
-      }
-
-  -- an entry is written over the oldest where there is none
-  pub push_renewed : (order₂ : Buffer ℕ) (list₂ : List HistoryEntry) (most₂ n : ℕ) (x : HistoryEntry) → slice_get order.items 0 ≡ Some n → order₂.items ≡ drop 1 order.items ++ n ∷ [] → order₂.capacity ≡ order.capacity
-      → list₂ ≡ slice_set list n x → most₂ ≡ most → order.capacity ≤ length list
-      → Leaves order₂ list₂ most₂ (buffer (drop (length old.items + 1 - old.capacity) old.items ++ x ∷ []) old.capacity)
-  push_renewed order₂ list₂ most₂ n x first numbers size renewed same_most full =
-      let count = seen_count in
-      let capacity = ap (λ (b : Buffer HistoryEntry). b.capacity) view in
-      let room = are.room in
-      let one : length old.items + 1 - old.capacity ≡ 1 = omega (arith, count, capacity, full, room) in
-      let as_many : length list₂ ≡ length list = ap length renewed ∙ length-set list n x in
-      let limit = are.limit in
-      let nonzero = are.nonzero in
-      let reserved = are.reserved in
-      record {
-        are = record {
-          numbers = subst (λ ns. AreNumbers ns (length list₂)) (sym numbers) (subst (λ k. AreNumbers (drop 1 order.items ++ n ∷ []) k) (sym as_many) (numbers_first n order.items (length list) first are.numbers));
-          room = omega (arith, as_many, size, room);
-          nonzero = omega (arith, size, nonzero);
-          limit = omega (arith, size, limit);
-          reserved = omega (arith, size, reserved, same_most);
-        };
-        view = same_entry_buffers
-            (ap (λ (xs : List HistoryEntry). entries_in xs order₂.items) renewed ∙ ap (entries_in (slice_set list n x)) numbers ∙ entries_renewed list order.items n x are.numbers first
-            ∙ ap (λ (b : Buffer HistoryEntry). drop 1 b.items ++ x ∷ []) view ∙ ap (λ k. drop k old.items ++ x ∷ []) (sym one))
-            (size ∙ capacity);
-      }
 
 some_and : (o : Option HistoryEntry) (P : HistoryEntry → Type 0) → IsSomeAnd o P → (x : HistoryEntry) × (o ≡ Some x) × P x
 some_and None P some = absurd some

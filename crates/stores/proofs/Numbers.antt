@@ -1,7 +1,8 @@
 -- Numbers of which each stands once, as one comes and as they change places.
-use Rattle.std.proofs.Common.{◌≡◌, ℕ, zero, suc, ◌+◌, ◌<◌, ◌≤◌, ◌++◌, List, [], ◌∷◌, length, get_or, slice_get, nat_lt, Some, ◌∙◌, refl, arith, length-append}
+use Rattle.std.proofs.Common.{◌≡◌, ℕ, zero, suc, ◌+◌, ◌<◌, ◌≤◌, ◌++◌, List, [], ◌∷◌, length, drop, get_or, slice_get, nat_lt, Some, ap, ◌∙◌, refl, arith, length-append}
 use Rattle.std.specs.Prelude.{if◌then◌else◌}
 use Rattle.std.proofs.lemmas.Bool.Decides.{nat_tests}
+use Rattle.std.proofs.lemmas.Option.{same_Some}
 use Rattle.stores.specs.Numbers.{times, AreNumbers}
 
 pub times_append : (n : ℕ) (xs ys : List ℕ) → times n (xs ++ ys) ≡ times n xs + times n ys
@@ -46,6 +47,20 @@ number_once numbers count n are =
     let most = below_one n count in
     omega arith
 
+-- the last one is that of an item, and none before is the same
+pub last_below : (numbers : List ℕ) (n count : ℕ) → AreNumbers (numbers ++ n ∷ []) count → n < count
+last_below numbers n count are =
+    let joined = times_append n numbers (n ∷ []) in
+    let self = times_self n in
+    number_below (numbers ++ n ∷ []) count n are (omega arith)
+
+pub last_alone : (numbers : List ℕ) (n count : ℕ) → AreNumbers (numbers ++ n ∷ []) count → times n numbers ≡ 0
+last_alone numbers n count are =
+    let joined = times_append n numbers (n ∷ []) in
+    let self = times_self n in
+    let once = number_once (numbers ++ n ∷ []) count n are in
+    omega arith
+
 pub no_numbers : AreNumbers [] 0
 unfolding times
 no_numbers = record { once = λ n. grind (arith, nat_tests); all = refl }
@@ -69,8 +84,16 @@ pub numbers_moved : (numbers moved : List ℕ) (count : ℕ) → ((n : ℕ) → 
 numbers_moved numbers moved count same long are = record { once = λ n. same n ∙ are.once n; all = long ∙ are.all }
 
 -- the first one goes to the end
-pub numbers_turned : (n : ℕ) (numbers : List ℕ) (count : ℕ) → AreNumbers (n ∷ numbers) count → AreNumbers (numbers ++ n ∷ []) count
+pub numbers_turned : (n : ℕ) (numbers : List ℕ) (count : ℕ) → slice_get numbers 0 ≡ Some n → AreNumbers numbers count → AreNumbers (drop 1 numbers ++ n ∷ []) count
 unfolding times
-numbers_turned n numbers count are =
+numbers_turned n [] count first are = absurd cc
+numbers_turned n (m ∷ numbers) count first are =
+    let same : m ≡ n = same_Some m n first in
     let long = length-append numbers (n ∷ []) in
-    numbers_moved (n ∷ numbers) (numbers ++ n ∷ []) count (λ m. let joined = times_append m numbers (n ∷ []) in omega (arith, joined)) (omega arith) are
+    numbers_moved (m ∷ numbers) (numbers ++ n ∷ []) count
+    (λ k.
+    let joined = times_append k numbers (n ∷ []) in
+    let one = ap (λ j. times k (j ∷ [])) same in
+    omega (arith, joined, one))
+    (omega arith)
+    are

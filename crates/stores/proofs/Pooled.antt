@@ -12,7 +12,7 @@ use Rattle.stores.specs.declared.slot.Slot.{Slot}
 use Rattle.stores.specs.declared.slot.Slot.TheVariants.{Held}
 use Rattle.stores.specs.Numbers.{times, AreNumbers}
 use Rattle.stores.specs.Pool.{slot_in, slots_in, numbers_of, IsPool, grown_contents, grown_free, freed}
-use Rattle.stores.proofs.Numbers.{times_append, times_item, times_self, number_below, number_once, numbers_more, numbers_moved}
+use Rattle.stores.proofs.Numbers.{times_append, times_item, number_below, last_below, last_alone, numbers_more, numbers_moved}
 
 -- numbers of cells
 
@@ -131,21 +131,19 @@ grown_some contents (n ∷ free) = omega arith
 
 -- a free buffer is filled
 
--- no cell has a number that is free
+-- the last free one is the last of all
+free_last : (cells : List Cell) (contents : List Content) (free : List ℕ) (n : ℕ) → IsPool cells contents (free ++ n ∷ []) → AreNumbers ((numbers_of cells ++ free) ++ n ∷ []) (length contents)
+free_last cells contents free n is = subst (λ ns. AreNumbers ns (length contents)) (sym (append_assoc (numbers_of cells) free (n ∷ []))) is
+
+-- no cell has it
 unused : (cells : List Cell) (contents : List Content) (free : List ℕ) (n : ℕ) → IsPool cells contents (free ++ n ∷ []) → times n (numbers_of cells) ≡ 0
 unused cells contents free n is =
-    let once = number_once (numbers_of cells ++ (free ++ n ∷ [])) (length contents) n is in
-    let joined = times_append n (numbers_of cells) (free ++ n ∷ []) in
-    let apart = times_append n free (n ∷ []) in
-    let self = times_self n in
+    let none = last_alone (numbers_of cells ++ free) n (length contents) (free_last cells contents free n is) in
+    let joined = times_append n (numbers_of cells) free in
     omega arith
 
 is_there : (cells : List Cell) (contents : List Content) (free : List ℕ) (n : ℕ) → IsPool cells contents (free ++ n ∷ []) → n < length contents
-is_there cells contents free n is =
-    let joined = times_append n (numbers_of cells) (free ++ n ∷ []) in
-    let apart = times_append n free (n ∷ []) in
-    let self = times_self n in
-    number_below (numbers_of cells ++ (free ++ n ∷ [])) (length contents) n is (omega arith)
+is_there cells contents free n is = last_below (numbers_of cells ++ free) n (length contents) (free_last cells contents free n is)
 
 -- what a buffer holds that no cell has changes no slot
 slots_filled : (contents : List Content) (n : ℕ) (content : Content) (cells : List Cell) → times n (numbers_of cells) ≡ 0

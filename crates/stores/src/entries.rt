@@ -2,6 +2,8 @@
 ghost use Rattle.std.specs.Prelude.{◌≡◌, ◌+◌, ◌-◌, ◌<◌, ◌≤◌, [], ◌∷◌, ◌++◌, length, drop, slice_get, slice_set, IfOk, Some, IsSomeAnd};
 ghost use Rattle.std.specs.Vec.{vec_capacity};
 ghost use Rattle.circular_buffer.specs.Buffer.{buffer};
+ghost use Rattle.stores.specs.Numbers.{AreNumbers};
+ghost use Rattle.stores.specs.Entries.{AreEntries, entries_in};
 ghost use Rattle.stores.specs.Past.{fresh, marked, unmarked, repeated, CanBeRepeated};
 
 use crate::entry::HistoryEntry;
@@ -21,7 +23,7 @@ use std::marker::Model;
 #[derive(Debug, Drop)]
 pub struct Entries {
     list: Vec<HistoryEntry>,
-    // Which one of the list each entry is, the oldest first.
+    // The entries' numbers in the list, that of the oldest first.
     order: HeapCircularBuffer<u16>,
 }
 
@@ -109,19 +111,13 @@ impl Entries {
         entry.marked = false;
     }
 
-    /// Adds the entry of a packet that was just sent. Where there are as many as there may be, it takes the place of the
-    /// oldest in memory.
+    /// Adds the entry of a packet that was just sent. Where there are as many as there may be, it is written over the oldest.
     pub fn push(&mut self, place: Place, carried: &Carried<'_>)
         ensures { self.new ≡ buffer (drop (length self.old.items + 1 - self.old.capacity) self.old.items ++ fresh place carried.now ∷ []) self.old.capacity }
     {
-        if self.list.len() < self.order.capacity() {
-            append(&mut self.order, self.list.len() as u16);
-            add(&mut self.list, place, carried);
-        } else {
-            let oldest = self.order.pop_front().unwrap();
-            renew(&mut self.list[usize::from(oldest)], place, carried);
-            append(&mut self.order, oldest);
-        }
+        let number = free_number(&mut self.list, &mut self.order, place);
+        append(&mut self.order, number);
+        renew(&mut self.list[usize::from(number)], place, carried);
     }
 }
 
@@ -133,20 +129,31 @@ fn number_at(order: &HeapCircularBuffer<u16>, index: usize) -> usize
     usize::from(*order.get(index).unwrap())
 }
 
-/// Adds an entry to a list that has room. Its content is blanked here, when it is first used, and never again.
-fn add(list: &mut Vec<HistoryEntry>, place: Place, carried: &Carried<'_>)
-    requires { length list.old.items < vec_capacity list.old }
-    ensures items { list.new.items ≡ list.old.items ++ fresh place carried.now ∷ [] }
-    ensures capacity { vec_capacity list.new ≡ vec_capacity list.old }
+/// The number that the next entry gets: where the ring is full that of the oldest one, which goes, and else that of one more,
+/// whose content is blanked here, as it is first used, and never again.
+fn free_number(
+    list: &mut Vec<HistoryEntry>,
+    order: &mut HeapCircularBuffer<u16>,
+    place: Place,
+) -> u16
+    requires { AreEntries order.old list.old.items (vec_capacity list.old) }
+    ensures numbers { AreNumbers (order.new.items ++ result ∷ []) (length list.new.items) }
+    ensures entries { entries_in list.new.items order.new.items ≡ drop (length order.old.items + 1 - order.old.capacity) (entries_in list.old.items order.old.items) }
+    ensures room { length list.new.items ≤ order.old.capacity }
+    ensures order_capacity { order.new.capacity ≡ order.old.capacity }
+    ensures list_capacity { vec_capacity list.new ≡ vec_capacity list.old }
 {
-    let at = list.len();
+    if order.is_full() {
+        return order.pop_front().unwrap();
+    }
+    let number = list.len() as u16;
     list.push_reserved(HistoryEntry {
         place,
         content: Content::blank(),
         repeats: 0,
         marked: false,
     });
-    renew(&mut list[at], place, carried);
+    number
 }
 
 /// Makes it the entry of a packet that was just sent.
