@@ -1,6 +1,5 @@
 pub mod WordLemmas
 pub mod DecimalLemmas
-pub mod DigitLemmas
 pub mod OctetLemmas
 pub mod NumberLemmas
 pub mod ConfigLemmas

@@ -6,7 +6,6 @@
 mod config_line;
 mod content_text;
 mod decimal;
-mod digits;
 mod event_line;
 mod laws;
 mod line;

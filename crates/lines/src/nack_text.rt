@@ -5,7 +5,6 @@ ghost use Rattle.lines.specs.Line.{behind_space};
 ghost use Rattle.lines.specs.ShowText.{nack_text, nacks_line, pair_text};
 ghost use Rattle.lines.specs.Sink.{Pushes};
 
-use crate::digits::write_digits;
 use crate::line::push_words;
 use crate::sink::Sink;
 use crate::word::Word;
@@ -66,7 +65,7 @@ fn spaced_pair(pair: Pair) -> [u8; 10]
     let [a, b] = pair.pid.to_be_bytes();
     let [c, d] = pair.blp.to_be_bytes();
     let mut digits = [0; 8];
-    write_digits(&[a, b, c, d], &mut digits);
+    hex::encode_to_slice(&[a, b, c, d], &mut digits).unwrap();
     let [a, b, c, d, e, f, g, h] = digits;
     [b' ', a, b, c, d, b':', e, f, g, h]
 }

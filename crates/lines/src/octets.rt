@@ -3,7 +3,6 @@ ghost use Rattle.std.specs.Prelude.{◌≡◌, ◌≤◌, ◌*◌, length};
 ghost use Rattle.std.specs.Option.{option_map};
 ghost use Rattle.lines.specs.Octets.{extension_of_word, octets_up_to, sources_of_word, vector_of, whole_words};
 
-use crate::digits::read_digits;
 use arrayvec::ArrayVec;
 use rtpwire::{Extension, u16_at, u32_at};
 
@@ -23,7 +22,7 @@ pub fn parse_octets<const N: usize>(word: &[u8]) -> Option<ArrayVec<u8, N>>
     }
     let mut room = [0; N];
     let octets = &mut room[..word.len() / 2];
-    read_digits(word, octets)?;
+    hex::decode_to_slice(word, octets).ok()?;
     ArrayVec::try_from(&*octets).ok()
 }
 

@@ -6,7 +6,6 @@ ghost use Rattle.hex.specs.Hex.{encode_lower};
 ghost use Rattle.lines.specs.Sink.{Pushes};
 ghost use Rattle.lines.specs.WordText.{word_text};
 
-use crate::digits::write_digits;
 use crate::sink::Sink;
 use itoa::Buffer;
 
@@ -77,6 +76,6 @@ fn push_digits<S: Sink>(sink: &mut S, octets: &[u8]) -> Result<(), S::Fault>
 {
     let mut room = [0; 2 * PIECE];
     let digits = &mut room[..2 * octets.len()];
-    write_digits(octets, digits);
+    hex::encode_to_slice(octets, digits).unwrap();
     sink.push(digits)
 }

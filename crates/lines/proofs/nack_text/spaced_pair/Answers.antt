@@ -4,4 +4,5 @@ use Rattle.lines.proofs.nack_text.spaced_pair.Goals as goal
 
 pub returns : goal.returns
 returns c =
-    ap (λ (x : List ℕ). 32 ∷ x) (rw (c.to_be_bytes.ensures, c.to_be_bytes-2.ensures) at (pair_digits _ _ _ _ _ c.write_digits.ensures))
+    let written = rw c.unwrap.ensures at c.encode_to_slice.ensures.written in
+    ap (λ (x : List ℕ). 32 ∷ x) (rw (c.to_be_bytes.ensures, c.to_be_bytes-2.ensures) at (pair_digits _ _ _ _ _ written))
