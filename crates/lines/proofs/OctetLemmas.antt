@@ -1,9 +1,9 @@
--- Words that are too long, and octets that are read one word of 32 bits after another.
-use Rattle.std.proofs.Common.{◌≡◌, ℕ, zero, suc, ◌+◌, ◌*◌, ◌++◌, drop, drop-drop, ap, ◌∙◌, ◌/◌, ◌<◌, List, [], ◌∷◌, length, refl, arith, false, Some, None, Result, Ok, Err, nat_le, if◌then◌else◌, inl, inr, codes}
+-- Words that are too long, and octets that are read as words of 32 bits.
+use Rattle.std.proofs.Common.{◌≡◌, ℕ, zero, suc, ◌+◌, ◌*◌, drop, drop-drop, ap, sym, ◌∙◌, ◌/◌, ◌<◌, List, [], ◌∷◌, length, refl, arith, false, Some, None, Result, Ok, Err, nat_le, if◌then◌else◌, inl, inr, codes}
 use Rattle.std.specs.Result.{result_ok}
 use Rattle.std.specs.Str.{bytes_eq}
 use Rattle.std.proofs.lemmas.Bool.Decides.{leb_tells}
-use Rattle.byteorder.specs.Endian.{big_number}
+use Rattle.byteorder.specs.Endian.{IsRead, big_number}
 use Rattle.hex.specs.Hex.{decode_of}
 use Rattle.hex.specs.declared.error.FromHexError.{FromHexError}
 use Rattle.hex.proofs.HexLemmas.{decode_of-ok}
@@ -23,12 +23,14 @@ pub a_long_word : (most : ℕ) (word : List ℕ) → bytes_eq word (codes "-") �
 a_long_word most [] other long = refl
 a_long_word most (c ∷ cs) other long = rw other (decoded_is_long most (c ∷ cs) _ refl long)
 
--- one word more, at the end
-pub words_at-next : (n : ℕ) (octets : List ℕ) → words_at (n + 1) octets ≡ words_at n octets ++ big_number 4 (drop (4 * n) octets) ∷ []
-words_at-next zero octets = refl
-words_at-next (suc n) octets =
-    let count : suc n + 1 ≡ suc (n + 1) = omega arith in
-    let at : 4 + 4 * n ≡ 4 * suc n = omega arith in
-    ap (λ k. words_at k octets) count
-    ∙ ap (λ (x : List ℕ). big_number 4 octets ∷ x) (words_at-next n (drop 4 octets))
-    ∙ ap (λ (x : List ℕ). big_number 4 octets ∷ (words_at n (drop 4 octets) ++ big_number 4 x ∷ [])) (drop-drop (4 * n) 4 octets ∙ ap (λ k. drop k octets) at)
+-- words of which each is what its four octets spell
+pub words_read : (n : ℕ) (octets words : List ℕ) → length words ≡ n → IsRead big_number 4 octets words → words ≡ words_at n octets
+words_read zero octets [] size read = refl
+words_read zero octets (w ∷ ws) size read = absurd (omega arith)
+words_read (suc n) octets [] size read = absurd (omega arith)
+words_read (suc n) octets (w ∷ ws) size read =
+    let step : (k : ℕ) → drop (4 * suc k) octets ≡ drop (4 * k) (drop 4 octets) = λ k.
+    let at : 4 * suc k ≡ 4 + 4 * k = omega arith in
+    ap (λ (i : ℕ). drop i octets) at ∙ sym (drop-drop (4 * k) 4 octets) in
+    let rest = words_read n (drop 4 octets) ws (omega arith) (λ k within. read (suc k) (omega arith) ∙ ap (big_number 4) (step k)) in
+    rw (read 0 (omega arith), rest) refl

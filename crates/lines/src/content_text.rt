@@ -1,12 +1,14 @@
 //! What a packet carries, as words of a line.
 ghost use Rattle.std.specs.Prelude.{◌≡◌, ◌+◌, ◌*◌, ◌≤◌, ◌++◌, length};
 ghost use Rattle.std.specs.Option.{option_map};
+ghost use Rattle.rtpwire.specs.declared.limits.TheConstants.{MAX_WORDS};
 ghost use Rattle.rtpwire.specs.Content.{extension_of};
 ghost use Rattle.rtpwire.specs.Rtp.{word_octets};
 ghost use Rattle.lines.specs.ContentText.{extension_text, octets_text};
 
 use arrayvec::ArrayVec;
-use rtpwire::{Extension, push_u16, push_u32};
+use byteorder::{ByteOrder, NetworkEndian};
+use rtpwire::{Extension, MAX_WORDS, push_octets, push_u16};
 
 /// The octets of contributing sources, at most 15.
 pub(crate) fn source_octets(sources: &ArrayVec<u32, 15>) -> ArrayVec<u8, 60>
@@ -30,12 +32,14 @@ pub(crate) fn extension_octets(extension: &Option<Extension>) -> ArrayVec<u8, 66
     octets
 }
 
-/// Appends words of 32 bits in network order. There is room for four octets each.
+/// Appends at most 16 words of 32 bits in network order. There is room for four octets each.
 fn push_words<const N: usize>(octets: &mut ArrayVec<u8, N>, words: &[u32])
-    requires { length octets.old.items + 4 * length words.now ≤ N }
+    requires few { length words.now ≤ MAX_WORDS }
+    requires room { length octets.old.items + 4 * length words.now ≤ N }
     ensures { octets.new.items ≡ octets.old.items ++ word_octets words.now }
 {
-    for word in words {
-        push_u32(octets, *word);
-    }
+    let mut room = [0; 4 * MAX_WORDS];
+    let spelled = &mut room[..4 * words.len()];
+    NetworkEndian::write_u32_into(words, spelled);
+    push_octets(octets, spelled);
 }

@@ -4,7 +4,8 @@ ghost use Rattle.std.specs.Option.{option_map};
 ghost use Rattle.lines.specs.Octets.{extension_of_word, octets_up_to, sources_of_word, vector_of, whole_words};
 
 use arrayvec::ArrayVec;
-use rtpwire::{Extension, u16_at, u32_at};
+use byteorder::{ByteOrder, NetworkEndian};
+use rtpwire::Extension;
 
 /// The octets that a word writes in hexadecimal, at most `N`; none are written `-`.
 #[tactic(auto, using(crate::proofs::OctetLemmas::a_long_word))]
@@ -47,12 +48,13 @@ pub fn parse_extension(word: &[u8]) -> Option<Option<Extension>>
     if octets.len() < 2 {
         return None;
     }
-    let profile = u16_at(octets, 0);
+    let profile = NetworkEndian::read_u16(octets);
     let words = words_in(&octets[2..])?;
     Some(Some(Extension { profile, words }))
 }
 
 /// Octets as words of 32 bits, if nothing is left over.
+#[tactic(auto, using(crate::proofs::OctetLemmas::words_read))]
 fn words_in<const N: usize>(octets: &[u8]) -> Option<ArrayVec<u32, N>>
     requires { length octets.now ≤ 4 * N }
     ensures { result ≡ option_map vector_of (whole_words octets.now) }
@@ -60,9 +62,8 @@ fn words_in<const N: usize>(octets: &[u8]) -> Option<ArrayVec<u32, N>>
     if octets.len() % 4 != 0 {
         return None;
     }
-    let mut words = ArrayVec::new();
-    for index in 0..octets.len() / 4 {
-        words.push(u32_at(octets, 4 * index));
-    }
-    Some(words)
+    let mut room = [0; N];
+    let words = &mut room[..octets.len() / 4];
+    NetworkEndian::read_u32_into(octets, words);
+    ArrayVec::try_from(&*words).ok()
 }
