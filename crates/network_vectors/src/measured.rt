@@ -41,7 +41,8 @@ enum Step {
     Restarts,
     /// These times are set, and followed anew.
     Sets(u64, u64, u64),
-    Follows,
+    /// The times of asks follow, for as many as fit into this span.
+    Follows(u64),
     /// The round trip, or 0, and whether it is new.
     Knows(u64, bool),
     /// Patience, delay and retry.
@@ -100,7 +101,7 @@ impl Does<(u64, Step)> for Measured {
             Passes => self.endpoint.pass(now),
             Tells(seq) => self.meter.pass(places::Place::first(seq)),
             Restarts => self.restarts(),
-            Follows => self.meter.follow(&mut self.endpoint, now),
+            Follows(within) => self.meter.follow(&mut self.endpoint, within, now),
             Asks => return self.asks(now),
             Sets(patience, delay, retry) => return self.sets(patience, delay, retry),
             Knows(trip, is_new) => return self.knows(trip, is_new),
@@ -127,9 +128,12 @@ fn a_first_ask(rt: HostRuntime) -> Result<(), Fail> {
         (65, Knows(40, true)),
         (65, Times(200, 20, 40)),
         // An answer takes 40 + 20 + 5, and asks lie no closer: two more fit into the 135 that are left.
-        (65, Follows),
+        (65, Follows(200)),
         (65, Knows(40, false)),
         (65, Times(200, 0, 67)),
+        // One fits into the 85 of 150.
+        (65, Follows(150)),
+        (65, Times(200, 0, 85)),
     ];
     assert_eq!(rt; wrong_step(rt.alloc(), STEPS)?, None);
     Ok(())
@@ -212,11 +216,11 @@ fn packets_that_come_late(rt: HostRuntime) -> Result<(), Fail> {
         (5, Media(3)),
         (25, Asks),
         (65, Repair(2)),
-        (65, Follows),
+        (65, Follows(200)),
         (72, Media(5)),
         (80, Media(4)),
         (80, Knows(40, true)),
-        (80, Follows),
+        (80, Follows(200)),
         (80, Times(200, 10, 125)),
         // One that comes as late again is nothing new, and one that is on its way twice is none that was waited for.
         (90, Media(7)),
@@ -235,7 +239,7 @@ fn a_restart_by_call(rt: HostRuntime) -> Result<(), Fail> {
         (5, Media(3)),
         (25, Asks),
         (65, Repair(2)),
-        (65, Follows),
+        (65, Follows(200)),
         (70, Media(5)),
         (70, Asks),
         (70, Restarts),
@@ -245,7 +249,7 @@ fn a_restart_by_call(rt: HostRuntime) -> Result<(), Fail> {
         // Other times follow the round trip anew, which was measured before.
         (76, Sets(400, 7, 9)),
         (76, Knows(40, true)),
-        (80, Follows),
+        (80, Follows(400)),
         (80, Times(400, 0, 67)),
     ];
     assert_eq!(rt; wrong_step(rt.alloc(), STEPS)?, None);
