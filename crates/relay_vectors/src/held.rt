@@ -1,19 +1,19 @@
 //! Packets that are held for a player.
-use crate::packets::Packet::{self, Repaired, Stamped};
+use crate::packets::Packet::{self, Nack, Repaired, Stamped};
 use crate::receiving::{FAR, PLAYER, runs};
 use crate::script::{Passing, Script};
-use relays::Side::{Far, Near};
+use relays::Side::{self, Far, Near};
 use std::alloc::Global;
 use std::test::Fail;
 use timing::Playout;
 
-/// Whether these packets left for the player at these moments, among all that left.
-fn left(script: &Script, wanted: &[(u64, Packet)]) -> bool {
+/// Whether these left by this side for this port at these moments, of all that left.
+fn left(script: &Script, side: Side, port: u16, wanted: &[(u64, Packet)]) -> bool {
     let mut found = 0_usize;
     for gone in script.gone.iter() {
-        if gone.side == Near {
+        if gone.side == side {
             let is_next = match wanted.get(found) {
-                Some((at, packet)) => gone.is(&(*at, Near, PLAYER, *packet)),
+                Some((at, packet)) => gone.is(&(*at, side, port, *packet)),
                 None => false,
             };
             if !is_next {
@@ -36,7 +36,26 @@ fn held(
 ) -> Result<(bool, u64), Fail> {
     let script = Script::new(alloc, comes)?;
     let run = runs(script, alloc, packets, 64, Some(Playout::new(rate)))?;
-    Ok((left(&run.script, leaves), run.relay.counts().gaps))
+    let are_left = left(&run.script, Near, PLAYER, leaves);
+    Ok((are_left, run.relay.counts().gaps))
+}
+
+/// Such a relay of 1000 a second, or one that holds nothing: whether these leave for the far side.
+fn asks(
+    alloc: Global,
+    is_held: bool,
+    packets: u64,
+    comes: &[Passing],
+    leaves: &[(u64, Packet)],
+) -> Result<bool, Fail> {
+    let script = Script::new(alloc, comes)?;
+    let hold = if is_held {
+        Some(Playout::new(1000))
+    } else {
+        None
+    };
+    let run = runs(script, alloc, packets, 64, hold)?;
+    Ok(left(&run.script, Far, FAR, leaves))
 }
 
 /// By a clock of 90000 a second and a latency of 200: the first packet leaves 200 milliseconds after it came, and each other one as far
@@ -113,5 +132,50 @@ fn a_restart_begins_a_clock(rt: HostRuntime) -> Result<(), Fail> {
         (2210, Stamped(12, 110)),
     ];
     assert_eq!(rt; held(rt.alloc(), 1000, 3, COMES, LEAVES)?, (true, 0));
+    Ok(())
+}
+
+/// A round trip of 40 milliseconds, and a packet that came 8 behind the one that showed it to be missing.
+const LATE: &[Passing] = &[
+    (1000, Far, FAR, Stamped(10, 0)),
+    (1020, Far, FAR, Stamped(12, 20)),
+    (1060, Far, FAR, Repaired(11, 10)),
+    (1070, Far, FAR, Stamped(14, 70)),
+    (1078, Far, FAR, Stamped(13, 60)),
+    (1100, Far, FAR, Stamped(16, 100)),
+];
+
+/// An answer takes 40 + 20 + 5, and the first ask waits for 10, a quarter longer than those 8. Of the latency of 200 asks have to fit into
+/// 192 where packets are held: two do, 192 - 65 - 10 apart.
+#[test]
+fn asks_have_what_is_left_of_the_latency(rt: HostRuntime) -> Result<(), Fail> {
+    const ASKS: &[(u64, Packet)] = &[
+        (1020, Nack(11)),
+        (1020, Nack(11)),
+        (1070, Nack(13)),
+        (1070, Nack(13)),
+        (1110, Nack(15)),
+        (1110, Nack(15)),
+        (1227, Nack(15)),
+        (1227, Nack(15)),
+    ];
+    assert!(rt; asks(rt.alloc(), true, 7, LATE, ASKS)?);
+    Ok(())
+}
+
+/// And into all of it where none is: 200 - 65 - 10.
+#[test]
+fn asks_have_all_the_latency_else(rt: HostRuntime) -> Result<(), Fail> {
+    const ASKS: &[(u64, Packet)] = &[
+        (1020, Nack(11)),
+        (1020, Nack(11)),
+        (1070, Nack(13)),
+        (1070, Nack(13)),
+        (1110, Nack(15)),
+        (1110, Nack(15)),
+        (1235, Nack(15)),
+        (1235, Nack(15)),
+    ];
+    assert!(rt; asks(rt.alloc(), false, 7, LATE, ASKS)?);
     Ok(())
 }
