@@ -1,0 +1,166 @@
+//! A relay before a network, whose far side is a receiving endpoint in memory.
+use crate::behind::local;
+use crate::path::{Batch, Path};
+use crate::receiving::hear_all;
+use crate::scene::Scene;
+use crate::shape::Shape;
+use endpoint::AskingEndpoint;
+use relays::{
+    Bounds, Meeting, Octets, Outside, OutsideFault, Pace, Rate, SendRelay, Side, Stream, Turn, run,
+};
+use rtpwire::{Carried, MAX_DATAGRAM, Words, media_len, write_media_into};
+use std::alloc::Global;
+use std::net::SocketAddr;
+use stores::{OutOfMemory, RingHistory, RingWindow};
+
+/// What is outside of it: the application, the far side, and the paths there and back.
+#[derive(Drop)]
+struct Before {
+    scene: Scene,
+    shape: Shape,
+    receiver: AskingEndpoint<RingWindow>,
+    there: Path,
+    back: Path,
+    turn: u64,
+    /// How many packets of the application came so far.
+    sent: u64,
+    /// The feedback of this turn: what was not told so far begins at this number and octet.
+    batch: Batch,
+    next: usize,
+    from: usize,
+    /// What reached the far side last.
+    came: Batch,
+    /// Whether memory was refused.
+    failed: bool,
+}
+
+impl Before {
+    /// Has the far side do all that happens in this turn, and begins the next one.
+    fn go_on(&mut self) -> Result<(), OutOfMemory> {
+        self.there.take(self.turn, &mut self.came);
+        hear_all(
+            &mut self.receiver,
+            &mut self.back,
+            &mut self.scene,
+            &self.came,
+            &self.shape,
+            self.turn,
+        )?;
+        self.turn = self.turn.saturating_add(1);
+        self.back.take(self.turn, &mut self.batch);
+        self.next = 0;
+        self.from = 0;
+        Ok(())
+    }
+
+    /// Writes the next packet of the application, and answers how many octets it has.
+    fn packet(&self, out: &mut [u8]) -> usize {
+        let (timestamp, is_last) = self.shape.timestamp_of(self.sent);
+        let payload = self.scene.payloads.of(self.shape.content_of(self.sent));
+        let number = (self.sent % 65536) as u16;
+        let number = number.wrapping_add(self.shape.first);
+        match Carried::of_fields(payload, timestamp, is_last, Words::Numbers(&[]), None) {
+            Ok(carried) => write(&carried, number, out),
+            Err(_) => 0,
+        }
+    }
+}
+
+/// Writes a packet of the application with this number, and answers how many octets it has: none where there is no room.
+fn write(carried: &Carried<'_>, number: u16, out: &mut [u8]) -> usize {
+    if media_len(carried, 0) > out.len() {
+        return 0;
+    }
+    write_media_into(out, carried, 0, number, 96, 0x1111_1111)
+}
+
+impl Outside for Before {
+    ghost use Rattle.std.specs.Prelude.{None};
+
+    ghost traffic = { λ outside. None };
+
+    fn wait(&mut self, until: Option<u64>, room: &mut Octets) -> Result<Meeting, OutsideFault> {
+        self.scene.digest.add_some(until);
+        let wanted = self.turn.saturating_mul(self.shape.packets);
+        if self.next >= self.batch.len() && self.sent >= wanted && self.go_on().is_err() {
+            return Err(OutsideFault);
+        }
+        if self.failed {
+            return Err(OutsideFault);
+        }
+        let now = self.turn.saturating_mul(self.shape.turn);
+        room.clear();
+        if self.next < self.batch.len() {
+            let datagram = self.batch.get(self.next, self.from);
+            if room.try_extend_from_slice(datagram).is_err() {
+                return Err(OutsideFault);
+            }
+            self.from = self.from.saturating_add(datagram.len());
+            self.next += 1;
+            return Ok(Meeting {
+                now,
+                came: Some((Side::Far, local(6004))),
+            });
+        }
+        let mut out = [0; MAX_DATAGRAM];
+        let len = self.packet(&mut out);
+        let packet = out.get(..len).unwrap_or(&[]);
+        if room.try_extend_from_slice(packet).is_err() {
+            return Err(OutsideFault);
+        }
+        self.sent = self.sent.saturating_add(1);
+        Ok(Meeting {
+            now,
+            came: Some((Side::Near, local(5004))),
+        })
+    }
+
+    fn send(&mut self, _side: Side, _to: SocketAddr, octets: &[u8]) {
+        let header = octets.get(..16).unwrap_or(&[]);
+        self.scene.digest.add_octets(header);
+        let carried = self.there.carry(&mut self.scene.draws, self.turn, octets);
+        self.failed = self.failed || carried.is_err();
+    }
+
+    fn tell(&mut self, _turn: &Turn, _octets: &[u8], _now: u64) {}
+}
+
+/// Runs such a relay over this session until so many turns are over, and answers what is outside.
+pub fn send(alloc: Global, scene: Scene, shape: Shape, turns: u64) -> Result<Scene, OutOfMemory> {
+    let capacity = shape.capacity.clamp(1, 8192);
+    let (Ok(sending), Ok(receiving)) = (shape.sender(), shape.receiver()) else {
+        return Err(OutOfMemory);
+    };
+    let bounds = Bounds {
+        packets: None,
+        until: Some(turns.saturating_mul(shape.turn)),
+    };
+    let mut relay = SendRelay::<RingHistory>::new(
+        alloc,
+        sending,
+        shape.rule(),
+        capacity,
+        local(6004),
+        Stream::new(0x1111_1111),
+        Pace::new(Rate::Percent(100)),
+        bounds,
+    )?;
+    let mut outside = Before {
+        scene,
+        shape,
+        receiver: AskingEndpoint::new(alloc, receiving, shape.probation(), capacity)?,
+        there: Path::new(alloc, shape.there)?,
+        back: Path::new(alloc, shape.back)?,
+        turn: 0,
+        sent: 0,
+        batch: Batch::new(alloc),
+        next: 0,
+        from: 0,
+        came: Batch::new(alloc),
+        failed: false,
+    };
+    let ended = run(&mut outside, &mut relay);
+    outside.scene.digest.add(u64::from(ended.is_ok()));
+    outside.scene.digest.add(relay.counts().sent);
+    Ok(outside.scene)
+}

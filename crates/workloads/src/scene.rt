@@ -1,0 +1,27 @@
+//! What all sessions of a job share.
+use crate::digest::Digest;
+use crate::draws::Draws;
+use crate::payloads::Payloads;
+use std::alloc::Global;
+use stores::OutOfMemory;
+
+/// The draws of a job, what its packets carry, and the digest of all that came of it.
+#[derive(Drop)]
+pub struct Scene {
+    pub draws: Draws,
+    pub payloads: Payloads,
+    pub digest: Digest,
+}
+
+impl Scene {
+    /// That of a seed, with payloads of at least so many octets and at most so many.
+    pub fn new(alloc: Global, seed: u32, least: usize, most: usize) -> Result<Scene, OutOfMemory> {
+        let mut draws = Draws::new(seed);
+        let payloads = Payloads::new(alloc, &mut draws, least, most)?;
+        Ok(Scene {
+            draws,
+            payloads,
+            digest: Digest::EMPTY,
+        })
+    }
+}

@@ -1,0 +1,89 @@
+//! What a sending endpoint does in a turn.
+use crate::digest::Digest;
+use crate::path::{Batch, Path};
+use crate::scene::Scene;
+use crate::shape::Shape;
+use endpoint::{TimelyEndpoint, Told};
+use rtpwire::{Carried, MAX_DATAGRAM, Words};
+use stores::{OutOfMemory, RingHistory};
+
+/// Sends the packets of a turn.
+pub fn send_media(
+    sender: &mut TimelyEndpoint<RingHistory>,
+    path: &mut Path,
+    scene: &mut Scene,
+    shape: &Shape,
+    turn: u64,
+) -> Result<(), OutOfMemory> {
+    let mut out = [0; MAX_DATAGRAM];
+    for packet in 0..shape.packets {
+        let number = turn.saturating_mul(shape.packets).saturating_add(packet);
+        let len = send_one(sender, scene, shape, number, turn, &mut out);
+        if let Some(datagram) = out.get(..len) {
+            path.carry(&mut scene.draws, turn, datagram)?;
+        }
+    }
+    Ok(())
+}
+
+/// Sends the packet of this number, and answers how many octets it has.
+fn send_one(
+    sender: &mut TimelyEndpoint<RingHistory>,
+    scene: &mut Scene,
+    shape: &Shape,
+    number: u64,
+    turn: u64,
+    out: &mut [u8],
+) -> usize {
+    let (timestamp, is_last) = shape.timestamp_of(number);
+    let payload = scene.payloads.of(shape.content_of(number));
+    let Ok(carried) = Carried::of_fields(payload, timestamp, is_last, Words::Numbers(&[]), None)
+    else {
+        return 0;
+    };
+    let now = turn.saturating_mul(shape.turn);
+    match sender.send_into(out, &carried, 0, now) {
+        Ok(Ok((place, len))) => {
+            scene.digest.add(place.value());
+            len
+        }
+        _ => 0,
+    }
+}
+
+/// Hears the feedback of a turn.
+pub fn hear_feedback(sender: &mut TimelyEndpoint<RingHistory>, batch: &Batch, digest: &mut Digest) {
+    let mut from: usize = 0;
+    for number in 0..batch.len() {
+        let datagram = batch.get(number, from);
+        from = from.saturating_add(datagram.len());
+        match sender.on_datagram(datagram) {
+            Ok(Told::Feedback(shared)) => digest.add(u64::from(shared.places)),
+            Ok(Told::Media) => digest.add(1 << 32),
+            Ok(Told::Reports) => digest.add(2 << 32),
+            Err(fault) => digest.add((3 << 32) | u64::from(fault.number())),
+        }
+    }
+}
+
+/// Sends all retransmissions that may go.
+pub fn retransmit_all(
+    sender: &mut TimelyEndpoint<RingHistory>,
+    path: &mut Path,
+    scene: &mut Scene,
+    shape: &Shape,
+    turn: u64,
+) -> Result<(), OutOfMemory> {
+    let mut out = [0; MAX_DATAGRAM];
+    let now = turn.saturating_mul(shape.turn);
+    for _ in 0..8192 {
+        let Ok(Some((place, len))) = sender.retransmit_into(&mut out, now) else {
+            return Ok(());
+        };
+        scene.digest.add(place.value());
+        if let Some(datagram) = out.get(..len) {
+            path.carry(&mut scene.draws, turn, datagram)?;
+        }
+    }
+    Ok(())
+}
