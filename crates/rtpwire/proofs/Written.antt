@@ -30,19 +30,24 @@ length-written_padding count small = (written_padding-is count small).as_long
 pub written-spelled : (p : RtpPacket) → IsPacket p → RtpSpells p (written p)
 written-spelled p fits = record { packet = fits; padding = written_padding p.padding; padded = written_padding-is p.padding fits.padding; spelled = refl }
 
--- and so do the first octets of a buffer that it stands in front of, in parts
+-- and so do the first octets of a buffer that it stands in front of
+pub front-written : (p : RtpPacket) (old new : List ℕ) (n : ℕ) → IsPacket p → new ≡ in_front (written p) old → n ≡ length (written p) → RtpSpells p (take n new)
+front-written p old new n fits is count =
+    let taken : take n new ≡ written p =
+    ap (λ k. take k new) count
+    ∙ ap (take (length (written p))) is
+    ∙ take-append_seam (written p) (drop (length (written p)) old) in
+    subst (λ (octets : List ℕ). RtpSpells p octets) (sym taken) (written-spelled p fits)
+
+-- and so they do where it was written there in parts
 pub front-spelled : (p : RtpPacket) (header payload old new : List ℕ) (n : ℕ) → IsPacket p → header ++ payload ≡ unpadded p → new ≡ in_front (header ++ payload ++ written_padding p.padding) old
     → n ≡ length header + length payload + p.padding → RtpSpells p (take n new)
 front-spelled p header payload old new n fits same is count =
     let padding : List ℕ = written_padding p.padding in
     let size : length padding ≡ p.padding = length-written_padding p.padding fits.padding in
+    let whole : header ++ payload ++ padding ≡ written p = ap (λ (x : List ℕ). x ++ padding) same in
     let len : n ≡ length (header ++ payload ++ padding) = omega (arith, count, size, length-append (header ++ payload) padding, length-append header payload) in
-    let taken : take n new ≡ written p =
-    ap (λ k. take k new) len
-    ∙ ap (take (length (header ++ payload ++ padding))) is
-    ∙ take-append_seam (header ++ payload ++ padding) (drop (length (header ++ payload ++ padding)) old)
-    ∙ ap (λ (x : List ℕ). x ++ padding) same in
-    subst (λ (octets : List ℕ). RtpSpells p octets) (sym taken) (written-spelled p fits)
+    front-written p old new n fits (is ∙ ap (λ (x : List ℕ). in_front x old) whole) (len ∙ ap length whole)
 
 -- A retransmission is a packet where its packet with the original payload alone is one.
 pub repair-packet : (r : Repair) → IsPacket r.packet → IsPacket (repair_packet r)

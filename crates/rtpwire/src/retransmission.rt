@@ -9,12 +9,13 @@ ghost use Rattle.rtpwire.specs.Rtp.{IsPacket, header, written};
 use crate::carried::Carried;
 use crate::content::{Content, Datagram};
 use crate::fault::RtpFault;
-use crate::fill::fill_packet;
+use crate::fill::{fill_front, fill_packet};
 use crate::limits::{MAX_HEADER, MAX_PAYLOAD, MAX_REPAIR_HEADER};
 use crate::octets::{push_octets, push_u16, u16_at};
-use crate::rtp::RtpView;
-use crate::write::{header_len, push_header};
+use crate::rtp::{FIXED_HEADER, RtpView};
+use crate::write::{header_len, plain_header, push_header};
 use arrayvec::ArrayVec;
+use byteorder::{ByteOrder, NetworkEndian};
 use std::marker::Model;
 
 /// A retransmission in the octets that spell it, which it borrows. Nothing is copied.
@@ -151,9 +152,52 @@ pub fn write_repair_into(
     ensures fits { result ≤ MAX_HEADER + 2 + MAX_PAYLOAD }
 {
     content.is_bounded();
+    if let Some(header) = plain_repair_header(content, original, sequence, payload_type, ssrc) {
+        return fill_packet(out, &header, content.payload(), 0);
+    }
+    write_longer_into(out, content, original, sequence, payload_type, ssrc)
+}
+
+/// The same for any content. It stands apart since it blanks room for the longest header, which a plain one, as most
+/// are, has no use for.
+#[inline(never)]
+fn write_longer_into(
+    out: &mut [u8],
+    content: &Carried<'_>,
+    original: u16,
+    sequence: u16,
+    payload_type: u8,
+    ssrc: u32,
+) -> usize
+    requires payload_type { payload_type < 128 }
+    requires room { length (written (repair_packet (repair_of content.now original sequence payload_type ssrc))) ≤ length out.old }
+    ensures written { out.new ≡ in_front (written (repair_packet (repair_of content.now original sequence payload_type ssrc))) out.old }
+    ensures len { result ≡ length (written (repair_packet (repair_of content.now original sequence payload_type ssrc))) }
+    ensures fits { result ≤ MAX_HEADER + 2 + MAX_PAYLOAD }
+{
+    content.is_bounded();
     let mut header = ArrayVec::<u8, MAX_REPAIR_HEADER>::new();
     push_repair_header(&mut header, content, original, sequence, payload_type, ssrc);
     fill_packet(out, &header, content.payload(), 0)
+}
+
+/// All that stands before the original payload where that is the fixed header and the original's number alone: where
+/// there are neither sources nor a header extension.
+fn plain_repair_header(
+    content: &Carried<'_>,
+    original: u16,
+    sequence: u16,
+    payload_type: u8,
+    ssrc: u32,
+) -> Option<[u8; FIXED_HEADER + 2]>
+    requires payload_type { payload_type < 128 }
+    ensures { IfSome result (λ octets. octets ≡ header (packet_of content.now 0 sequence payload_type ssrc) ++ big_bytes 2 original) }
+{
+    let header = plain_header(content, 0, sequence, payload_type, ssrc)?;
+    let mut octets = [0; FIXED_HEADER + 2];
+    fill_front(&mut octets, &header);
+    NetworkEndian::write_u16(&mut octets[FIXED_HEADER..], original);
+    Some(octets)
 }
 
 /// How many octets the retransmission of a content has. A datagram has room for them.

@@ -17,7 +17,7 @@ use crate::octets::{u16_at, u32_at};
 use std::marker::Model;
 
 /// How many octets the fixed header has.
-const FIXED_HEADER: usize = 12;
+pub(crate) const FIXED_HEADER: usize = 12;
 
 /// An RTP packet in the octets that spell it, which it borrows. Nothing is copied.
 #[derive(Drop)]

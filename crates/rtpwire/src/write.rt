@@ -1,5 +1,5 @@
 //! Writing an RTP packet.
-ghost use Rattle.std.specs.Prelude.{◌≡◌, ℕ, ◌+◌, ◌*◌, ◌^◌, ◌<◌, ◌≤◌, ◌++◌, [], length, take};
+ghost use Rattle.std.specs.Prelude.{◌≡◌, ℕ, ◌+◌, ◌*◌, ◌^◌, ◌<◌, ◌≤◌, ◌++◌, [], length, take, IfSome};
 ghost use Rattle.rtpwire.specs.Buffer.{in_front};
 ghost use Rattle.rtpwire.specs.Carried.{words_of};
 ghost use Rattle.rtpwire.specs.Rtp.{RtpSpells, IsPacket, written, written_padding, fixed_header, header, extension_octets};
@@ -10,8 +10,10 @@ use crate::content::{Content, Datagram};
 use crate::fill::fill_packet;
 use crate::first_octet::FirstOctet;
 use crate::limits::{MAX_DATAGRAM, MAX_HEADER, MAX_PAYLOAD};
-use crate::octets::{push_octets, push_u16, push_u32, push_words};
+use crate::octets::{push_octets, push_u16, push_words};
+use crate::rtp::FIXED_HEADER;
 use arrayvec::ArrayVec;
+use byteorder::{ByteOrder, NetworkEndian};
 
 /// A padding's octets before its count.
 pub(crate) const ZEROS: [u8; 254] = [0; 254];
@@ -80,9 +82,51 @@ pub fn write_media_into(
     ensures fits { result ≤ MAX_HEADER + MAX_PAYLOAD + 255 }
 {
     content.is_bounded();
+    if let Some(header) = plain_header(content, padding, sequence, payload_type, ssrc) {
+        return fill_packet(out, &header, content.payload(), padding);
+    }
+    write_longer_into(out, content, padding, sequence, payload_type, ssrc)
+}
+
+/// The same for any content. It stands apart since it blanks room for the longest header, which a plain one, as most
+/// are, has no use for.
+#[inline(never)]
+fn write_longer_into(
+    out: &mut [u8],
+    content: &Carried<'_>,
+    padding: u8,
+    sequence: u16,
+    payload_type: u8,
+    ssrc: u32,
+) -> usize
+    requires payload_type { payload_type < 128 }
+    requires room { length (written (packet_of content.now padding sequence payload_type ssrc)) ≤ length out.old }
+    ensures written { out.new ≡ in_front (written (packet_of content.now padding sequence payload_type ssrc)) out.old }
+    ensures len { result ≡ length (written (packet_of content.now padding sequence payload_type ssrc)) }
+    ensures fits { result ≤ MAX_HEADER + MAX_PAYLOAD + 255 }
+{
+    content.is_bounded();
     let mut header = ArrayVec::<u8, MAX_HEADER>::new();
     push_header(&mut header, content, padding, sequence, payload_type, ssrc);
     fill_packet(out, &header, content.payload(), padding)
+}
+
+/// All that stands before a payload where that is the fixed header alone: where there are neither sources nor a header
+/// extension.
+pub(crate) fn plain_header(
+    content: &Carried<'_>,
+    padding: u8,
+    sequence: u16,
+    payload_type: u8,
+    ssrc: u32,
+) -> Option<[u8; FIXED_HEADER]>
+    requires payload_type { payload_type < 128 }
+    ensures { IfSome result (λ octets. octets ≡ header (packet_of content.now padding sequence payload_type ssrc)) }
+{
+    if content.sources().len() > 0 || content.extension().is_some() {
+        return None;
+    }
+    Some(fixed_octets(content, padding, sequence, payload_type, ssrc))
 }
 
 /// How many octets the media packet that carries a content has, with so many octets of padding. A datagram has room for them.
@@ -147,14 +191,32 @@ fn push_fixed_header<const N: usize>(
     requires payload_type { payload_type < 128 }
     ensures items { out.new.items ≡ fixed_header (packet_of content.now padding sequence payload_type ssrc) }
 {
+    let octets = fixed_octets(content, padding, sequence, payload_type, ssrc);
+    push_octets(out, &octets);
+}
+
+/// The first twelve octets of a packet.
+pub(crate) fn fixed_octets(
+    content: &Carried<'_>,
+    padding: u8,
+    sequence: u16,
+    payload_type: u8,
+    ssrc: u32,
+) -> [u8; FIXED_HEADER]
+    requires payload_type { payload_type < 128 }
+    ensures { result ≡ fixed_header (packet_of content.now padding sequence payload_type ssrc) }
+{
     content.is_bounded();
     let is_extended = content.extension().is_some();
     let first = FirstOctet::new(padding > 0, is_extended, content.sources().len() as u8);
     let second = (u8::from(content.marker()) << 7) + payload_type;
-    push_octets(out, &[first.0, second]);
-    push_u16(out, sequence);
-    push_u32(out, content.timestamp());
-    push_u32(out, ssrc);
+    let mut octets = [0; FIXED_HEADER];
+    octets[0] = first.0;
+    octets[1] = second;
+    NetworkEndian::write_u16(&mut octets[2..], sequence);
+    NetworkEndian::write_u32(&mut octets[4..], content.timestamp());
+    NetworkEndian::write_u32(&mut octets[8..], ssrc);
+    octets
 }
 
 fn push_extension<const N: usize>(out: &mut ArrayVec<u8, N>, profile: u16, words: Words<'_>)
