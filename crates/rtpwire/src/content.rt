@@ -1,6 +1,7 @@
 //! What a packet carries from one end to the other.
-ghost use Rattle.std.specs.Prelude.{◌≡◌, ◌↔◌, ◌+◌, ◌/◌, ◌≤◌, ◌++◌, length, IfOk, IsErr};
-ghost use Rattle.rtpwire.specs.Carried.{words_of};
+ghost use Rattle.std.specs.Prelude.{◌≡◌, ◌↔◌, ◌+◌, ◌/◌, ◌≤◌, ◌++◌, length, IfOk, IsErr, IfSome};
+ghost use Rattle.std.specs.Option.{option_map};
+ghost use Rattle.rtpwire.specs.Carried.{words_of, extension_with};
 ghost use Rattle.rtpwire.specs.Content.{packet_of, blank_content, IsTooLong};
 ghost use Rattle.rtpwire.specs.RtpReading.{words_at};
 
@@ -119,14 +120,7 @@ impl Content {
         self.timestamp = from.timestamp();
         self.marker = from.marker();
         refill_words(&mut self.sources, from.sources());
-        self.extension = match from.extension() {
-            Some((profile, from)) => {
-                let mut words = ArrayVec::new();
-                refill_words(&mut words, from);
-                Some(Extension { profile, words })
-            }
-            None => None,
-        };
+        refill_extension(&mut self.extension, from.extension());
     }
 
     /// The same content once more. It takes no memory.
@@ -145,8 +139,21 @@ fn copy_items<T: Copy + Default + Drop, const N: usize>(items: &ArrayVec<T, N>) 
     copy
 }
 
-/// Puts items in the place of those that a vector holds. Where it held as many, nothing is blanked.
+/// Puts items in the place of those that a vector holds. Where it held as many, as is usual, they are moved at once.
 fn refill<T: Copy + Default + Drop, const N: usize>(to: &mut ArrayVec<T, N>, items: &[T])
+    requires { length items.now ≤ N }
+    ensures { to.new.items ≡ items.now }
+{
+    if to.len() == items.len() {
+        to.as_mut_slice().copy_from_slice(items);
+    } else {
+        refill_other(to, items);
+    }
+}
+
+/// The same where it may hold more or fewer. Nothing is blanked but what it held beyond them.
+#[inline(never)]
+fn refill_other<T: Copy + Default + Drop, const N: usize>(to: &mut ArrayVec<T, N>, items: &[T])
     requires { length items.now ≤ N }
     ensures { to.new.items ≡ items.now }
 {
@@ -156,9 +163,21 @@ fn refill<T: Copy + Default + Drop, const N: usize>(to: &mut ArrayVec<T, N>, ite
     to.try_extend_from_slice(behind).unwrap();
 }
 
-/// Puts words in the place of those that a vector holds.
-#[tactic(auto, using(crate::proofs::WordsIn::length_words_at))]
+/// Puts words in the place of those that a vector holds. Where there were none and are none, as is usual, nothing is
+/// done.
 fn refill_words<const N: usize>(to: &mut ArrayVec<u32, N>, words: Words<'_>)
+    requires { length (words_of words) ≤ N }
+    ensures { to.new.items ≡ words_of words.entry }
+{
+    if to.len() > 0 || words.len() > 0 {
+        put_words(to, words);
+    }
+}
+
+/// The same, whatever there was and is.
+#[inline(never)]
+#[tactic(auto, using(crate::proofs::WordsIn::length_words_at))]
+fn put_words<const N: usize>(to: &mut ArrayVec<u32, N>, words: Words<'_>)
     requires { length (words_of words) ≤ N }
     ensures { to.new.items ≡ words_of words.entry }
 {
@@ -169,6 +188,47 @@ fn refill_words<const N: usize>(to: &mut ArrayVec<u32, N>, words: Words<'_>)
             push_words_in(to, octets);
         }
     }
+}
+
+/// Puts an extension in the place of the one that was held. Where there was none and is none, as is usual, nothing is
+/// done.
+fn refill_extension(to: &mut Option<Extension>, from: Option<(u16, Words<'_>)>)
+    requires { IfSome from (λ e. length (words_of e.1) ≤ MAX_WORDS) }
+    ensures { to.new ≡ option_map extension_with from.entry }
+{
+    match from {
+        Some((profile, words)) => put_extension(to, profile, words),
+        None => {
+            if to.is_some() {
+                *to = None;
+            }
+        }
+    }
+}
+
+/// Where one was held, its room is used again.
+#[inline(never)]
+fn put_extension(to: &mut Option<Extension>, profile: u16, words: Words<'_>)
+    requires { length (words_of words) ≤ MAX_WORDS }
+    ensures { to.new ≡ Some (extension_with (profile, words.entry)) }
+{
+    match to {
+        Some(held) => {
+            held.profile = profile;
+            refill_words(&mut held.words, words);
+        }
+        None => *to = Some(extension_of_lent(profile, words)),
+    }
+}
+
+/// An extension that lies elsewhere.
+fn extension_of_lent(profile: u16, lent: Words<'_>) -> Extension
+    requires { length (words_of lent) ≤ MAX_WORDS }
+    ensures { result ≡ extension_with (profile, lent.entry) }
+{
+    let mut words = ArrayVec::new();
+    put_words(&mut words, lent);
+    Extension { profile, words }
 }
 
 /// Appends the words that octets spell.
