@@ -1,5 +1,5 @@
 //! Retransmissions: a packet that repeats an earlier one (RFC 4588, section 4).
-ghost use Rattle.std.specs.Prelude.{◌≡◌, ◌↔◌, ℕ, ◌^◌, ◌<◌, ◌≤◌, ◌+◌, ◌++◌, [], length, take, IfSome, IsNone, IfOk, IfErr, IsErr};
+ghost use Rattle.std.specs.Prelude.{◌≡◌, ◌↔◌, ◌⊎◌, ℕ, ◌^◌, ◌<◌, ◌≤◌, ◌+◌, ◌++◌, [], length, take, IfSome, IsSome, IsNone, IfOk, IfErr, IsErr};
 ghost use Rattle.byteorder.specs.Endian.{big_bytes};
 ghost use Rattle.rtpwire.specs.Buffer.{in_front};
 ghost use Rattle.rtpwire.specs.Content.{packet_of};
@@ -191,7 +191,8 @@ fn plain_repair_header(
     ssrc: u32,
 ) -> Option<[u8; FIXED_HEADER + 2]>
     requires payload_type { payload_type < 128 }
-    ensures { IfSome result (λ octets. octets ≡ header (packet_of content.now 0 sequence payload_type ssrc) ++ big_bytes 2 original) }
+    ensures some { IfSome result (λ octets. octets ≡ header (packet_of content.now 0 sequence payload_type ssrc) ++ big_bytes 2 original) }
+    ensures none { IsNone result ↔ (0 < length content.now.sources.items) ⊎ IsSome content.now.extension }
 {
     let header = plain_header(content, 0, sequence, payload_type, ssrc)?;
     let mut octets = [0; FIXED_HEADER + 2];

@@ -1,5 +1,5 @@
 //! Writing an RTP packet.
-ghost use Rattle.std.specs.Prelude.{◌≡◌, ℕ, ◌+◌, ◌*◌, ◌^◌, ◌<◌, ◌≤◌, ◌++◌, [], length, take, IfSome};
+ghost use Rattle.std.specs.Prelude.{◌≡◌, ◌↔◌, ◌⊎◌, ℕ, ◌+◌, ◌*◌, ◌^◌, ◌<◌, ◌≤◌, ◌++◌, [], length, take, IfSome, IsSome, IsNone};
 ghost use Rattle.rtpwire.specs.Buffer.{in_front};
 ghost use Rattle.rtpwire.specs.Carried.{words_of};
 ghost use Rattle.rtpwire.specs.Rtp.{RtpSpells, IsPacket, written, written_padding, fixed_header, header, extension_octets};
@@ -121,7 +121,8 @@ pub(crate) fn plain_header(
     ssrc: u32,
 ) -> Option<[u8; FIXED_HEADER]>
     requires payload_type { payload_type < 128 }
-    ensures { IfSome result (λ octets. octets ≡ header (packet_of content.now padding sequence payload_type ssrc)) }
+    ensures some { IfSome result (λ octets. octets ≡ header (packet_of content.now padding sequence payload_type ssrc)) }
+    ensures none { IsNone result ↔ (0 < length content.now.sources.items) ⊎ IsSome content.now.extension }
 {
     if content.sources().len() > 0 || content.extension().is_some() {
         return None;

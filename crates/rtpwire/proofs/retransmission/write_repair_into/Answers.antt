@@ -18,7 +18,7 @@ pub returns-in-Some-clause-written : goal.returns-in-Some-clause-written
 returns-in-Some-clause-written c =
     let repair = repair_of c.args.content.now c.args.original c.args.sequence c.args.payload_type c.args.ssrc in
     c.fill_packet.ensures.written
-    ∙ ap (λ (x : List ℕ). in_front (x ++ written_padding 0) c.args.out.now) (in_parts repair c.in-Some.header c.payload.result.now c.in-Some.ensures c.payload.ensures)
+    ∙ ap (λ (x : List ℕ). in_front (x ++ written_padding 0) c.args.out.now) (in_parts repair c.in-Some.header c.payload.result.now c.in-Some.ensures.some c.payload.ensures)
 
 pub returns-in-Some-clause-spells : goal.returns-in-Some-clause-spells
 returns-in-Some-clause-spells c =
@@ -27,7 +27,7 @@ returns-in-Some-clause-spells c =
     record {
       number = omega arith;
       spelled = front-spelled (repair_packet repair) c.in-Some.header c.payload.result.now c.args.out.now c.fill_packet.new.out c.fill_packet.result
-          (repair-packet repair is) (in_parts repair c.in-Some.header c.payload.result.now c.in-Some.ensures c.payload.ensures) c.fill_packet.ensures.written c.fill_packet.ensures.len;
+          (repair-packet repair is) (in_parts repair c.in-Some.header c.payload.result.now c.in-Some.ensures.some c.payload.ensures) c.fill_packet.ensures.written c.fill_packet.ensures.len;
     }
 
 pub returns-clause-spells : goal.returns-clause-spells

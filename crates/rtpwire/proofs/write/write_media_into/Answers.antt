@@ -10,7 +10,7 @@ returns-in-Some-clause-spells c =
     let packet = packet_of c.args.content.now c.args.padding c.args.sequence c.args.payload_type c.args.ssrc in
     let is = carries c.args.content.now c.args.padding c.args.sequence c.args.payload_type c.args.ssrc c.is_bounded.ensures (omega arith) c.requires.padding (omega arith) c.requires.payload_type (omega arith) in
     let same : c.in-Some.header ++ c.payload.result.now ≡ unpadded packet =
-    ap (λ (x : List ℕ). x ++ c.payload.result.now) c.in-Some.ensures ∙ ap (λ (x : List ℕ). header packet ++ x) c.payload.ensures in
+    ap (λ (x : List ℕ). x ++ c.payload.result.now) c.in-Some.ensures.some ∙ ap (λ (x : List ℕ). header packet ++ x) c.payload.ensures in
     front-spelled packet c.in-Some.header c.payload.result.now c.args.out.now c.fill_packet.new.out c.fill_packet.result is same c.fill_packet.ensures.written c.fill_packet.ensures.len
 
 pub returns-clause-spells : goal.returns-clause-spells
