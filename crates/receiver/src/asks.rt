@@ -4,7 +4,6 @@ ghost use Rattle.std.specs.List.Sorted.{IsStrictlyIncreasing};
 ghost use Rattle.stores.specs.ByPlace.{slot_at};
 ghost use Rattle.stores.specs.Asking.{due_places, is_due};
 ghost use Rattle.stores.specs.PlaceLists.{Lists};
-ghost use Rattle.receiver.specs.Config.{Config};
 ghost use Rattle.receiver.specs.Asks.{AsksAny, AsksInto, AsksMost, AsksMostInto, CountsMissing};
 ghost use Rattle.receiver.specs.Counted.{CanAllBeAsked, CountsAsks, AnswersPairs};
 ghost use Rattle.receiver.specs.Window.{window_of};
@@ -59,7 +58,7 @@ pub(crate) fn ask_from<W: Window>(
     ensures started { (W.meaning window.new).cursor ≡ (W.meaning window.old).cursor }
     ensures capacity { (W.meaning window.new).capacity ≡ (W.meaning window.old).capacity }
 {
-    if asks_nothing(window) {
+    if asks_nothing(window, config, now) {
         return None;
     }
     let mut due = ArrayVec::new();
@@ -90,7 +89,7 @@ pub(crate) fn ask_into_from<W: Window>(
     ensures started { (W.meaning window.new).cursor ≡ (W.meaning window.old).cursor }
     ensures capacity { (W.meaning window.new).capacity ≡ (W.meaning window.old).capacity }
 {
-    if asks_nothing(window) {
+    if asks_nothing(window, config, now) {
         return Ok(None);
     }
     let mut due = ArrayVec::new();
@@ -110,13 +109,15 @@ pub(crate) fn ask_into_from<W: Window>(
     Ok(Some(len))
 }
 
-/// Whether nothing is missing, so that there is nothing to ask for. Most asks end here, before room for the due places
-/// is blanked.
-fn asks_nothing<W: Window>(window: &W) -> bool
-    ensures { IsTrue result → (c : Config) (now most : ℕ) (learnt : Option ℕ) → AsksMost c (window_of learnt (W.meaning window.now)) now most None (window_of learnt (W.meaning window.now)) }
+/// Whether no place is due. Most asks end here, before room for the due places is blanked and all that is missing is looked at.
+fn asks_nothing<W: Window>(window: &W, config: &ReceiverConfig, now: u64) -> bool
+    ensures { IsTrue result → (most : ℕ) (learnt : Option ℕ) → AsksMost config.now (window_of learnt (W.meaning window.now)) now most None (window_of learnt (W.meaning window.now)) }
 {
     window_by_place();
-    window.missing() == 0
+    match window.next_due(config.rule()) {
+        Some(moment) => now < moment,
+        None => true,
+    }
 }
 
 /// Finds the due places of a window, at most so many and as many as one ask looks at, and packs them: the pairs, and how many

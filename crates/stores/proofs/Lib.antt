@@ -5,6 +5,7 @@ pub mod ReadPlaces
 pub mod Passing
 pub mod DueSlots
 pub mod NextDue
+pub mod LeastMoments
 pub mod Counting
 pub mod Listed
 pub mod AskPlaces

@@ -2,7 +2,7 @@
 use Rattle.std.proofs.Common.{◌≡◌, ℕ, zero, suc, ◌+◌, ◌-◌, ◌^◌, ◌<◌, ◌≤◌, ◌||◌, List, [], length, slice_get, Bool, true, false, Option, Some, None, ap, sym, ◌∙◌, refl, arith, ⊎_elim}
 use Rattle.std.specs.Option.{ForNone}
 use Rattle.std.proofs.lemmas.Bool.{cases_eq, cases_Bool, or_parts, or_from}
-use Rattle.std.proofs.Math.Bool.{or-false}
+use Rattle.std.proofs.Math.Bool.{or-false, or-true}
 use Rattle.stores.proofs.Passing.{passing, passing_yes, passing_no, passing_none}
 use Rattle.stores.specs.declared.slot.Slot.{Slot}
 use Rattle.stores.specs.ByPlace.{slot_from}
@@ -66,3 +66,16 @@ next_of_slots (Some k) slots capacity delay retry limit moment none is now fits 
       λ empty. is now fits ∙ all_below test (length slots) (λ i l. sym (ap (is_due now delay retry limit) (slot_from_index k slots i)) ∙ nothing_passes due k (length slots) empty i l),
       λ never. passes_nothing due k (length slots) (λ i l. ap (is_due now delay retry limit) (slot_from_index k slots i) ∙ none_below test (length slots) (sym (is now fits) ∙ never) i l),
     )
+
+-- numbers that pass only where an earlier one does are passed over
+pub any_bounded : (f : ℕ → Bool) (least : Bool) (i n j : ℕ) → j ≡ i + n → least ≡ any_below f i → ((p : ℕ) → i ≤ p → p < j → f p ≡ true → least ≡ true) → least ≡ any_below f j
+any_bounded f least i zero j at so_far bounded = let same : j ≡ i = omega arith in rw same so_far
+any_bounded f least i (suc n) j at so_far bounded =
+    let next : j ≡ suc (i + n) = omega arith in
+    let before : least ≡ any_below f (i + n) = any_bounded f least i n (i + n) refl so_far (λ p l u. bounded p l (omega arith)) in
+    let here : f (i + n) ≡ true → least ≡ true = bounded (i + n) (omega arith) (omega arith) in
+    rw next (joined least (any_below f (i + n)) (f (i + n)) before here)
+  where
+    joined : (a b c : Bool) → a ≡ b → (c ≡ true → a ≡ true) → a ≡ (b || c)
+    joined a b true e is = is refl ∙ sym (or-true b)
+    joined a b false e is = e ∙ sym (or-false b)

@@ -1,5 +1,5 @@
 -- What a put means for the slot of each place.
-use Rattle.std.proofs.Common.{◌≡◌, ℕ, ◌+◌, ◌-◌, ◌<◌, ◌≤◌, ◌==◌, ◌&&◌, List, [], ◌∷◌, ◌++◌, length, drop, replicate, slice_get, slice_set, Option, Some, None, Result, Err, Bool, true, false, nat_lt, cond, refl, ap, sym, subst, ◌∙◌, arith, ltb-true, ltb-false, length-append, length-drop, length-set}
+use Rattle.std.proofs.Common.{◌≡◌, ℕ, ◌+◌, ◌-◌, ◌<◌, ◌≤◌, ◌==◌, ◌&&◌, List, [], ◌∷◌, ◌++◌, length, drop, replicate, slice_get, slice_set, Option, Some, None, Result, Ok, Err, Bool, true, false, nat_lt, cond, refl, ap, sym, subst, ◌∙◌, arith, ltb-true, ltb-false, length-append, length-drop, length-set}
 use Rattle.std.specs.Prelude.{OnOk, OnErr, if◌then◌else◌}
 use Rattle.std.proofs.lemmas.List.{length-replicate}
 use Rattle.std.proofs.lemmas.Bool.{cond_both}
@@ -11,7 +11,8 @@ use Rattle.stores.specs.declared.slot.Slot.TheVariants.{Held, Missing}
 use Rattle.stores.specs.declared.slot.PutFault.{PutFault}
 use Rattle.stores.specs.declared.slot.PutFault.TheVariants.{Late}
 use Rattle.stores.specs.Span.{Span, IsSpan}
-use Rattle.stores.specs.Put.{noticed_at, overrun_of, answer_at, put_answer, extended, after_higher, left_from, after_put}
+use Rattle.stores.specs.declared.spot.Spot.TheVariants.{Above}
+use Rattle.stores.specs.Put.{IsSpot, noticed_at, overrun_of, answer_at, put_answer, extended, after_higher, left_from, after_put}
 use Rattle.stores.specs.ByPlace.{slot_from, StartsWith, Gains, PutStep}
 use Rattle.stores.proofs.Lookup.{slice_get-append_left, slice_get-append_right, slice_get-drop, slice_get-replicate, slice_get-set_same, slice_get-set_other}
 
@@ -170,3 +171,12 @@ pub put_by_place : (old new : Span) (p : ℕ) (content : Content) (now : ℕ) (r
 put_by_place old new p content now result is answer ok err =
     let T : Result ℕ PutFault → Type 0 = λ r. OnOk r (new ≡ after_put old p content now) → OnErr r (new ≡ old) → PutStep p content now old r new in
     subst T (sym answer) (by_cursor old.cursor old.slots old.capacity p content now new is) ok err
+
+-- the answer to a put above all slots
+pub answer_above : (cursor : Option ℕ) (slots : List Slot) (capacity k p overrun unseen : ℕ) → cursor ≡ Some k → IsSpot k (length slots) capacity p (Above overrun unseen) →
+    Ok overrun ≡ put_answer (record { cursor = cursor; slots = slots; capacity = capacity }) p
+answer_above cursor slots capacity k p overrun unseen started spot =
+    let above = spot.0 in
+    let least : nat_lt p k ≡ false = grind (arith, nat_tests, above) in
+    let none = slice_get_past slots (p - k) (omega arith) in
+    rw (started, least, none, spot.1) refl

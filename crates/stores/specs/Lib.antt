@@ -9,6 +9,7 @@ pub mod RunIsPast
 pub mod PastByPlace
 pub mod Bits
 pub mod Index
+pub mod Low
 pub mod Lent
 pub mod Numbers
 pub mod Pool

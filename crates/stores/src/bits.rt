@@ -1,7 +1,8 @@
 //! A set of positions below a bound, in words of 64 bits.
-ghost use Rattle.std.specs.Prelude.{◌≡◌, ℕ, ◌+◌, ◌-◌, ◌*◌, ◌/◌, ◌<◌, ◌≤◌, ◌==◌, true, false, length, replicate, MatchOption, IfOk, if◌then◌else◌, nat_lt};
+ghost use Rattle.std.specs.Prelude.{◌≡◌, ℕ, ◌+◌, ◌-◌, ◌*◌, ◌/◌, ◌<◌, ◌≤◌, ◌==◌, true, false, length, replicate, MatchOption, IfOk, IfSome, IsTrue, if◌then◌else◌, nat_lt};
 ghost use Rattle.std.specs.Int.{bit_at};
 ghost use Rattle.stores.specs.Bits.{is_set, bits_of, turned, is_member, size_of, is_between, set_from, members_below};
+ghost use Rattle.stores.specs.Low.{word_of};
 
 use crate::memory::OutOfMemory;
 use std::alloc::Global;
@@ -82,6 +83,7 @@ impl Bits {
             ≡ (if is_between from (from + count) p then true else is_member self.old.words.items self.old.front p) }
         ensures size { size_of self.new.words.items ≡ size_of self.old.words.items + count }
         ensures words { length self.new.words.items ≡ length self.old.words.items }
+        ensures front { self.new.front ≡ self.old.front }
     {
         let bound = 64 * self.words.len();
         let start = self.front + from;
@@ -102,6 +104,7 @@ impl Bits {
             is_member self.new.words.items self.new.front p ≡ (if p == position then false else is_member self.old.words.items self.old.front p) }
         ensures size { size_of self.new.words.items + (if is_member self.old.words.items self.old.front position then 1 else 0) ≡ size_of self.old.words.items }
         ensures words { length self.new.words.items ≡ length self.old.words.items }
+        ensures front { self.new.front ≡ self.old.front }
     {
         let bit = self.bit_of(position);
         if test_bit(self.words.as_slice(), bit) {
@@ -134,6 +137,58 @@ impl Bits {
         Some(above + bit)
     }
 
+    /// The number of the word that has the bit of this position.
+    pub fn word_of(&self, position: usize) -> usize
+        requires { position < bits_of self.now.words.items }
+        ensures word { result ≡ word_of (length self.now.words.items) self.now.front position }
+        ensures within { result < length self.now.words.items }
+    {
+        self.bit_of(position) / 64
+    }
+
+    /// Whether the set has no position whose bit is in this word.
+    pub fn is_blank(&self, word: usize) -> bool
+        requires { word < length self.now.words.items }
+        ensures { IsTrue result → (p : ℕ) → word_of (length self.now.words.items) self.now.front p ≡ word → is_member self.now.words.items self.now.front p ≡ false }
+    {
+        self.words[word] == 0
+    }
+
+    /// The end of the positions from this one on whose bits are in its word.
+    pub fn run_end(&self, position: usize) -> usize
+        requires { position < bits_of self.now.words.items }
+        ensures above { position < result }
+        ensures within { result ≤ bits_of self.now.words.items }
+        ensures run { (p : ℕ) → position ≤ p → p < result → word_of (length self.now.words.items) self.now.front p ≡ word_of (length self.now.words.items) self.now.front position }
+    {
+        let bound = 64 * self.words.len();
+        let ahead = 64 - self.bit_of(position) % 64;
+        bound.min(position + ahead)
+    }
+
+    /// The first of the positions whose bits are in the word of this one. None where they are no run: both the first position and
+    /// the last one are among them.
+    pub fn run_start(&self, position: usize) -> Option<usize>
+        requires { position < bits_of self.now.words.items }
+        ensures start { IfSome result (λ start. start ≤ position) }
+        ensures run { IfSome result (λ start. (p : ℕ) → p < bits_of self.now.words.items → word_of (length self.now.words.items) self.now.front p ≡ word_of (length self.now.words.items) self.now.front position → start ≤ p) }
+        ensures end { IfSome result (λ start. (p : ℕ) → p < bits_of self.now.words.items → word_of (length self.now.words.items) self.now.front p ≡ word_of (length self.now.words.items) self.now.front position → p < start + 64) }
+    {
+        let bit = self.bit_of(position);
+        if self.front % 64 > 0 && bit / 64 == self.front / 64 {
+            return None;
+        }
+        position.checked_sub(bit % 64)
+    }
+
+    /// Whether the set has no further position behind this one whose bit is in its word.
+    pub fn is_last(&self, position: usize) -> bool
+        requires { position < bits_of self.now.words.items }
+    {
+        let bit = self.bit_of(position);
+        self.words[bit / 64] >> (bit % 64) <= 1
+    }
+
     /// Takes every position out of the set.
     pub fn clear_all(&mut self)
         ensures empty { (p : ℕ) → is_member self.new.words.items self.new.front p ≡ false }
@@ -151,6 +206,7 @@ impl Bits {
             ≡ (if p + 1 == bits_of self.old.words.items then false else is_member self.old.words.items self.old.front (p + 1)) }
         ensures size { size_of self.new.words.items + (if is_member self.old.words.items self.old.front 0 then 1 else 0) ≡ size_of self.old.words.items }
         ensures words { length self.new.words.items ≡ length self.old.words.items }
+        ensures front { self.new.front ≡ turned (bits_of self.old.words.items) self.old.front 1 }
     {
         self.clear(0);
         self.turn();
@@ -164,6 +220,7 @@ impl Bits {
             ≡ (if nat_lt (p + count) (bits_of self.old.words.items) then is_member self.old.words.items self.old.front (p + count) else false) }
         ensures size { size_of self.new.words.items + members_below self.old.words.items self.old.front count ≡ size_of self.old.words.items }
         ensures words { length self.new.words.items ≡ length self.old.words.items }
+        ensures front { self.new.front ≡ turned (bits_of self.old.words.items) self.old.front count }
     {
         let bound = 64 * self.words.len();
         let end = self.front + count;
@@ -180,6 +237,7 @@ impl Bits {
             is_member self.new.words.items self.new.front p
             ≡ (if p + 1 == bits_of self.old.words.items then is_member self.old.words.items self.old.front 0 else is_member self.old.words.items self.old.front (p + 1)) }
         ensures words { self.new.words.items ≡ self.old.words.items }
+        ensures front { self.new.front ≡ turned (bits_of self.old.words.items) self.old.front 1 }
     {
         self.front += 1;
         if self.front == 64 * self.words.len() {

@@ -12,6 +12,8 @@ mod history;
 mod laws;
 mod list_history;
 mod list_window;
+mod low;
+mod lows;
 mod memory;
 mod pool;
 mod ring;

@@ -6,9 +6,12 @@ ghost use Rattle.stores.specs.ByPlace.{slot_from};
 ghost use Rattle.stores.specs.Asking.{longest_ask, is_due, is_missing, has_come, any_below};
 ghost use Rattle.stores.specs.Bits.{bits_of, IsSetOf};
 ghost use Rattle.stores.specs.Index.{IsIndex};
+ghost use Rattle.stores.specs.Low.{AreLow};
 
 use crate::ask_rule::{AskRule, sooner};
 use crate::bits::Bits;
+use crate::low::{Low, is_no_sooner};
+use crate::lows::{note_ask, note_missing};
 use crate::memory::OutOfMemory;
 use crate::slot::{PutFault, Slot, SlotRef};
 use crate::slots::Slots;
@@ -29,6 +32,8 @@ pub struct RingWindow {
     slots: Slots,
     // The missing places, by how far they are from the cursor.
     missing: Bits,
+    // The least moments of the missing places of each word of those bits.
+    lows: Vec<Low>,
     ghost room: { length slots.items ≤ slots.capacity },
     ghost nonzero: { 0 < slots.capacity },
     ghost limit: { slots.capacity ≤ 8192 },
@@ -37,6 +42,8 @@ pub struct RingWindow {
     ghost wide: { slots.capacity < bits_of missing.words.items },
     ghost exact: { length missing.words.items ≡ slots.capacity / 64 + 1 },
     ghost index: { IsIndex missing.words.items missing.front slots.items },
+    ghost blocks: { length lows.items ≡ length missing.words.items },
+    ghost low: { AreLow lows.items missing.front slots.items },
 }
 
 impl Window for RingWindow {
@@ -50,10 +57,12 @@ impl Window for RingWindow {
     fn new(alloc: Global, capacity: usize) -> Result<Self, OutOfMemory> {
         let slots = Slots::new(alloc, capacity)?;
         let missing = Bits::new(alloc, capacity)?;
+        let lows = vec![in alloc; Low::NONE; capacity / 64 + 1]?;
         Ok(RingWindow {
             cursor: None,
             slots,
             missing,
+            lows,
         })
     }
 
@@ -98,8 +107,14 @@ impl Window for RingWindow {
                 Ok(0)
             }
             Spot::Above { overrun, unseen } => {
-                drop_front(&mut self.slots, &mut self.missing, overrun);
-                add_missing(&mut self.slots, &mut self.missing, unseen, now);
+                drop_front(&mut self.slots, &mut self.missing, &self.lows, overrun);
+                add_missing(
+                    &mut self.slots,
+                    &mut self.missing,
+                    &mut self.lows,
+                    unseen,
+                    now,
+                );
                 self.slots.append_held(carried);
                 self.cursor = Some(cursor + overrun);
                 Ok(overrun)
@@ -144,7 +159,7 @@ impl Window for RingWindow {
     }
 
     fn next_due(&self, rule: AskRule) -> Option<u64> {
-        next_among(&self.slots, &self.missing, rule)
+        next_among(&self.slots, &self.missing, &self.lows, rule)
     }
 
     fn count_ask(&mut self, place: Place, now: u64) {
@@ -153,6 +168,7 @@ impl Window for RingWindow {
         };
         let index = (place.value() - cursor) as usize;
         self.slots.count_ask(index, now);
+        note_ask(&self.slots, &self.missing, &mut self.lows, index, now);
     }
 
     fn missing(&self) -> usize {
@@ -161,13 +177,16 @@ impl Window for RingWindow {
 }
 
 /// Drops the first slots, as many as there are of so many.
-fn drop_front(slots: &mut Slots, missing: &mut Bits, count: u64)
+fn drop_front(slots: &mut Slots, missing: &mut Bits, lows: &Vec<Low>, count: u64)
     requires room { length slots.old.items < bits_of missing.old.words.items }
     requires index { IsIndex missing.old.words.items missing.old.front slots.old.items }
+    requires blocks { length lows.now.items ≡ length missing.old.words.items }
+    requires low { AreLow lows.now.items missing.old.front slots.old.items }
     ensures items { slots.new.items ≡ drop count slots.old.items }
     ensures capacity { slots.new.capacity ≡ slots.old.capacity }
     ensures words { length missing.new.words.items ≡ length missing.old.words.items }
     ensures index { IsIndex missing.new.words.items missing.new.front slots.new.items }
+    ensures low { AreLow lows.now.items missing.new.front slots.new.items }
 {
     if count == 0 {
         return;
@@ -182,18 +201,23 @@ fn drop_front(slots: &mut Slots, missing: &mut Bits, count: u64)
 }
 
 /// Appends so many slots of places that were noticed to be missing now.
-fn add_missing(slots: &mut Slots, missing: &mut Bits, count: u64, now: u64)
+fn add_missing(slots: &mut Slots, missing: &mut Bits, lows: &mut Vec<Low>, count: u64, now: u64)
     requires room { length slots.old.items + count ≤ slots.old.capacity }
     requires wide { slots.old.capacity < bits_of missing.old.words.items }
     requires index { IsIndex missing.old.words.items missing.old.front slots.old.items }
+    requires blocks { length lows.old.items ≡ length missing.old.words.items }
+    requires low { AreLow lows.old.items missing.old.front slots.old.items }
     ensures items { slots.new.items ≡ slots.old.items ++ replicate count (noticed_at now) }
     ensures capacity { slots.new.capacity ≡ slots.old.capacity }
     ensures words { length missing.new.words.items ≡ length missing.old.words.items }
     ensures index { IsIndex missing.new.words.items missing.new.front slots.new.items }
+    ensures blocks { length lows.new.items ≡ length lows.old.items }
+    ensures low { AreLow lows.new.items missing.new.front slots.new.items }
 {
     if count == 0 {
         return;
     }
+    note_missing(slots, missing, lows, count as usize, now);
     missing.set_range(slots.len(), count as usize);
     'added: for _ in 0..count {
         slots.append_missing(now);
@@ -250,14 +274,48 @@ fn due_of_all(
 }
 
 /// The least moment from which on one of these slots is due.
-fn next_among(slots: &Slots, missing: &Bits, rule: AskRule) -> Option<u64>
+fn next_among(slots: &Slots, missing: &Bits, lows: &Vec<Low>, rule: AskRule) -> Option<u64>
     requires room { length slots.now.items < bits_of missing.now.words.items }
     requires index { IsSetOf is_missing missing.now.words.items missing.now.front slots.now.items }
+    requires blocks { length lows.now.items ≡ length missing.now.words.items }
+    requires low { AreLow lows.now.items missing.now.front slots.now.items }
     ensures { (now : ℕ) → now < 2 ^ 64 → has_come result now ≡ any_below (λ i. is_due now rule.delay rule.retry rule.asks (slice_get slots.now.items i)) (length slots.now.items) }
 {
     let mut least = None;
     let mut index = 0;
     while let Some(next) = missing.first(index) {
+        let end = missing.run_end(next).min(slots.len());
+        let soonest = lows[missing.word_of(next)].due_from(rule);
+        if !is_no_sooner(soonest, least) {
+            least = next_within(least, slots, missing, next, end, rule);
+        }
+        index = end;
+    }
+    least
+}
+
+/// The least moment from which on one of the slots up to an end is due, where that is the least one of those before a start.
+fn next_within(
+    before: Option<u64>,
+    slots: &Slots,
+    missing: &Bits,
+    start: usize,
+    end: usize,
+    rule: AskRule,
+) -> Option<u64>
+    requires order { start ≤ end }
+    requires end { end ≤ length slots.now.items }
+    requires room { length slots.now.items < bits_of missing.now.words.items }
+    requires index { IsSetOf is_missing missing.now.words.items missing.now.front slots.now.items }
+    requires before { (now : ℕ) → now < 2 ^ 64 → has_come before now ≡ any_below (λ i. is_due now rule.delay rule.retry rule.asks (slice_get slots.now.items i)) start }
+    ensures { (now : ℕ) → now < 2 ^ 64 → has_come result now ≡ any_below (λ i. is_due now rule.delay rule.retry rule.asks (slice_get slots.now.items i)) end }
+{
+    let mut least = before;
+    let mut index = start;
+    while let Some(next) = missing.first(index) {
+        if next >= end {
+            return least;
+        }
         least = sooner(least, slots.get(next).unwrap().due_from(rule));
         index = next + 1;
     }

@@ -1,33 +1,83 @@
-use Rattle.std.proofs.Common.{◌≡◌, ℕ, ◌-◌, ◌||◌, Bool, length, slice_get, Some, rules, ap, sym, ◌∙◌, arith}
-use Rattle.stores.specs.Asking.{is_due, has_come, any_below}
-use Rattle.stores.specs.Lent.{slot_of}
+use Rattle.std.proofs.Common.{ℕ, ◌-◌, ◌<◌, ◌≤◌, Bool, length, slice_get, rules, ap, sym, ◌∙◌, arith}
+use Rattle.std.specs.Prelude.{IsTrue}
+use Rattle.std.proofs.lemmas.Bool.Decides.{nat_tests}
+use Rattle.std.proofs.lemmas.Option.{slice_get_read}
+use Rattle.stores.specs.Asking.{is_due, has_come}
+use Rattle.stores.specs.Low.{word_of}
 use Rattle.stores.proofs.SlotPlaces.{missing_within}
 use Rattle.stores.proofs.DueSlots.{not_due}
-use Rattle.stores.proofs.NextDue.{any_more, any_skip}
+use Rattle.stores.proofs.NextDue.{any_skip, any_bounded}
 use Rattle.stores.proofs.ring_window.next_among.Goals as goal
 
-pub loop-next-preserved : goal.loop-next-preserved
-loop-next-preserved c =
+pub next_within-least-requires-clause-before : goal.next_within-least-requires-clause-before
+next_within-least-requires-clause-before c = λ now fits.
     let found = c.in-Some.ensures in
-    let above = found.0 in
     let next = c.in-Some.next in
     let index = c.loop-next.index in
     let slots = c.args.slots.now.items in
     let rule = c.args.rule in
     let room = c.requires.room in
+    let above = found.0 in
     let within = missing_within slots next (sym (c.requires.index next found.1) ∙ found.2) in
-    let got : slice_get slots next ≡ Some (slot_of c.unwrap.result) = search rules in
+    let f : ℕ → Bool = λ i. is_due now rule.delay rule.retry rule.asks (slice_get slots i) in
+    let skip = any_skip f index (next - index) next (omega arith) (λ p l u. not_due now rule.delay rule.retry rule.asks (slice_get slots p) (sym (c.requires.index p (omega arith)) ∙ found.3 p l u)) in
+    c.loop-next.invariant.so_far now fits ∙ sym skip
+
+pub loop-next-smaller-then-not-is_no_sooner : goal.loop-next-smaller-then-not-is_no_sooner
+loop-next-smaller-then-not-is_no_sooner c =
+    let found = c.in-Some.ensures in
+    let above = found.0 in
+    let below = found.1 in
+    let within = missing_within c.args.slots.now.items c.in-Some.next (sym (c.requires.index c.in-Some.next found.1) ∙ found.2) in
+    let further = c.run_end.ensures.above in
+    let len = c.len.ensures.len in
+    let end = c.min-end.ensures in
+    grind (arith, nat_tests)
+
+pub loop-next-smaller : goal.loop-next-smaller
+loop-next-smaller c =
+    let found = c.in-Some.ensures in
+    let above = found.0 in
+    let below = found.1 in
+    let within = missing_within c.args.slots.now.items c.in-Some.next (sym (c.requires.index c.in-Some.next found.1) ∙ found.2) in
+    let further = c.run_end.ensures.above in
+    let len = c.len.ensures.len in
+    let end = c.min-end.ensures in
+    grind (arith, nat_tests)
+
+pub loop-next-preserved : goal.loop-next-preserved
+loop-next-preserved c =
+    let found = c.in-Some.ensures in
+    let next = c.in-Some.next in
+    let index = c.loop-next.index in
+    let slots = c.args.slots.now.items in
+    let lows = c.args.lows.now.items in
+    let words = c.args.missing.now.words.items in
+    let front = c.args.missing.now.front in
+    let rule = c.args.rule in
+    let room = c.requires.room in
+    let above = found.0 in
+    let below = found.1 in
+    let within = missing_within slots next (sym (c.requires.index next found.1) ∙ found.2) in
+    let further = c.run_end.ensures.above in
+    let len = c.len.ensures.len in
+    let end = c.min-end.ensures in
+    let early : c.min-end.result ≤ length slots = grind (arith, nat_tests) in
+    let ends : c.min-end.result ≤ c.run_end.result = grind (arith, nat_tests) in
+    let ahead : next < c.min-end.result = grind (arith, nat_tests) in
     record {
       so_far = λ now fits.
           let f : ℕ → Bool = λ i. is_due now rule.delay rule.retry rule.asks (slice_get slots i) in
-          let here : f next ≡ is_due now rule.delay rule.retry rule.asks (Some (slot_of c.unwrap.result)) = ap (is_due now rule.delay rule.retry rule.asks) got in
           let skip = any_skip f index (next - index) next (omega arith) (λ p l u. not_due now rule.delay rule.retry rule.asks (slice_get slots p) (sym (c.requires.index p (omega arith)) ∙ found.3 p l u)) in
-          c.sooner-least.ensures now
-          ∙ ap (λ (b : Bool). b || has_come c.due_from.result now) (c.loop-next.invariant.so_far now fits)
-          ∙ ap (λ (b : Bool). any_below f index || b) (sym (c.due_from.ensures now fits) ∙ sym here)
-          ∙ ap (λ (b : Bool). b || f next) (sym skip)
-          ∙ sym (any_more f next);
-      within = omega arith;
+          let was = slice_get_read lows (length words) c.word_of.result c.index.result.now (sym c.requires.blocks) c.word_of.ensures.within c.index.ensures in
+          let later : IsTrue c.is_no_sooner.result = search rules in
+          any_bounded f (has_come c.loop-next.least now) next (c.min-end.result - next) c.min-end.result (omega arith)
+          (c.loop-next.invariant.so_far now fits ∙ sym skip)
+          (λ p l u due.
+          let word = ap (λ n. word_of n front p) c.requires.blocks ∙ c.run_end.ensures.run p l (omega arith) ∙ sym c.word_of.ensures.word in
+          let low = c.requires.low p c.index.result.now (omega arith) (ap (slice_get lows) word ∙ was) in
+          c.is_no_sooner.ensures later now (c.due_from-soonest.ensures (slice_get slots p) now fits low due));
+      within = early;
     }
 
 pub returns : goal.returns

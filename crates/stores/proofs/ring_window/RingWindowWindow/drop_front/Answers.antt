@@ -1,8 +1,11 @@
-use Rattle.std.proofs.Common.{ap, sym, subst, arith}
+use Rattle.std.proofs.Common.{◌*◌, ◌∙◌, ◌≤◌, length, rules, ap, sym, subst, arith}
 use Rattle.circular_buffer.specs.Buffer.{Buffer}
 use Rattle.stores.specs.declared.slot.Slot.{Slot}
 use Rattle.stores.specs.Index.{IsIndex}
 use Rattle.stores.proofs.MissingIndex.{index_shift}
+use Rattle.stores.specs.Bits.{turned}
+use Rattle.stores.specs.Low.{AreLow}
+use Rattle.stores.proofs.LeastMoments.{low_drop}
 use Rattle.stores.proofs.ring_window.RingWindowWindow.drop_front.Goals as goal
 
 pub invariant_of-self-clause-index : goal.invariant_of-self-clause-index
@@ -14,3 +17,16 @@ invariant_of-self-clause-index c =
     let is = index_shift before.missing.words.items after.words.items before.missing.front after.front before.slots.items c.shift.ensures.words (omega arith) c.shift.ensures.members c.shift.ensures.size before.index in
     let left = ap (λ (b : Buffer Slot). b.items) c.drop_first.ensures in
     subst (λ xs. IsIndex after.words.items after.front xs) (sym left) is
+
+pub invariant_of-self-clause-low : goal.invariant_of-self-clause-low
+invariant_of-self-clause-low c =
+    let before = c.args.self.now in
+    let slots = before.slots.items in
+    let room = before.room in
+    let wide = before.wide in
+    let blocks = before.blocks in
+    let in_words = before.missing.within in
+    let some : 1 ≤ length slots = search rules in
+    let turn = ap (λ n. turned (64 * n) before.missing.front 1) (sym blocks) in
+    let is = low_drop before.lows.items before.missing.front c.shift.new.self.front 1 slots (omega arith) (c.shift.ensures.front ∙ turn) (omega arith) some before.low in
+    subst (λ xs. AreLow before.lows.items c.shift.new.self.front xs) (sym (ap (λ (b : Buffer Slot). b.items) c.drop_first.ensures)) is

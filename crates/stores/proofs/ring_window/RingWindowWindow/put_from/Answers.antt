@@ -1,4 +1,4 @@
-use Rattle.std.proofs.Common.{◌≡◌, ◌+◌, ◌^◌, ◌<◌, ◌≤◌, ◌∙◌, ap, length, List, slice_get, true, rules, refl, sym, subst, arith}
+use Rattle.std.proofs.Common.{◌≡◌, ◌+◌, ◌^◌, ◌<◌, ◌≤◌, ◌∙◌, ap, length, List, slice_get, slice_set, true, rules, refl, sym, subst, arith}
 use Rattle.std.specs.Option.{ForSome}
 use Rattle.circular_buffer.specs.Buffer.{Buffer}
 use Rattle.stores.specs.declared.slot.Slot.{Slot}
@@ -8,6 +8,9 @@ use Rattle.stores.specs.Bits.{bits_of}
 use Rattle.stores.specs.Index.{IsIndex}
 use Rattle.stores.proofs.SlotPlaces.{started_set}
 use Rattle.stores.proofs.MissingIndex.{index_hold, index_push}
+use Rattle.stores.specs.Low.{AreLow}
+use Rattle.stores.proofs.LeastMoments.{low_hold, low_push}
+use Rattle.stores.proofs.PutPlaces.{answer_above}
 use Rattle.stores.proofs.ring_window.RingWindowWindow.put_from.Goals as goal
 
 pub invariant_of-self-in-Within-clause-started : goal.invariant_of-self-in-Within-clause-started
@@ -34,3 +37,24 @@ invariant_of-self-in-Above-clause-index c =
     let missing = c.add_missing.new.missing in
     let is = index_push missing.words.items missing.front c.add_missing.new.slots.items (Held c.args.carried.now) refl c.add_missing.ensures.index in
     subst (λ (xs : List Slot). IsIndex missing.words.items missing.front xs) (sym (ap (λ (b : Buffer Slot). b.items) c.append_held-in-Above.ensures)) is
+
+pub invariant_of-self-in-Within-clause-low : goal.invariant_of-self-in-Within-clause-low
+invariant_of-self-in-Within-clause-low c =
+    let before = c.args.self.now in
+    let index = c.in-Within.index in
+    let within : index < length before.slots.items = search rules in
+    let is = low_hold before.lows.items before.missing.front before.slots.items index c.args.carried.now within before.low in
+    subst (λ (xs : List Slot). AreLow before.lows.items c.clear.new.self.front xs) (sym (ap (λ (b : Buffer Slot). b.items) c.hold.ensures))
+    (subst (λ front. AreLow before.lows.items front (slice_set before.slots.items index (Held c.args.carried.now))) (sym c.clear.ensures.front) is)
+
+pub invariant_of-self-in-Above-clause-low : goal.invariant_of-self-in-Above-clause-low
+invariant_of-self-in-Above-clause-low c =
+    let missing = c.add_missing.new.missing in
+    let lows = c.add_missing.new.lows.items in
+    let is = low_push lows missing.front c.add_missing.new.slots.items c.args.carried.now c.add_missing.ensures.low in
+    subst (λ (xs : List Slot). AreLow lows missing.front xs) (sym (ap (λ (b : Buffer Slot). b.items) c.append_held-in-Above.ensures)) is
+
+pub returns-in-Above-clause-answer : goal.returns-in-Above-clause-answer
+returns-in-Above-clause-answer c =
+    let before = c.args.self.now in
+    answer_above before.cursor before.slots.items before.slots.capacity c.in-Some.cursor c.args.place c.in-Above.overrun c.in-Above.unseen (search rules) (search rules)

@@ -1,0 +1,88 @@
+//! The least moments of the blocks of a window's missing places, one block for each word of the bits that tell which are missing.
+ghost use Rattle.std.specs.Prelude.{◌≡◌, ◌+◌, ◌<◌, ◌≤◌, ◌++◌, true, length, replicate, slice_get, ℕ, IsSomeAnd};
+ghost use Rattle.stores.specs.Asking.{has_come, is_missing};
+ghost use Rattle.stores.specs.Bits.{bits_of, IsSetOf};
+ghost use Rattle.stores.specs.Low.{AreLow, AreLowBut, IsLow, WasAskedAt, word_of};
+ghost use Rattle.stores.specs.Put.{noticed_at};
+
+use crate::bits::Bits;
+use crate::low::Low;
+use crate::slots::Slots;
+
+/// Makes the least moments those of the blocks once so many places more are missing, from this moment on, behind all slots.
+pub fn note_missing(slots: &Slots, missing: &Bits, lows: &mut Vec<Low>, count: usize, now: u64)
+    requires room { length slots.now.items + count ≤ bits_of missing.now.words.items }
+    requires index { IsSetOf is_missing missing.now.words.items missing.now.front slots.now.items }
+    requires blocks { length lows.old.items ≡ length missing.now.words.items }
+    requires low { AreLow lows.old.items missing.now.front slots.now.items }
+    ensures blocks { length lows.new.items ≡ length lows.old.items }
+    ensures low { AreLow lows.new.items missing.now.front (slots.now.items ++ replicate count (noticed_at now)) }
+{
+    let end = slots.len() + count;
+    let mut position = slots.len();
+    while position < end {
+        let word = missing.word_of(position);
+        lows[word] = noticed(slots, missing, lows[word], word, now);
+        position = missing.run_end(position);
+    }
+}
+
+/// The least moments of the block of this word, which are these, once a further place of it is missing, from this moment on.
+fn noticed(slots: &Slots, missing: &Bits, low: Low, word: usize, now: u64) -> Low
+    requires word { word < length missing.now.words.items }
+    requires room { length slots.now.items ≤ bits_of missing.now.words.items }
+    requires index { IsSetOf is_missing missing.now.words.items missing.now.front slots.now.items }
+    ensures noticed { has_come result.noticed now ≡ true }
+    ensures kept { (p : ℕ) → p < length slots.now.items → word_of (length missing.now.words.items) missing.now.front p ≡ word → IsLow low (slice_get slots.now.items p) → IsLow result (slice_get slots.now.items p) }
+{
+    // What was left of the places that had this word before goes, once none of them is missing.
+    let mut low = if missing.is_blank(word) {
+        Low::NONE
+    } else {
+        low
+    };
+    low.notice(now);
+    low
+}
+
+/// Makes the least moments those of the blocks once the place at this index was asked for, which the slots tell already. Where no
+/// place behind it in its block is missing, as most asks go through a block from its first one on, the block's are found anew.
+pub fn note_ask(slots: &Slots, missing: &Bits, lows: &mut Vec<Low>, index: usize, now: u64)
+    requires within { index < length slots.now.items }
+    requires room { length slots.now.items < bits_of missing.now.words.items }
+    requires index { IsSetOf is_missing missing.now.words.items missing.now.front slots.now.items }
+    requires blocks { length lows.old.items ≡ length missing.now.words.items }
+    requires asked { IsSomeAnd (slice_get slots.now.items index) (WasAskedAt now) }
+    requires others { AreLowBut index lows.old.items missing.now.front slots.now.items }
+    ensures blocks { length lows.new.items ≡ length lows.old.items }
+    ensures low { AreLow lows.new.items missing.now.front slots.now.items }
+{
+    let word = missing.word_of(index);
+    lows[word].ask(now);
+    if !missing.is_last(index) {
+        return;
+    }
+    if let Some(start) = missing.run_start(index) {
+        lows[word] = low_of(slots, missing, start, slots.len().min(start + 64));
+    }
+}
+
+/// The least moments of the missing places from one index up to below an end.
+fn low_of(slots: &Slots, missing: &Bits, start: usize, end: usize) -> Low
+    requires start { start ≤ length slots.now.items }
+    requires end { end ≤ length slots.now.items }
+    requires room { length slots.now.items < bits_of missing.now.words.items }
+    requires index { IsSetOf is_missing missing.now.words.items missing.now.front slots.now.items }
+    ensures { (p : ℕ) → start ≤ p → p < end → IsLow result (slice_get slots.now.items p) }
+{
+    let mut low = Low::NONE;
+    let mut index = start;
+    while let Some(next) = missing.first(index) {
+        if next >= end {
+            return low;
+        }
+        low.meet(slots.get(next).unwrap());
+        index = next + 1;
+    }
+    low
+}
