@@ -1,5 +1,5 @@
 -- A set of positions below a bound, as bits in words of 64.
-use Rattle.std.specs.Prelude.{◌≡◌, ℕ, ◌+◌, ◌-◌, ◌*◌, ◌/◌, ◌%◌, ◌<◌, ◌==◌, ◌&&◌, Bool, List, length, get_or, slice_get, Option, if◌then◌else◌, nat_lt, nat_le}
+use Rattle.std.specs.Prelude.{◌≡◌, ℕ, ◌+◌, ◌-◌, ◌*◌, ◌/◌, ◌%◌, ◌<◌, ◌==◌, ◌&&◌, Bool, false, List, length, get_or, slice_get, Option, if◌then◌else◌, nat_lt, nat_le}
 use Rattle.std.specs.Int.{bit_at}
 use Rattle.std.specs.List.{filter, range_with_len}
 
@@ -22,6 +22,10 @@ is_member words front p = is_set words (turned (bits_of words) front p)
 -- the set has the positions of the items that pass the test, and no other
 abbrev pub IsSetOf : {X : Type 0} → (Option X → Bool) → List ℕ → ℕ → List X → Type 0
 IsSetOf test words front items = (p : ℕ) → p < bits_of words → is_member words front p ≡ test (slice_get items p)
+
+-- the set has no position below this one
+abbrev pub HasNoneBelow : List ℕ → ℕ → ℕ → Type 0
+HasNoneBelow words front lowest = (p : ℕ) → p < lowest → is_member words front p ≡ false
 
 -- how many bits are set
 unfoldable pub size_of : List ℕ → ℕ

@@ -1,7 +1,7 @@
-ghost use Rattle.std.specs.Prelude.{◌≡◌, ◌+◌, ◌-◌, ◌/◌, ◌^◌, ◌<◌, ◌≤◌, IsSome, length, drop, slice_get};
+ghost use Rattle.std.specs.Prelude.{◌≡◌, ℕ, ◌+◌, ◌-◌, ◌/◌, ◌^◌, ◌<◌, ◌≤◌, true, false, IsSome, MatchOption, length, drop, slice_get};
 ghost use Rattle.stores.specs.Past.{IsRun, entry_of};
 ghost use Rattle.stores.specs.PastByPlace.{is_marked};
-ghost use Rattle.stores.specs.Bits.{bits_of, IsSetOf};
+ghost use Rattle.stores.specs.Bits.{bits_of, HasNoneBelow, is_member, IsSetOf};
 
 use crate::bits::Bits;
 use crate::entries::Entries;
@@ -23,6 +23,8 @@ pub struct RingHistory {
     entries: Entries,
     // The marked entries, by how far they are from the oldest one.
     marks: Bits,
+    // No entry below this one is marked, so the least mark is found without a walk over all that were taken away before.
+    lowest: usize,
     ghost room: { length entries.items ≤ entries.capacity },
     ghost nonzero: { 0 < entries.capacity },
     ghost limit: { entries.capacity ≤ 8192 },
@@ -31,6 +33,8 @@ pub struct RingHistory {
     ghost wide: { entries.capacity < bits_of marks.words.items },
     ghost exact: { length marks.words.items ≡ entries.capacity / 64 + 1 },
     ghost agree: { IsSetOf is_marked marks.words.items marks.front entries.items },
+    ghost bounded: { lowest ≤ bits_of marks.words.items },
+    ghost low: { HasNoneBelow marks.words.items marks.front lowest },
 }
 
 impl RingHistory {
@@ -61,11 +65,12 @@ impl History for RingHistory {
             first: 0,
             entries,
             marks,
+            lowest: 0,
         })
     }
 
     fn push_from(&mut self, place: Place, carried: &Carried<'_>) {
-        make_room(&self.entries, &mut self.marks);
+        self.lowest = make_room(&self.entries, &mut self.marks, self.lowest);
         self.entries.push(place, carried);
         self.first = place.value() + 1 - self.entries.len() as u64;
     }
@@ -87,16 +92,18 @@ impl History for RingHistory {
         let index = self.index_of(place);
         self.entries.mark(index);
         self.marks.set(index);
+        self.lowest = self.lowest.min(index);
     }
 
     fn unmark(&mut self, place: Place) {
         let index = self.index_of(place);
         self.entries.unmark(index);
         self.marks.clear(index);
+        self.lowest = raised(&self.marks, self.lowest);
     }
 
     fn least_marked(&self) -> Option<Place> {
-        let index = self.marks.first(0)?;
+        let index = least(&self.marks, self.lowest)?;
         Place::new(self.first + index as u64)
     }
 
@@ -104,19 +111,51 @@ impl History for RingHistory {
         let index = self.index_of(place);
         self.entries.count_repeat(index);
         self.marks.clear(index);
+        self.lowest = raised(&self.marks, self.lowest);
     }
 }
 
-/// Takes the oldest entry's mark away, where a push drops that entry.
-fn make_room(entries: &Entries, marks: &mut Bits)
+/// Takes the oldest entry's mark away, where a push drops that entry. It answers below which entry none is marked then.
+fn make_room(entries: &Entries, marks: &mut Bits, lowest: usize) -> usize
     requires nonzero { 0 < entries.now.capacity }
     requires room { length entries.now.items ≤ entries.now.capacity }
     requires wide { entries.now.capacity < bits_of marks.old.words.items }
     requires agree { IsSetOf is_marked marks.old.words.items marks.old.front entries.now.items }
+    requires bounded { lowest ≤ bits_of marks.old.words.items }
+    requires low { HasNoneBelow marks.old.words.items marks.old.front lowest }
     ensures wide { length marks.new.words.items ≡ length marks.old.words.items }
     ensures agree { IsSetOf is_marked marks.new.words.items marks.new.front (drop (length entries.now.items + 1 - entries.now.capacity) entries.now.items) }
+    ensures bounded { result ≤ lowest }
+    ensures low { HasNoneBelow marks.new.words.items marks.new.front result }
 {
     if entries.len() == entries.capacity() {
         marks.shift();
+        lowest.saturating_sub(1)
+    } else {
+        lowest
+    }
+}
+
+/// The least position of a set that has none below this one.
+fn least(marks: &Bits, lowest: usize) -> Option<usize>
+    requires bounded { lowest ≤ bits_of marks.now.words.items }
+    requires low { HasNoneBelow marks.now.words.items marks.now.front lowest }
+    ensures { MatchOption result
+        ((p : ℕ) → p < bits_of marks.now.words.items → is_member marks.now.words.items marks.now.front p ≡ false)
+        (λ first. (first < bits_of marks.now.words.items) × (is_member marks.now.words.items marks.now.front first ≡ true) × HasNoneBelow marks.now.words.items marks.now.front first) }
+{
+    marks.first(lowest)
+}
+
+/// Below which entry none is marked: the least one that is, or, where none is, as before.
+fn raised(marks: &Bits, lowest: usize) -> usize
+    requires bounded { lowest ≤ bits_of marks.now.words.items }
+    requires low { HasNoneBelow marks.now.words.items marks.now.front lowest }
+    ensures bounded { result ≤ bits_of marks.now.words.items }
+    ensures low { HasNoneBelow marks.now.words.items marks.now.front result }
+{
+    match least(marks, lowest) {
+        Some(first) => first,
+        None => lowest,
     }
 }

@@ -26,7 +26,7 @@ pub invariant_of-self-clause-agree : goal.invariant_of-self-clause-agree
 invariant_of-self-clause-agree c =
     let before = c.args.self.now in
     let items = before.entries.items in
-    let marks = c.make_room.new.marks in
+    let marks = c.make_room-self.new.marks in
     let kept = drop (length items + 1 - before.entries.capacity) items in
-    let is = set_after_push is_marked marks.words.items marks.front kept (fresh c.args.place c.args.carried.now) refl refl c.make_room.ensures.agree in
+    let is = set_after_push is_marked marks.words.items marks.front kept (fresh c.args.place c.args.carried.now) refl refl c.make_room-self.ensures.agree in
     subst (λ (b : Buffer HistoryEntry). IsSetOf is_marked marks.words.items marks.front b.items) (sym c.push.ensures) is
