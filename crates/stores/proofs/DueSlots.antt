@@ -7,8 +7,9 @@ use Rattle.stores.specs.declared.slot.Slot.{Slot}
 use Rattle.stores.specs.declared.slot.Slot.TheVariants.{Held, Missing}
 use Rattle.stores.specs.ByPlace.{slot_from}
 use Rattle.stores.specs.Asking.{is_due, is_missing, due_places, longest_ask}
+use Rattle.stores.specs.Due.{due_rest}
 use Rattle.stores.proofs.SlotPlaces.{slot_from_index, slot_of_index}
-use Rattle.stores.proofs.Passing.{passing, passing_yes, passing_no, passing_none}
+use Rattle.stores.proofs.Passing.{passing_yes, passing_no, passing_none}
 
 -- a slot that is not missing is not due
 pub not_due : (now delay retry limit : ℕ) (o : Option Slot) → is_missing o ≡ false → is_due now delay retry limit o ≡ false
@@ -16,16 +17,21 @@ not_due now delay retry limit None e = refl
 not_due now delay retry limit (Some (Held content)) e = refl
 not_due now delay retry limit (Some (Missing noticed asks last)) e = absurd (cc)
 
+-- a slot is not due where its block's moment has not come
+pub not_due_so_soon : (due come : Bool) → come ≡ false → (due ≡ true → come ≡ true) → due ≡ false
+not_due_so_soon true come later is = sym (is refl) ∙ later
+not_due_so_soon false come later is = refl
+
 module _ (now delay retry limit k : ℕ) (slots : List Slot) where
   abbrev due_at : ℕ → Bool
   due_at q = is_due now delay retry limit (slot_from k slots q)
 
-  unfoldable pub due_left : ℕ → List ℕ
-  due_left i = passing due_at (k + i) (length slots - i)
+  abbrev pub due_left : ℕ → List ℕ
+  due_left i = due_rest now delay retry limit k slots i
 
   -- all are left at first
   pub due_left_whole : due_left 0 ≡ filter (λ q. is_due now delay retry limit (slot_from k slots q)) (range_with_len k (length slots))
-  unfolding due_left
+  unfolding due_rest
   due_left_whole =
       let first : k + 0 ≡ k = omega arith in
       let all : length slots - 0 ≡ length slots = omega arith in
@@ -33,20 +39,20 @@ module _ (now delay retry limit k : ℕ) (slots : List Slot) where
 
   -- the slot at an index is due, or it isn't
   pub due_left_yes : (i : ℕ) (slot : Slot) → i < length slots → slot ≡ get_or slots i slot → is_due now delay retry limit (Some slot) ≡ true → due_left i ≡ (k + i) ∷ due_left (i + 1)
-  unfolding due_left
+  unfolding due_rest
   due_left_yes i slot l e due = passing_yes due_at (k + i) (k + (i + 1)) (length slots - i) (length slots - (i + 1)) (omega arith) (omega arith) (ap (is_due now delay retry limit) (slot_of_index k slots i slot l e) ∙ due)
 
   pub due_left_no : (i : ℕ) (slot : Slot) → i < length slots → slot ≡ get_or slots i slot → is_due now delay retry limit (Some slot) ≡ false → due_left i ≡ due_left (i + 1)
-  unfolding due_left
+  unfolding due_rest
   due_left_no i slot l e due = passing_no due_at (k + i) (k + (i + 1)) (length slots - i) (length slots - (i + 1)) (omega arith) (omega arith) (ap (is_due now delay retry limit) (slot_of_index k slots i slot l e) ∙ due)
 
   -- none is left at the end
   pub due_left_end : (i : ℕ) → length slots ≤ i → due_left i ≡ []
-  unfolding due_left
+  unfolding due_rest
   due_left_end i end = passing_none due_at (k + i) (length slots - i) (omega arith)
 
   due_left_pass : (i : ℕ) → i < length slots → is_due now delay retry limit (slice_get slots i) ≡ false → due_left i ≡ due_left (i + 1)
-  unfolding due_left
+  unfolding due_rest
   due_left_pass i l off = passing_no due_at (k + i) (k + (i + 1)) (length slots - i) (length slots - (i + 1)) (omega arith) (omega arith) (ap (is_due now delay retry limit) (slot_from_index k slots i) ∙ off)
 
   -- slots that are not missing are passed
@@ -54,6 +60,12 @@ module _ (now delay retry limit k : ℕ) (slots : List Slot) where
   due_left_skip i zero j at within none = ap due_left (omega arith)
   due_left_skip i (suc n) j at within none =
       due_left_pass i (omega arith) (not_due now delay retry limit (slice_get slots i) (none i (omega arith) (omega arith))) ∙ due_left_skip (i + 1) n j (omega arith) within (λ p l u. none p (omega arith) u)
+
+  -- slots that are not due are passed
+  pub due_left_past : (i n j : ℕ) → j ≡ i + n → j ≤ length slots → ((p : ℕ) → i ≤ p → p < j → is_due now delay retry limit (slice_get slots p) ≡ false) → due_left i ≡ due_left j
+  due_left_past i zero j at within none = ap due_left (omega arith)
+  due_left_past i (suc n) j at within none =
+      due_left_pass i (omega arith) (none i (omega arith) (omega arith)) ∙ due_left_past (i + 1) n j (omega arith) within (λ p l u. none p (omega arith) u)
 
   -- none is left where no slot is missing from there on
   pub due_left_none : (i : ℕ) → ((p : ℕ) → i ≤ p → p < length slots → is_missing (slice_get slots p) ≡ false) → due_left i ≡ []

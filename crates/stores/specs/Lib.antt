@@ -10,6 +10,7 @@ pub mod PastByPlace
 pub mod Bits
 pub mod Index
 pub mod Low
+pub mod Due
 pub mod Lent
 pub mod Numbers
 pub mod Pool

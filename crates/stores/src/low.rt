@@ -82,6 +82,16 @@ fn again_from(last: Option<u64>, rule: AskRule) -> Option<u64>
     time_from(rule, 0, 1, last?)
 }
 
+/// Whether a moment has come.
+pub fn has_come(moment: Option<u64>, now: u64) -> bool
+    ensures { result ≡ has_come moment now }
+{
+    match moment {
+        Some(moment) => moment <= now,
+        None => false,
+    }
+}
+
 /// Whether one moment comes no sooner than another.
 pub fn is_no_sooner(one: Option<u64>, other: Option<u64>) -> bool
     ensures { IsTrue result → (now : ℕ) → has_come one now ≡ true → has_come other now ≡ true }

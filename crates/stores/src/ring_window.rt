@@ -6,11 +6,12 @@ ghost use Rattle.stores.specs.ByPlace.{slot_from};
 ghost use Rattle.stores.specs.Asking.{longest_ask, is_due, is_missing, has_come, any_below};
 ghost use Rattle.stores.specs.Bits.{bits_of, IsSetOf};
 ghost use Rattle.stores.specs.Index.{IsIndex};
+ghost use Rattle.stores.specs.Due.{due_rest};
 ghost use Rattle.stores.specs.Low.{AreLow};
 
 use crate::ask_rule::{AskRule, sooner};
 use crate::bits::Bits;
-use crate::low::{Low, is_no_sooner};
+use crate::low::{Low, has_come, is_no_sooner};
 use crate::lows::{note_ask, note_missing};
 use crate::memory::OutOfMemory;
 use crate::slot::{PutFault, Slot, SlotRef};
@@ -151,10 +152,15 @@ impl Window for RingWindow {
     fn due_into(&self, due: &mut ArrayVec<Place, LONGEST_ASK>, now: u64, rule: AskRule) {
         match self.cursor {
             None => due.clear(),
-            Some(cursor) if self.missing.count() > self.slots.len() / 2 => {
-                due_of_all(due, cursor, &self.slots, now, rule);
-            }
-            Some(cursor) => due_among(due, cursor, &self.slots, &self.missing, now, rule),
+            Some(cursor) => due_among(
+                due,
+                cursor,
+                &self.slots,
+                &self.missing,
+                &self.lows,
+                now,
+                rule,
+            ),
         }
     }
 
@@ -224,18 +230,22 @@ fn add_missing(slots: &mut Slots, missing: &mut Bits, lows: &mut Vec<Low>, count
     }
 }
 
-/// Finds the first due places of these slots, of which the first is that of the place `first`.
+/// Finds the first due places of these slots, of which the first is that of the place `first`. It looks at no block of which no place
+/// can be due so soon.
 fn due_among(
     due: &mut ArrayVec<Place, LONGEST_ASK>,
     first: u64,
     slots: &Slots,
     missing: &Bits,
+    lows: &Vec<Low>,
     now: u64,
     rule: AskRule,
 )
     requires places { first + length slots.now.items ≤ 2 ^ 48 }
     requires room { length slots.now.items < bits_of missing.now.words.items }
     requires index { IsSetOf is_missing missing.now.words.items missing.now.front slots.now.items }
+    requires blocks { length lows.now.items ≡ length missing.now.words.items }
+    requires low { AreLow lows.now.items missing.now.front slots.now.items }
     ensures { due.new.items ≡ take longest_ask (filter (λ q. is_due now rule.delay rule.retry rule.asks (slot_from first slots.now.items q)) (range_with_len first (length slots.now.items))) }
 {
     due.clear();
@@ -244,33 +254,43 @@ fn due_among(
         if due.is_full() {
             return;
         }
-        if slots.get(next).unwrap().is_due(now, rule) {
-            due.push(Place::new(first + next as u64).unwrap());
-        }
-        index = next + 1;
+        let end = missing.run_end(next).min(slots.len());
+        index = if has_come(lows[missing.word_of(next)].due_from(rule), now) {
+            due_of_run(due, first, slots, next, end, now, rule)
+        } else {
+            end
+        };
     }
 }
 
-/// The same by a walk over every slot. Where most are missing that takes less than to look for each among the bits.
-fn due_of_all(
+/// Adds the due places of the slots from a start up to below an end, as long as there is room. It answers up to where it looked.
+fn due_of_run(
     due: &mut ArrayVec<Place, LONGEST_ASK>,
     first: u64,
     slots: &Slots,
+    start: usize,
+    end: usize,
     now: u64,
     rule: AskRule,
-)
-    requires { first + length slots.now.items ≤ 2 ^ 48 }
-    ensures { due.new.items ≡ take longest_ask (filter (λ q. is_due now rule.delay rule.retry rule.asks (slot_from first slots.now.items q)) (range_with_len first (length slots.now.items))) }
+) -> usize
+    requires places { first + length slots.now.items ≤ 2 ^ 48 }
+    requires order { start < end }
+    requires end { end ≤ length slots.now.items }
+    requires some { length due.old.items < longest_ask }
+    ensures left { due.new.items ++ due_rest now rule.delay rule.retry rule.asks first slots.now.items result ≡ due.old.items ++ due_rest now rule.delay rule.retry rule.asks first slots.now.items start }
+    ensures further { start < result }
+    ensures within { result ≤ end }
+    ensures fits { length due.new.items ≤ longest_ask }
 {
-    due.clear();
-    for index in 0..slots.len() {
+    for index in start..end {
         if due.is_full() {
-            return;
+            return index;
         }
         if slots.get(index).unwrap().is_due(now, rule) {
             due.push(Place::new(first + index as u64).unwrap());
         }
     }
+    end
 }
 
 /// The least moment from which on one of these slots is due.

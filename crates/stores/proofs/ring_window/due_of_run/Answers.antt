@@ -1,14 +1,10 @@
-use Rattle.std.proofs.Common.{◌≡◌, Some, slice_get, rules, sym, ◌∙◌, arith}
+use Rattle.std.proofs.Common.{◌≡◌, Some, slice_get, rules, sym, arith}
 use Rattle.std.proofs.lemmas.Grind.{common_steps}
 use Rattle.std.proofs.lemmas.Option.{get_or_from_slice_get}
-use Rattle.stores.proofs.DueSlots.{due_left_whole, due_left_yes, due_left_no, due_left_end, found_full, found_all}
-use Rattle.stores.proofs.ring_window.due_of_all.Goals as goal
-use Rattle.stores.proofs.ring_window.due_of_all.Goals.{then-is_due, else-is_due}
-use Rattle.stores.specs.Asking.{longest_ask}
+use Rattle.stores.proofs.DueSlots.{due_left_yes, due_left_no}
+use Rattle.stores.proofs.ring_window.due_of_run.Goals as goal
+use Rattle.stores.proofs.ring_window.due_of_run.Goals.{then-is_due, else-is_due}
 use Rattle.stores.specs.Lent.{slot_of}
-
-pub returns-then-is_full : goal.returns-then-is_full
-returns-then-is_full c = found_full longest_ask _ _ _ (c.loop-index.invariant.left ∙ due_left_whole _ _ _ _ _ _) (search rules)
 
 pub loop-index-preserved : goal.loop-index-preserved
 loop-index-preserved c =
@@ -22,6 +18,3 @@ loop-index-preserved c =
       | then-is_due w ↦ grind (arith, common_steps, yes)
       | else-is_due w ↦ grind (arith, common_steps, no)
     ]
-
-pub returns : goal.returns
-returns c = found_all longest_ask _ _ _ (c.loop-index.invariant.left ∙ due_left_whole _ _ _ _ _ _) (due_left_end _ _ _ _ _ _ _ (search rules)) c.loop-index.invariant.fits

@@ -1,0 +1,11 @@
+use Rattle.std.proofs.Common.{◌≡◌, ◌≤◌, ◌<◌, ◌⊎◌, ◌++◌, length}
+use Rattle.stores.proofs.ring_window.due_of_run.Given as goal
+use Rattle.stores.specs.Asking.{longest_ask}
+use Rattle.stores.specs.Due.{due_rest}
+
+abbrev pub invariant-loop-index : goal.invariant-loop-index
+invariant-loop-index l = record {
+  left : l.due.items ++ due_rest l.now l.rule.delay l.rule.retry l.rule.asks l.first l.slots.items l.index ≡ l.initial.due.items ++ due_rest l.now l.rule.delay l.rule.retry l.rule.asks l.first l.slots.items l.start;
+  fits : length l.due.items ≤ longest_ask;
+  further : (length l.due.items < longest_ask) ⊎ (l.start < l.index);
+}
