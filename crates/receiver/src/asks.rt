@@ -61,6 +61,21 @@ pub(crate) fn ask_from<W: Window>(
     if asks_nothing(window, config, now) {
         return None;
     }
+    ask_due(window, config, now, most)
+}
+
+/// The same once something is seen to be due, or may be.
+fn ask_due<W: Window>(
+    window: &mut W,
+    config: &ReceiverConfig,
+    now: u64,
+    most: usize,
+) -> Option<Datagram>
+    ensures asks { (learnt : Option ℕ) → AsksMost config.now (window_of learnt (W.meaning window.old)) now most result (window_of learnt (W.meaning window.new)) }
+    ensures none { IsNone result → W.meaning window.new ≡ W.meaning window.old }
+    ensures started { (W.meaning window.new).cursor ≡ (W.meaning window.old).cursor }
+    ensures capacity { (W.meaning window.new).capacity ≡ (W.meaning window.old).capacity }
+{
     let mut due = ArrayVec::new();
     let Some((pairs, count)) = pairs_due(window, config, now, most, &mut due) else {
         return None;
@@ -92,6 +107,24 @@ pub(crate) fn ask_into_from<W: Window>(
     if asks_nothing(window, config, now) {
         return Ok(None);
     }
+    ask_due_into(window, config, now, most, out)
+}
+
+/// The same once something is seen to be due, or may be.
+fn ask_due_into<W: Window>(
+    window: &mut W,
+    config: &ReceiverConfig,
+    now: u64,
+    most: usize,
+    out: &mut [u8],
+) -> Result<Option<usize>, TooShort>
+    ensures asks { (learnt : Option ℕ) → AsksMostInto config.now (window_of learnt (W.meaning window.old)) now most out.old result out.new (window_of learnt (W.meaning window.new)) }
+    ensures enough { 268 ≤ length out.old → IsOk result }
+    ensures err { OnErr result (W.meaning window.new ≡ W.meaning window.old) }
+    ensures none { result ≡ Ok None → W.meaning window.new ≡ W.meaning window.old }
+    ensures started { (W.meaning window.new).cursor ≡ (W.meaning window.old).cursor }
+    ensures capacity { (W.meaning window.new).capacity ≡ (W.meaning window.old).capacity }
+{
     let mut due = ArrayVec::new();
     let Some((pairs, count)) = pairs_due(window, config, now, most, &mut due) else {
         return Ok(None);
@@ -110,11 +143,12 @@ pub(crate) fn ask_into_from<W: Window>(
 }
 
 /// Whether no place is due. Most asks end here, before room for the due places is blanked and all that is missing is looked at.
-fn asks_nothing<W: Window>(window: &W, config: &ReceiverConfig, now: u64) -> bool
-    ensures { IsTrue result → (most : ℕ) (learnt : Option ℕ) → AsksMost config.now (window_of learnt (W.meaning window.now)) now most None (window_of learnt (W.meaning window.now)) }
+fn asks_nothing<W: Window>(window: &mut W, config: &ReceiverConfig, now: u64) -> bool
+    ensures none { IsTrue result → (most : ℕ) (learnt : Option ℕ) → AsksMost config.now (window_of learnt (W.meaning window.old)) now most None (window_of learnt (W.meaning window.old)) }
+    ensures same { W.meaning window.new ≡ W.meaning window.old }
 {
     window_by_place();
-    match window.next_due(config.rule()) {
+    match window.seek_due(config.rule()) {
         Some(moment) => now < moment,
         None => true,
     }

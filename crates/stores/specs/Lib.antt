@@ -11,6 +11,7 @@ pub mod Bits
 pub mod Index
 pub mod Low
 pub mod Due
+pub mod Kept
 pub mod Lent
 pub mod Numbers
 pub mod Pool

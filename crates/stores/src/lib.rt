@@ -2,6 +2,7 @@
 //! what a sender keeps to repeat, behind the trait [`History`].
 #![tactic(auto)]
 
+mod answer;
 mod ask_rule;
 mod bits;
 mod by_place;

@@ -1,14 +1,19 @@
-ghost use Rattle.std.specs.Prelude.{◌≡◌, ℕ, ◌+◌, ◌/◌, ◌^◌, ◌<◌, ◌≤◌, ◌++◌, length, take, drop, replicate, slice_get};
+ghost use Rattle.std.specs.Prelude.{◌≡◌, ℕ, ◌+◌, ◌/◌, ◌^◌, ◌<◌, ◌≤◌, [], ◌∷◌, ◌++◌, length, take, drop, replicate, slice_get};
 ghost use Rattle.std.specs.List.{filter, range_with_len};
 ghost use Rattle.std.specs.Option.{ForSome, ForNone};
+ghost use Rattle.rtpwire.specs.declared.content.Content.{Content};
+ghost use Rattle.stores.specs.declared.slot.Slot.{Slot};
+ghost use Rattle.stores.specs.declared.slot.Slot.TheVariants.{Held};
 ghost use Rattle.stores.specs.Put.{noticed_at};
 ghost use Rattle.stores.specs.ByPlace.{slot_from};
 ghost use Rattle.stores.specs.Asking.{longest_ask, is_due, is_missing, has_come, any_below};
 ghost use Rattle.stores.specs.Bits.{bits_of, IsSetOf};
 ghost use Rattle.stores.specs.Index.{IsIndex};
 ghost use Rattle.stores.specs.Due.{due_rest};
+ghost use Rattle.stores.specs.Kept.{Tells};
 ghost use Rattle.stores.specs.Low.{AreLow};
 
+use crate::answer::Answer;
 use crate::ask_rule::{AskRule, sooner};
 use crate::bits::Bits;
 use crate::low::{Low, has_come, is_no_sooner};
@@ -35,6 +40,8 @@ pub struct RingWindow {
     missing: Bits,
     // The least moments of the missing places of each word of those bits.
     lows: Vec<Low>,
+    // What was answered last to when a place is due, until what is missing changes.
+    kept: Option<Answer>,
     ghost room: { length slots.items ≤ slots.capacity },
     ghost nonzero: { 0 < slots.capacity },
     ghost limit: { slots.capacity ≤ 8192 },
@@ -45,6 +52,21 @@ pub struct RingWindow {
     ghost index: { IsIndex missing.words.items missing.front slots.items },
     ghost blocks: { length lows.items ≡ length missing.words.items },
     ghost low: { AreLow lows.items missing.front slots.items },
+    ghost told: { ForSome kept (λ answer. Tells answer slots.items) },
+}
+
+impl RingWindow {
+    /// The least moment from which on a slot is due by this rule: the one that is kept, if it is by the same rule.
+    fn soonest(&self, rule: AskRule) -> Option<u64>
+        ensures { Tells (record { rule = rule; moment = result }) self.now.slots.items }
+    {
+        if let Some(answer) = self.kept {
+            if answer.rule == rule {
+                return answer.moment;
+            }
+        }
+        next_among(&self.slots, &self.missing, &self.lows, rule)
+    }
 }
 
 impl Window for RingWindow {
@@ -64,6 +86,7 @@ impl Window for RingWindow {
             slots,
             missing,
             lows,
+            kept: None,
         })
     }
 
@@ -79,6 +102,7 @@ impl Window for RingWindow {
         self.cursor = None;
         self.slots.clear();
         self.missing.clear_all();
+        self.kept = None;
     }
 
     fn cursor(&self) -> Option<u64> {
@@ -105,9 +129,11 @@ impl Window for RingWindow {
                 }
                 self.slots.hold(index, carried);
                 self.missing.clear(index);
+                self.kept = None;
                 Ok(0)
             }
             Spot::Above { overrun, unseen } => {
+                self.kept = kept_with_more(self.kept, &self.slots, overrun, unseen);
                 drop_front(&mut self.slots, &mut self.missing, &self.lows, overrun);
                 add_missing(
                     &mut self.slots,
@@ -128,6 +154,7 @@ impl Window for RingWindow {
     }
 
     fn take_front(&mut self) -> Slot {
+        self.kept = kept_without_front(self.kept, &self.slots, &self.missing);
         let slot = self.slots.take_first();
         self.missing.shift();
         if let Some(cursor) = self.cursor {
@@ -137,6 +164,7 @@ impl Window for RingWindow {
     }
 
     fn drop_front(&mut self) {
+        self.kept = kept_without_front(self.kept, &self.slots, &self.missing);
         self.slots.drop_first();
         self.missing.shift();
         if let Some(cursor) = self.cursor {
@@ -165,7 +193,13 @@ impl Window for RingWindow {
     }
 
     fn next_due(&self, rule: AskRule) -> Option<u64> {
-        next_among(&self.slots, &self.missing, &self.lows, rule)
+        self.soonest(rule)
+    }
+
+    fn seek_due(&mut self, rule: AskRule) -> Option<u64> {
+        let moment = self.soonest(rule);
+        self.kept = Some(Answer { rule, moment });
+        moment
     }
 
     fn count_ask(&mut self, place: Place, now: u64) {
@@ -174,12 +208,40 @@ impl Window for RingWindow {
         };
         let index = (place.value() - cursor) as usize;
         self.slots.count_ask(index, now);
+        self.kept = None;
         note_ask(&self.slots, &self.missing, &mut self.lows, index, now);
     }
 
     fn missing(&self) -> usize {
         self.missing.count()
     }
+}
+
+/// The answer that is kept once the first slot goes: the same one, if that is held.
+fn kept_without_front(kept: Option<Answer>, slots: &Slots, missing: &Bits) -> Option<Answer>
+    requires some { 0 < length slots.now.items }
+    requires room { length slots.now.items < bits_of missing.now.words.items }
+    requires index { IsSetOf is_missing missing.now.words.items missing.now.front slots.now.items }
+    requires told { ForSome kept (λ answer. Tells answer slots.now.items) }
+    ensures { ForSome result (λ answer. Tells answer (drop 1 slots.now.items)) }
+{
+    if missing.contains(0) { None } else { kept }
+}
+
+/// The answer that is kept once so many slots go from the front, so many missing ones come behind, and then a held one: the same one,
+/// where only that comes.
+fn kept_with_more(kept: Option<Answer>, slots: &Slots, overrun: u64, unseen: u64) -> Option<Answer>
+    requires { ForSome kept (λ answer. Tells answer slots.now.items) }
+    ensures { (missing : Slot) (content : Content) → ForSome result (λ answer. Tells answer ((drop overrun slots.now.items ++ replicate unseen missing) ++ Held content ∷ [])) }
+{
+    let _count = slots.len();
+    if overrun > 0 {
+        return None;
+    }
+    if unseen > 0 {
+        return None;
+    }
+    kept
 }
 
 /// Drops the first slots, as many as there are of so many.

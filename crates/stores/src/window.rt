@@ -132,6 +132,15 @@ pub trait Window: Drop {
     fn next_due(&self, rule: AskRule) -> Option<u64>
         ensures { IsNextDue (meaning self.now) rule.delay rule.retry rule.asks result };
 
+    /// [`next_due`](Window::next_due), for a caller that asks by one rule again and again: a window may keep the answer for as long as
+    /// what is missing stays as it is.
+    fn seek_due(&mut self, rule: AskRule) -> Option<u64>
+        ensures next { IsNextDue (meaning self.old) rule.delay rule.retry rule.asks result }
+        ensures same { meaning self.new ≡ meaning self.old }
+    {
+        self.next_due(rule)
+    }
+
     /// Counts one more ask for this place, made at the moment `now`. The place must be missing, and asked for
     /// fewer than 255 times so far.
     fn count_ask(&mut self, place: Place, now: u64)

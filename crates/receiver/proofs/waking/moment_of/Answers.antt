@@ -1,7 +1,6 @@
 use Rattle.std.proofs.Common.{ap, subst, ◌∙◌, sym}
 use Rattle.stores.specs.declared.ask_rule.AskRule.{AskRule}
 use Rattle.stores.specs.Asking.{has_come, IsNextDue}
-use Rattle.stores.specs.Span.{front_of}
 use Rattle.receiver.specs.Peeking.{is_ready}
 use Rattle.receiver.proofs.Wakes.{quiet}
 use Rattle.receiver.proofs.waking.moment_of.Goals as goal

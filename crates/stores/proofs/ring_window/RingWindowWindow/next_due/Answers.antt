@@ -5,4 +5,4 @@ pub returns : goal.returns
 returns c =
     let w = c.args.self.now in
     let rule = c.args.rule in
-    next_of_slots w.cursor w.slots.items w.slots.capacity rule.delay rule.retry rule.asks c.next_among.result w.unstarted c.next_among.ensures
+    next_of_slots w.cursor w.slots.items w.slots.capacity rule.delay rule.retry rule.asks c.soonest.result w.unstarted c.soonest.ensures

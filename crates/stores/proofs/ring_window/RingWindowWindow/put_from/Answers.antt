@@ -1,4 +1,4 @@
-use Rattle.std.proofs.Common.{◌≡◌, ◌+◌, ◌^◌, ◌<◌, ◌≤◌, ◌∙◌, ap, length, List, slice_get, slice_set, true, rules, refl, sym, subst, arith}
+use Rattle.std.proofs.Common.{◌≡◌, ◌+◌, ◌^◌, ◌<◌, ◌≤◌, ◌∙◌, ap, length, List, [], ◌∷◌, ◌++◌, replicate, slice_get, slice_set, true, rules, refl, sym, subst, arith}
 use Rattle.std.specs.Option.{ForSome}
 use Rattle.circular_buffer.specs.Buffer.{Buffer}
 use Rattle.stores.specs.declared.slot.Slot.{Slot}
@@ -8,6 +8,8 @@ use Rattle.stores.specs.Bits.{bits_of}
 use Rattle.stores.specs.Index.{IsIndex}
 use Rattle.stores.proofs.SlotPlaces.{started_set}
 use Rattle.stores.proofs.MissingIndex.{index_hold, index_push}
+use Rattle.stores.specs.Put.{noticed_at}
+use Rattle.stores.specs.Kept.{Tells}
 use Rattle.stores.specs.Low.{AreLow}
 use Rattle.stores.proofs.LeastMoments.{low_hold, low_push}
 use Rattle.stores.proofs.PutPlaces.{answer_above}
@@ -58,3 +60,9 @@ pub returns-in-Above-clause-answer : goal.returns-in-Above-clause-answer
 returns-in-Above-clause-answer c =
     let before = c.args.self.now in
     answer_above before.cursor before.slots.items before.slots.capacity c.in-Some.cursor c.args.place c.in-Above.overrun c.in-Above.unseen (search rules) (search rules)
+
+pub invariant_of-self-in-Above-clause-told : goal.invariant_of-self-in-Above-clause-told
+invariant_of-self-in-Above-clause-told c = λ answer kept.
+    let told = c.kept_with_more-self.ensures (noticed_at c.args.now) c.args.carried.now answer kept in
+    let rest = c.add_missing.ensures.items ∙ ap (λ xs. xs ++ replicate c.in-Above.unseen (noticed_at c.args.now)) c.drop_front.ensures.items in
+    subst (Tells answer) (sym (ap (λ (b : Buffer Slot). b.items) c.append_held-in-Above.ensures ∙ ap (λ xs. xs ++ Held c.args.carried.now ∷ []) rest)) told

@@ -4,6 +4,7 @@ use Rattle.stores.specs.declared.slot.Slot.{Slot}
 use Rattle.stores.specs.Index.{IsIndex}
 use Rattle.stores.proofs.MissingIndex.{index_shift}
 use Rattle.stores.specs.Bits.{turned}
+use Rattle.stores.specs.Kept.{Tells}
 use Rattle.stores.specs.Low.{AreLow}
 use Rattle.stores.proofs.LeastMoments.{low_drop}
 use Rattle.stores.proofs.ring_window.RingWindowWindow.take_front.Goals as goal
@@ -30,3 +31,7 @@ invariant_of-self-clause-low c =
     let turn = ap (λ n. turned (64 * n) before.missing.front 1) (sym blocks) in
     let is = low_drop before.lows.items before.missing.front c.shift.new.self.front 1 slots (omega arith) (c.shift.ensures.front ∙ turn) (omega arith) some before.low in
     subst (λ xs. AreLow before.lows.items c.shift.new.self.front xs) (sym (ap (λ (b : Buffer Slot). b.items) c.take_first-slot.ensures.rest)) is
+
+pub invariant_of-self-clause-told : goal.invariant_of-self-clause-told
+invariant_of-self-clause-told c = λ answer kept.
+    subst (Tells answer) (sym (ap (λ (b : Buffer Slot). b.items) c.take_first-slot.ensures.rest)) (c.kept_without_front-self.ensures answer kept)

@@ -4,7 +4,7 @@ use Rattle.fbwire.specs.Nack.{Nack, NackSpells}
 use Rattle.fbwire.specs.Packing.{IsPacking, IsNarrow}
 use Rattle.receiver.specs.Counted.{CountsAsks}
 use Rattle.receiver.proofs.Asking.{asks_some}
-use Rattle.receiver.proofs.asks.ask_from.Goals as goal
+use Rattle.receiver.proofs.asks.ask_due.Goals as goal
 
 pub returns-clause-asks : goal.returns-clause-asks
 returns-clause-asks g c = λ learnt.

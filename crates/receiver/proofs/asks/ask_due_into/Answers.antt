@@ -7,7 +7,7 @@ use Rattle.receiver.specs.Counted.{CountsAsks}
 use Rattle.receiver.specs.Asks.{AnyNeedsRoom}
 use Rattle.receiver.specs.Window.{window_of}
 use Rattle.receiver.proofs.Asking.{asks_some, needs_room}
-use Rattle.receiver.proofs.asks.ask_into_from.Goals as goal
+use Rattle.receiver.proofs.asks.ask_due_into.Goals as goal
 
 pub returns-then-out-needed-clause-asks : goal.returns-then-out-needed-clause-asks
 returns-then-out-needed-clause-asks g c = λ learnt.
