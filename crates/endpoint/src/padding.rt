@@ -1,5 +1,5 @@
 //! Packets that are all padding.
-ghost use Rattle.std.specs.Prelude.{◌≡◌, ◌↔◌, ◌<◌, ◌≤◌, ℕ, List, [], length, slice_set, slice_index, bit_and, IsTrue, MatchOption};
+ghost use Rattle.std.specs.Prelude.{◌≡◌, ◌↔◌, ◌<◌, ◌≤◌, ℕ, List, [], length, take, slice_set, slice_index, bit_and, IsTrue, MatchOption};
 ghost use Rattle.endpoint.specs.Padding.{IsStripped, IsEmptyPacket};
 
 use rtpwire::{Datagram, MAX_DATAGRAM, RtpView};
@@ -24,6 +24,20 @@ pub fn without_padding(octets: &[u8]) -> Option<Datagram>
     if kept > MAX_DATAGRAM {
         return None;
     }
+    stripped(octets, kept)
+}
+
+/// So many of the first octets with that bit cleared, if they are a packet with an empty payload. It stands apart, so that no other
+/// packet pays for room that is blanked.
+#[inline(never)]
+fn stripped(octets: &[u8], kept: usize) -> Option<Datagram>
+    requires some { 0 < kept }
+    requires within { kept ≤ length octets.now }
+    requires fits { kept ≤ MAX_DATAGRAM }
+    ensures { MatchOption result
+        (IsEmptyPacket (slice_set (take kept octets.now) 0 (bit_and (slice_index (take kept octets.now) 0) 223)) → ⊥)
+        (λ plain. IsEmptyPacket plain.items × (plain.items ≡ slice_set (take kept octets.now) 0 (bit_and (slice_index (take kept octets.now) 0) 223))) }
+{
     let plain = cleared(&octets[..kept]);
     if is_empty_packet(plain.as_slice()) {
         Some(plain)
