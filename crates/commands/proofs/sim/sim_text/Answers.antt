@@ -1,4 +1,5 @@
-use Rattle.std.proofs.Common.{◌≡◌, [], IfErr, OnErr, Result, Ok, Err, sym, subst}
+use Rattle.std.proofs.Common.{◌≡◌, ℕ, [], IfErr, OnErr, Result, Ok, Err, refl, sym, subst}
+use Rattle.commands.specs.declared.fault.SimFault.TheVariants.{OutOfMemory}
 use Rattle.std.specs.Result.{IsErrAnd}
 use Rattle.commands.proofs.KnownLemmas.{Keeps-refl, leaves_end}
 use Rattle.commands.proofs.ProgressLemmas.{known_start, known_first, known_kept, known_step, known_done, known_stopped, known_of_read, known_of_read_part, known_nothing_of_read, known_answered, known_answered_first, known_memory, known_unwritten, held_ends, taken_ends, config_ends}
@@ -82,3 +83,6 @@ loop-count-preserved g c =
 
 pub returns-clause-a_beginning : goal.returns-clause-a_beginning
 returns-clause-a_beginning g c = known_of_read _ _ _ _ _ _ _ c.loop-count.invariant (held_ends _ c.loop-count.pending)
+
+pub returns-clause-first_bad_line : goal.returns-clause-first_bad_line
+returns-clause-first_bad_line g c = known_memory {T = ℕ} (Err OutOfMemory) (g.R.Read.remaining c.args.input.now) (g.W.Write.contents c.args.output.now) (g.W.Write.contents c.loop-count.output) refl
