@@ -117,9 +117,13 @@ fn advance(
 ) -> Result<(), OutOfMemory>
     ensures { OnOk result (Advances world.old event.now world.new line.new.items) }
 {
-    let entry = world.step(event)?;
+    world.happen(event)?;
     line.clear();
-    push_entry(line, &entry, world.wire())
+    match world.last() {
+        Some(entry) => push_entry(line, entry, world.wire()),
+        // An event has always its entry.
+        None => Ok(()),
+    }
 }
 
 /// Reads a script and writes its log, a line for each event as soon as that was done; answers the number of

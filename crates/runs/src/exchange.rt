@@ -1,6 +1,7 @@
 //! A datagram of the wire is handed to an end over a link.
-ghost use Rattle.std.specs.Prelude.{◌≡◌, ◌+◌, ◌-◌, ◌^◌, ◌<◌, ℕ, List, [], ◌∷◌, length, IfOk, OnOk, OnErr};
+ghost use Rattle.std.specs.Prelude.{◌≡◌, ◌+◌, ◌-◌, ◌^◌, ◌<◌, ℕ, List, [], ◌∷◌, ◌++◌, length, IfOk, OnOk, OnErr};
 ghost use Rattle.arrayvec.specs.ArrayVec.{ArrayVec};
+ghost use Rattle.world.specs.declared.event.Entry.{Entry as Logged};
 ghost use Rattle.runs.specs.declared.link.Transfer.{Transfer};
 ghost use Rattle.runs.specs.Scene.{scene_of};
 ghost use Rattle.runs.specs.Blame.{blame};
@@ -13,6 +14,16 @@ use crate::stepping::happen;
 use rtpwire::Datagram;
 use stores::{History, Window};
 use world::{End, Entry, Event, World};
+
+/// The index of the datagram that the last event wrote on the wire, if it wrote one.
+fn written_last<H: History, W: Window>(world: &World<H, W>) -> Option<u64>
+    ensures { (before : List Logged) (entry : Logged) → world.now.log ≡ before ++ entry ∷ [] → result ≡ written_at entry }
+{
+    match world.last() {
+        Some(entry) => written_at(entry),
+        None => None,
+    }
+}
 
 /// The index of the datagram that an event wrote on the wire, if it wrote one.
 fn written_at(entry: &Entry) -> Option<u64>
@@ -40,8 +51,8 @@ pub(crate) fn exchange<L: Link, H: History, W: Window>(
     ensures blame { L.failed link.new ≡ L.failed link.old + blame result }
     ensures config { world.new.config ≡ world.old.config }
 {
-    let entry = happen(world, event)?;
-    match written_at(&entry) {
+    happen(world, event)?;
+    match written_last(world) {
         Some(index) => {
             hand(link, world, to, index, now)?;
             Ok(true)

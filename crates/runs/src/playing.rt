@@ -33,11 +33,14 @@ fn play_once<H: History, W: Window>(world: &mut World<H, W>, now: u64) -> Result
     ensures config { world.new.config ≡ world.old.config }
     ensures err { OnErr result (world.new ≡ world.old) }
 {
-    match happen(world, &Event::Play(now))? {
-        Entry::Played {
-            played: Played::Wait,
-            ..
-        } => Ok(false),
+    happen(world, &Event::Play(now))?;
+    match world.last() {
+        Some(
+            Entry::Played {
+                played: Played::Wait,
+                ..
+            },
+        ) => Ok(false),
         _ => Ok(true),
     }
 }

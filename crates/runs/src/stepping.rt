@@ -1,20 +1,21 @@
 //! A world goes on by events.
-ghost use Rattle.std.specs.Prelude.{◌≡◌, IfOk, OnOk, OnErr};
+ghost use Rattle.std.specs.Prelude.{◌≡◌, OnOk, OnErr};
+ghost use Rattle.world.specs.declared.event.Entry.{Entry};
 ghost use Rattle.runs.specs.Scene.{Happens, Does, scene_of};
 
 use stores::{History, OutOfMemory, Window};
-use world::{Entry, Event, World};
+use world::{Event, World};
 
 /// Does one event.
 pub(crate) fn happen<H: History, W: Window>(
     world: &mut World<H, W>,
     event: &Event,
-) -> Result<Entry, OutOfMemory>
-    ensures happens { IfOk result (λ entry. Happens world.old.config (scene_of world.old) event.now entry (scene_of world.new)) }
+) -> Result<(), OutOfMemory>
+    ensures happens { OnOk result ((entry : Entry) × Happens world.old.config (scene_of world.old) event.now entry (scene_of world.new)) }
     ensures config { world.new.config ≡ world.old.config }
     ensures err { OnErr result (world.new ≡ world.old) }
 {
-    world.step(event)
+    world.happen(event)
 }
 
 /// Does these events, one after the other.

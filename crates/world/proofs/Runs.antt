@@ -22,9 +22,9 @@ run_more c events i d log log' entry old new within is before step =
     (subst (λ (x : List Entry). Answers c (reverse (take i events ++ get_or events i d ∷ [])) (reverse x) new) (sym is)
     (answers_more c (take i events) log old new (get_or events i d) entry before step))
 
--- a log after a push of an entry's copy
-pub pushed : (log reserved log' : List Entry) (entry copy : Entry) → log' ≡ reserved ++ copy ∷ [] → reserved ≡ log → copy ≡ entry → log' ≡ log ++ entry ∷ []
-pushed log reserved log' entry copy push same copied = push ∙ ap (λ (x : List Entry). x ++ copy ∷ []) same ∙ ap (λ (x : Entry). log ++ x ∷ []) copied
+-- a log after a push
+pub pushed : (log reserved log' : List Entry) (entry : Entry) → log' ≡ reserved ++ entry ∷ [] → reserved ≡ log → log' ≡ log ++ entry ∷ []
+pushed log reserved log' entry push same = push ∙ ap (λ (x : List Entry). x ++ entry ∷ []) same
 
 -- a log that answers some events goes on to do so
 pub logged_more : (c : Config) (log log' : List Entry) (entry : Entry) (event : Event) (old new : WorldState) →

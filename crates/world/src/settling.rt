@@ -101,8 +101,9 @@ impl<H: History, W: Window> World<H, W> {
         ensures config { self.new.config ≡ self.old.config }
         ensures err { OnErr result (self.new ≡ self.old) }
     {
-        match self.advance(&Event::Ask(now))? {
-            Entry::Asked { index, .. } => Ok(Some(index)),
+        self.happen(&Event::Ask(now))?;
+        match self.last() {
+            Some(Entry::Asked { index, .. }) => Ok(Some(*index)),
             _ => Ok(None),
         }
     }
@@ -115,19 +116,20 @@ impl<H: History, W: Window> World<H, W> {
         ensures config { self.new.config ≡ self.old.config }
         ensures err { OnErr result (self.new ≡ self.old) }
     {
-        match self.advance(&Event::Repair)? {
-            Entry::Repaired { index, .. } => Ok(Some(index)),
+        self.happen(&Event::Repair)?;
+        match self.last() {
+            Some(Entry::Repaired { index, .. }) => Ok(Some(*index)),
             _ => Ok(None),
         }
     }
 
-    /// Does one event.
-    fn advance(&mut self, event: &Event) -> Result<Entry, OutOfMemory>
-        ensures step { IfOk result (λ entry. Step self.old.config (stand_of self.old) event.now entry (stand_of self.new)) }
-        ensures log { IfOk result (λ entry. self.new.log ≡ self.old.log ++ entry ∷ []) }
+    /// Does one event, and tells no more of it than what a round needs.
+    fn advance(&mut self, event: &Event) -> Result<(), OutOfMemory>
+        ensures step { OnOk result ((entry : Entry) × Step self.old.config (stand_of self.old) event.now entry (stand_of self.new)
+            × (self.new.log ≡ self.old.log ++ entry ∷ [])) }
         ensures config { self.new.config ≡ self.old.config }
         ensures err { OnErr result (self.new ≡ self.old) }
     {
-        self.step(event)
+        self.happen(event)
     }
 }

@@ -1,8 +1,9 @@
 //! The world: two ends, the wire and the log.
-ghost use Rattle.std.specs.Prelude.{◌≡◌, ◌↔◌, ◌≤◌, ℕ, ◌++◌, [], ◌∷◌, reverse, IsTrue, IfOk, OnOk, OnErr};
+ghost use Rattle.std.specs.Prelude.{◌≡◌, ◌↔◌, ◌≤◌, ℕ, ◌++◌, [], ◌∷◌, reverse, List, IsTrue, IsSomeAnd, IfOk, OnOk, OnErr};
 ghost use Rattle.sender.specs.Sender.{RepeatsWithin};
 ghost use Rattle.receiver.specs.Asks.{AsksWithin};
 ghost use Rattle.receiver.specs.Receiver.{state_of};
+ghost use Rattle.world.specs.declared.event.Entry.{Entry};
 ghost use Rattle.world.specs.Config.{IsConfig};
 ghost use Rattle.world.specs.Answers.{Step, Answers};
 ghost use Rattle.world.specs.Close.{IsClose, IsUninjected, TellsCloseness};
@@ -67,7 +68,7 @@ impl<H: History, W: Window> World<H, W> {
         })
     }
 
-    /// Does one event, keeps its entry in the log and answers a copy of it.
+    /// Does one event, keeps its entry in the log and answers a copy of it. [`happen`](World::happen) makes no copy.
     ///
     /// `OutOfMemory`: the log or the wire could not grow. The world is then as it was.
     pub fn step(&mut self, event: &Event) -> Result<Entry, OutOfMemory>
@@ -79,6 +80,25 @@ impl<H: History, W: Window> World<H, W> {
         ensures err { OnErr result (self.new ≡ self.old) }
 
         // The log answers the events so far, and keeps to what such logs promise.
+        ensures logged { OnOk result (IsLogged self.new.config self.new.log (stand_of self.new)) }
+        ensures promises { OnOk result (KeepsPromises self.new.config self.new.log (stand_of self.new)) }
+    {
+        self.happen(event)?;
+        Ok(self.last().unwrap().copy())
+    }
+
+    /// Does one event, and keeps its entry as the log's last one, which [`last`](World::last) lends.
+    ///
+    /// `OutOfMemory`: the log or the wire could not grow. The world is then as it was.
+    pub fn happen(&mut self, event: &Event) -> Result<(), OutOfMemory>
+        ensures step { OnOk result ((entry : Entry) × Step self.old.config (stand_of self.old) event.now entry (stand_of self.new)
+            × (self.new.log ≡ self.old.log ++ entry ∷ [])) }
+        ensures config { self.new.config ≡ self.old.config }
+        ensures capacity { self.new.receiver.span.capacity ≡ self.new.config.window }
+        ensures kept { self.new.sender.past.capacity ≡ self.new.config.history }
+        ensures err { OnErr result (self.new ≡ self.old) }
+
+        // As after each step: the log answers the events so far, and keeps to what such logs promise.
         ensures logged { OnOk result (IsLogged self.new.config self.new.log (stand_of self.new)) }
         ensures promises { OnOk result (KeepsPromises self.new.config self.new.log (stand_of self.new)) }
     {
@@ -94,8 +114,15 @@ impl<H: History, W: Window> World<H, W> {
             event,
         );
         self.closeness = self.closeness.after(&entry);
-        self.log.push_reserved(entry.copy());
-        Ok(entry)
+        self.log.push_reserved(entry);
+        Ok(())
+    }
+
+    /// The entry of what happened last, if anything did.
+    pub fn last(&self) -> Option<&Entry>
+        ensures { (before : List Entry) (entry : Entry) → self.now.log ≡ before ++ entry ∷ [] → IsSomeAnd result (λ last. last.now ≡ entry) }
+    {
+        self.log.as_slice().last()
     }
 
     /// Its configuration is within the limits, its stores have the room that this says, and its log answers some events.
@@ -186,7 +213,7 @@ pub fn run<H: History, W: Window>(
     config.limits();
     let mut world = World::new(alloc, config)?;
     for event in events {
-        world.step(event)?;
+        world.happen(event)?;
     }
     Ok(world)
 }

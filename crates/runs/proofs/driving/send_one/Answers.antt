@@ -33,8 +33,8 @@ returns-in_ok-happen-clause-done g c packets =
     let old = scene_of c.args.world.now in
     let new = scene_of c.happen.new.world in
     let content : c.numbered_content.result ≡ numbered_content c.args.number = c.numbered_content.ensures ∙ ap numbered_content c.from-moment.ensures in
-    let happens = subst (λ (x : Content). Happens c.args.world.now.config old (Send x 0) c.in_ok-happen.field-0 new) content c.in_ok-happen.ensures.happens in
-    drop_reaches c.args.world.now.config (plan_of packets c.args.drop.now) c.args.number c.in_ok-happen.field-0 old new (g.L.Link.traffic c.args.link.now) (sym c.contains.ensures.value ∙ c.if-contains.true) happens
+    let happens = subst (λ (x : Content). Happens c.args.world.now.config old (Send x 0) c.in_ok-happen.ensures.happens.0 new) content c.in_ok-happen.ensures.happens.1 in
+    drop_reaches c.args.world.now.config (plan_of packets c.args.drop.now) c.args.number c.in_ok-happen.ensures.happens.0 old new (g.L.Link.traffic c.args.link.now) (sym c.contains.ensures.value ∙ c.if-contains.true) happens
 
 pub returns-in_ok-exchange-clause-done : goal.returns-in_ok-exchange-clause-done
 returns-in_ok-exchange-clause-done g c packets =

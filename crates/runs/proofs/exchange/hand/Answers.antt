@@ -27,7 +27,7 @@ pub returns-in_ok-happen-clause-hands : goal.returns-in_ok-happen-clause-hands
 returns-in_ok-happen-clause-hands g c =
     let put = c.in_ok-put.ensures.put in (
       Put c.args.to put.0 ∷ Receipt c.args.to c.recv.new.into ∷ [],
-      record { datagram = put.0; on_wire = put.1; came = Some c.recv.new.into; moved_is = refl; injects = (c.in_ok-happen.field-0, c.in_ok-happen.ensures.happens) },
+      record { datagram = put.0; on_wire = put.1; came = Some c.recv.new.into; moved_is = refl; injects = c.in_ok-happen.ensures.happens },
       grows_receipt c.in_ok-recv.field-0 true c.args.to put.0 c.recv.new.into (g.L.Link.traffic c.args.link.now) (g.L.Link.traffic c.put.new.link) (g.L.Link.traffic c.recv.new.self) c.if-branch.true put.2 c.in_ok-recv.ensures.came,
     )
 

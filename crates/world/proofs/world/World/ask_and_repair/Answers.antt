@@ -44,7 +44,7 @@ loop-ask-smaller g c =
     let told = rw c.in-Some.is at c.in_ok-ask.ensures.asked in
     let step = subst (λ (x : Config). Step x (stand_of c.loop-ask.self) (Ask c.args.now) (Asked c.in-Some.ask c.args.now) (stand_of c.ask_once.new.self)) config told.0 in
     let heard =
-    subst (λ (x : Config). Step x (stand_of c.ask_once.new.self) (Deliver c.in-Some.ask c.args.now) c.in_ok-advance.field-0 (stand_of c.advance.new.self)) (c.in_ok-ask.ensures.config ∙ config) c.in_ok-advance.ensures.step in
+    subst (λ (x : Config). Step x (stand_of c.ask_once.new.self) (Deliver c.in-Some.ask c.args.now) c.in_ok-advance.ensures.step.0 (stand_of c.advance.new.self)) (c.in_ok-ask.ensures.config ∙ config) c.in_ok-advance.ensures.step.1 in
     let logged = c.keeps_log.ensures.logged in
     let laws : Laws =
     record {
@@ -56,7 +56,7 @@ loop-ask-smaller g c =
       one_nack = c.nack_is_determined.ensures.one_nack;
     } in
     ask_falls c.hearing_is_determined.ensures.any laws c.args.self.now.config c.keeps_log.ensures.limits (reverse logged.events) c.args.self.now.log (stand_of c.args.self.now) logged.answers
-    c.args.now c.in-Some.ask c.in_ok-advance.field-0 c.loop-ask.self.log (stand_of c.loop-ask.self) (stand_of c.ask_once.new.self) (stand_of c.advance.new.self) c.loop-ask.invariant.goes_on step heard
+    c.args.now c.in-Some.ask c.in_ok-advance.ensures.step.0 c.loop-ask.self.log (stand_of c.loop-ask.self) (stand_of c.ask_once.new.self) (stand_of c.advance.new.self) c.loop-ask.invariant.goes_on step heard
 
 pub loop-ask-preserved : goal.loop-ask-preserved
 loop-ask-preserved g c =
@@ -64,16 +64,16 @@ loop-ask-preserved g c =
     let told = rw c.in-Some.is at c.in_ok-ask.ensures.asked in
     let step = subst (λ (x : Config). Step x (stand_of c.loop-ask.self) (Ask c.args.now) (Asked c.in-Some.ask c.args.now) (stand_of c.ask_once.new.self)) config told.0 in
     let heard =
-    subst (λ (x : Config). Step x (stand_of c.ask_once.new.self) (Deliver c.in-Some.ask c.args.now) c.in_ok-advance.field-0 (stand_of c.advance.new.self)) (c.in_ok-ask.ensures.config ∙ config) c.in_ok-advance.ensures.step in
+    subst (λ (x : Config). Step x (stand_of c.ask_once.new.self) (Deliver c.in-Some.ask c.args.now) c.in_ok-advance.ensures.step.0 (stand_of c.advance.new.self)) (c.in_ok-ask.ensures.config ∙ config) c.in_ok-advance.ensures.step.1 in
     let falls = loop-ask-smaller g c in
     let a = one_longer c.loop-ask.self.log c.ask_once.new.self.log (Asked c.in-Some.ask c.args.now) told.1 in
-    let b = one_longer c.ask_once.new.self.log c.advance.new.self.log c.in_ok-advance.field-0 c.in_ok-advance.ensures.log in
+    let b = one_longer c.ask_once.new.self.log c.advance.new.self.log c.in_ok-advance.ensures.step.0 c.in_ok-advance.ensures.step.2 in
     let was = c.loop-ask.invariant.told in
     let counted = c.loop-ask.invariant.counted in
     record {
       config = c.in_ok-advance.ensures.config ∙ c.in_ok-ask.ensures.config ∙ config;
-      goes_on = asks_heard c.args.self.now.config c.args.now c.in-Some.ask c.in_ok-advance.field-0 (stand_of c.args.self.now) (stand_of c.loop-ask.self) (stand_of c.ask_once.new.self) (stand_of c.advance.new.self)
-          c.args.self.now.log c.loop-ask.self.log c.ask_once.new.self.log c.advance.new.self.log c.loop-ask.invariant.goes_on step told.1 heard c.in_ok-advance.ensures.log;
+      goes_on = asks_heard c.args.self.now.config c.args.now c.in-Some.ask c.in_ok-advance.ensures.step.0 (stand_of c.args.self.now) (stand_of c.loop-ask.self) (stand_of c.ask_once.new.self) (stand_of c.advance.new.self)
+          c.args.self.now.log c.loop-ask.self.log c.ask_once.new.self.log c.advance.new.self.log c.loop-ask.invariant.goes_on step told.1 heard c.in_ok-advance.ensures.step.2;
       told = omega (arith, a, b, was);
       counted = omega (arith, falls, counted);
     }
@@ -117,7 +117,7 @@ loop-repair-smaller g c =
     let told = rw c.in-Some-2.is at c.in_ok-repair.ensures.repaired in
     let step = subst (λ (x : Config). Step x (stand_of c.loop-repair.self) Retransmit (Repaired told.0 c.in-Some-2.repair) (stand_of c.repair_once.new.self)) config told.1 in
     let heard =
-    subst (λ (x : Config). Step x (stand_of c.repair_once.new.self) (Deliver c.in-Some-2.repair c.args.now) c.in_ok-advance-2.field-0 (stand_of c.advance-in-Some-2.new.self)) (c.in_ok-repair.ensures.config ∙ config) c.in_ok-advance-2.ensures.step in
+    subst (λ (x : Config). Step x (stand_of c.repair_once.new.self) (Deliver c.in-Some-2.repair c.args.now) c.in_ok-advance-2.ensures.step.0 (stand_of c.advance-in-Some-2.new.self)) (c.in_ok-repair.ensures.config ∙ config) c.in_ok-advance-2.ensures.step.1 in
     let logged = c.keeps_log.ensures.logged in
     let laws : Laws =
     record {
@@ -129,7 +129,7 @@ loop-repair-smaller g c =
       one_nack = c.nack_is_determined.ensures.one_nack;
     } in
     repair_falls c.hearing_is_determined.ensures.any laws c.args.self.now.config c.keeps_log.ensures.limits (reverse logged.events) c.args.self.now.log (stand_of c.args.self.now) logged.answers
-    c.args.now told.0 c.in-Some-2.repair c.in_ok-advance-2.field-0 c.loop-repair.self.log (stand_of c.loop-repair.self) (stand_of c.repair_once.new.self) (stand_of c.advance-in-Some-2.new.self) c.loop-repair.invariant.goes_on step heard
+    c.args.now told.0 c.in-Some-2.repair c.in_ok-advance-2.ensures.step.0 c.loop-repair.self.log (stand_of c.loop-repair.self) (stand_of c.repair_once.new.self) (stand_of c.advance-in-Some-2.new.self) c.loop-repair.invariant.goes_on step heard
 
 pub loop-repair-preserved : goal.loop-repair-preserved
 loop-repair-preserved g c =
@@ -137,16 +137,16 @@ loop-repair-preserved g c =
     let told = rw c.in-Some-2.is at c.in_ok-repair.ensures.repaired in
     let step = subst (λ (x : Config). Step x (stand_of c.loop-repair.self) Retransmit (Repaired told.0 c.in-Some-2.repair) (stand_of c.repair_once.new.self)) config told.1 in
     let heard =
-    subst (λ (x : Config). Step x (stand_of c.repair_once.new.self) (Deliver c.in-Some-2.repair c.args.now) c.in_ok-advance-2.field-0 (stand_of c.advance-in-Some-2.new.self)) (c.in_ok-repair.ensures.config ∙ config) c.in_ok-advance-2.ensures.step in
+    subst (λ (x : Config). Step x (stand_of c.repair_once.new.self) (Deliver c.in-Some-2.repair c.args.now) c.in_ok-advance-2.ensures.step.0 (stand_of c.advance-in-Some-2.new.self)) (c.in_ok-repair.ensures.config ∙ config) c.in_ok-advance-2.ensures.step.1 in
     let falls = loop-repair-smaller g c in
     let a = one_longer c.loop-repair.self.log c.repair_once.new.self.log (Repaired told.0 c.in-Some-2.repair) told.2 in
-    let b = one_longer c.repair_once.new.self.log c.advance-in-Some-2.new.self.log c.in_ok-advance-2.field-0 c.in_ok-advance-2.ensures.log in
+    let b = one_longer c.repair_once.new.self.log c.advance-in-Some-2.new.self.log c.in_ok-advance-2.ensures.step.0 c.in_ok-advance-2.ensures.step.2 in
     let was = c.loop-repair.invariant.told in
     let counted = c.loop-repair.invariant.counted in
     record {
       config = c.in_ok-advance-2.ensures.config ∙ c.in_ok-repair.ensures.config ∙ config;
-      goes_on = repairs_heard c.args.self.now.config c.args.now told.0 c.in-Some-2.repair c.in_ok-advance-2.field-0 (stand_of c.args.self.now) (stand_of c.loop-repair.self) (stand_of c.repair_once.new.self) (stand_of c.advance-in-Some-2.new.self)
-          c.args.self.now.log c.loop-repair.self.log c.repair_once.new.self.log c.advance-in-Some-2.new.self.log c.loop-repair.invariant.goes_on step told.2 heard c.in_ok-advance-2.ensures.log;
+      goes_on = repairs_heard c.args.self.now.config c.args.now told.0 c.in-Some-2.repair c.in_ok-advance-2.ensures.step.0 (stand_of c.args.self.now) (stand_of c.loop-repair.self) (stand_of c.repair_once.new.self) (stand_of c.advance-in-Some-2.new.self)
+          c.args.self.now.log c.loop-repair.self.log c.repair_once.new.self.log c.advance-in-Some-2.new.self.log c.loop-repair.invariant.goes_on step told.2 heard c.in_ok-advance-2.ensures.step.2;
       told = omega (arith, a, b, was);
       counted = omega (arith, falls, counted);
     }
