@@ -1,6 +1,8 @@
 -- A run goes on by one event.
-use Rattle.std.proofs.Common.{◌≡◌, ℕ, ◌+◌, ◌<◌, Bool, List, [], ◌∷◌, ◌++◌, length, get_or, take, reverse, Option, sym, ap, subst, ◌∙◌}
-use Rattle.std.proofs.lemmas.List.{take_more, reverse-append}
+use Rattle.std.proofs.Common.{◌≡◌, ℕ, ◌+◌, ◌<◌, Bool, ◌-◌, List, [], ◌∷◌, ◌++◌, length, get_or, slice_get, take, reverse, Option, Some, sym, ap, subst, ◌∙◌, arith}
+use Rattle.std.proofs.lemmas.List.{take_more, reverse-append, length-append}
+use Rattle.std.proofs.lemmas.Option.{same_Some}
+use Rattle.stores.proofs.Lookup.{slice_get-append_right}
 use Rattle.world.specs.declared.event.Event.{Event}
 use Rattle.world.specs.declared.event.Entry.{Entry}
 use Rattle.world.specs.Config.{Config}
@@ -22,9 +24,17 @@ run_more c events i d log log' entry old new within is before step =
     (subst (λ (x : List Entry). Answers c (reverse (take i events ++ get_or events i d ∷ [])) (reverse x) new) (sym is)
     (answers_more c (take i events) log old new (get_or events i d) entry before step))
 
--- a log after a push
+-- a log after a push to it, once it has room
 pub pushed : (log reserved log' : List Entry) (entry : Entry) → log' ≡ reserved ++ entry ∷ [] → reserved ≡ log → log' ≡ log ++ entry ∷ []
 pushed log reserved log' entry push same = push ∙ ap (λ (x : List Entry). x ++ entry ∷ []) same
+
+-- what is read as a log's last entry is the one that was pushed
+pub last_pushed : (before log seen : List Entry) (entry told : Entry) → log ≡ before ++ entry ∷ [] → seen ≡ log → slice_get seen (length seen - 1) ≡ Some told → told ≡ entry
+last_pushed before log seen entry told is same read =
+    let all = same ∙ is in
+    let long = length-append before (entry ∷ []) in
+    let at = slice_get-append_right before (entry ∷ []) (length (before ++ entry ∷ []) - 1) 0 (omega (arith, long)) in
+    same_Some told entry (sym (subst (λ (x : List Entry). slice_get x (length x - 1) ≡ Some told) all read) ∙ at)
 
 -- a log that answers some events goes on to do so
 pub logged_more : (c : Config) (log log' : List Entry) (entry : Entry) (event : Event) (old new : WorldState) →

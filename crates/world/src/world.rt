@@ -106,15 +106,17 @@ impl<H: History, W: Window> World<H, W> {
         self.config.limits();
         self.log.reserve(1)?;
         self.wire.reserve(1)?;
-        let entry = answered(
+        answered(
             &self.config,
             &mut self.sender,
             &mut self.wire,
             &mut self.receiver,
+            &mut self.log,
             event,
         );
-        self.closeness = self.closeness.after(&entry);
-        self.log.push_reserved(entry);
+        if let Some(entry) = self.log.last() {
+            self.closeness = self.closeness.after(entry);
+        }
         Ok(())
     }
 
@@ -122,7 +124,7 @@ impl<H: History, W: Window> World<H, W> {
     pub fn last(&self) -> Option<&Entry>
         ensures { (before : List Entry) (entry : Entry) → self.now.log ≡ before ++ entry ∷ [] → IsSomeAnd result (λ last. last.now ≡ entry) }
     {
-        self.log.as_slice().last()
+        self.log().last()
     }
 
     /// Its configuration is within the limits, its stores have the room that this says, and its log answers some events.
