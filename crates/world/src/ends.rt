@@ -1,8 +1,10 @@
 //! What both ends of a world do with an event.
-ghost use Rattle.std.specs.Prelude.{◌≡◌, ◌<◌, ◌≤◌, ◌++◌, [], ◌∷◌, length, List, vec_len};
+ghost use Rattle.std.specs.Prelude.{◌≡◌, ◌<◌, ◌≤◌, ◌++◌, [], ◌∷◌, ℕ, length, List, MatchOption, vec_len};
 ghost use Rattle.std.specs.Vec.{vec_capacity};
+ghost use Rattle.rtpwire.specs.declared.limits.TheConstants.{MAX_DATAGRAM};
 ghost use Rattle.fbwire.specs.Nack.{Nack, NackSpells};
 ghost use Rattle.receiver.specs.Receiver.{Receiving};
+ghost use Rattle.receiver.specs.Peeking.{played_of};
 ghost use Rattle.sender.specs.Sender.{Sending};
 ghost use Rattle.world.specs.Config.{Config as Setup, sending};
 ghost use Rattle.world.specs.Answers.{Item, HearsAt, Step};
@@ -12,9 +14,10 @@ use crate::config::Config;
 use crate::event::{Answer, End, Entry, Event, Label, MAX_PAIRS};
 use arrayvec::ArrayVec;
 use fbwire::{NackView, Pair};
-use receiver::Receiver;
-use rtpwire::{Content, Datagram};
-use sender::Sender;
+use places::Place;
+use receiver::{Peeked, Played, Receiver};
+use rtpwire::{Carried, Content, Datagram, MAX_DATAGRAM};
+use sender::{SendFault, Sender};
 use stores::{History, Window};
 
 /// What the ends do with an event. Its entry is put into the log, where it lies best: an entry is as large as a content,
@@ -47,15 +50,10 @@ pub(crate) fn answered<H: History, W: Window>(
         Event::Deliver(index, now) => {
             delivered(wire.as_slice(), sender, receiver, log, *index, *now)
         }
-        Event::Play(now) => log.push_reserved(Entry::Played {
-            now: *now,
-            played: receiver.play(*now),
-        }),
-        Event::Inject(end, datagram, now) => log.push_reserved(Entry::Injected {
-            end: *end,
-            now: *now,
-            answer: heard(*end, sender, receiver, datagram.as_slice(), *now),
-        }),
+        Event::Play(now) => played(receiver, log, *now),
+        Event::Inject(end, datagram, now) => {
+            injected(sender, receiver, log, *end, datagram, *now)
+        }
     }
 }
 
@@ -76,17 +74,46 @@ fn sent<H: History>(
     ensures history { sender.new.past.capacity ≡ sender.old.past.capacity }
 {
     let index = wire.len() as u64;
-    match sender.send(content.copy(), padding) {
-        Err(fault) => log.push_reserved(Entry::SendRefused(fault)),
-        Ok((place, datagram)) => {
-            wire.push_reserved((Label::Media(place), datagram));
-            log.push_reserved(Entry::Sent {
-                place,
-                index,
-                content: content.copy(),
-            });
+    let mut octets = [0; MAX_DATAGRAM];
+    let carried = Carried::of_content(content);
+    match sender.send_into(&mut octets, &carried, padding).unwrap() {
+        Err(fault) => log_refused(log, fault),
+        Ok((place, len)) => {
+            put_on(wire, Label::Media(place), &octets[..len]);
+            log_sent(log, place, index, content);
         }
     }
+}
+
+/// Puts octets on the wire, under a label. There is room.
+fn put_on(wire: &mut Vec<(Label, Datagram)>, label: Label, octets: &[u8])
+    requires room { vec_len wire.old < vec_capacity wire.old }
+    requires fits { length octets.now ≤ MAX_DATAGRAM }
+    ensures { wire.new.items ≡ wire.old.items ++ (label, record { items = octets.now }) ∷ [] }
+{
+    let mut datagram = Datagram::new();
+    datagram.try_extend_from_slice(octets).unwrap();
+    wire.push_reserved((label, datagram));
+}
+
+/// Logs that a content was sent. There is room in the log.
+fn log_sent(log: &mut Vec<Entry>, place: Place, index: u64, content: &Content)
+    requires room { vec_len log.old < vec_capacity log.old }
+    ensures { log.new.items ≡ log.old.items ++ Entry.Sent place index content.now ∷ [] }
+{
+    log.push_reserved(Entry::Sent {
+        place,
+        index,
+        content: content.copy(),
+    });
+}
+
+/// Logs that a send was refused. There is room in the log.
+fn log_refused(log: &mut Vec<Entry>, fault: SendFault)
+    requires room { vec_len log.old < vec_capacity log.old }
+    ensures { log.new.items ≡ log.old.items ++ Entry.SendRefused fault ∷ [] }
+{
+    log.push_reserved(Entry::SendRefused(fault));
 }
 
 /// Retransmits. There is room on the wire and in the log.
@@ -104,10 +131,11 @@ fn repaired<H: History>(
     ensures history { sender.new.past.capacity ≡ sender.old.past.capacity }
 {
     let index = wire.len() as u64;
-    match sender.next_repair() {
+    let mut octets = [0; MAX_DATAGRAM];
+    match sender.next_repair_into(&mut octets).unwrap() {
         None => log.push_reserved(Entry::NoRepair),
-        Some((place, datagram)) => {
-            wire.push_reserved((Label::Repair(place), datagram));
+        Some((place, len)) => {
+            put_on(wire, Label::Repair(place), &octets[..len]);
             log.push_reserved(Entry::Repaired { place, index });
         }
     }
@@ -173,7 +201,7 @@ fn delivered<H: History, W: Window>(
     ensures window { receiver.new.span.capacity ≡ receiver.old.span.capacity }
 {
     match wire.get(index as usize) {
-        None => log.push_reserved(Entry::Nothing),
+        None => log_nothing(log),
         Some((label, datagram)) => log.push_reserved(Entry::Delivered {
             index,
             label: label.copy(),
@@ -181,6 +209,91 @@ fn delivered<H: History, W: Window>(
             answer: heard(label.end(), sender, receiver, datagram.as_slice(), now),
         }),
     }
+}
+
+/// Logs that nothing is on the wire at an index. There is room in the log.
+fn log_nothing(log: &mut Vec<Entry>)
+    requires room { vec_len log.old < vec_capacity log.old }
+    ensures { log.new.items ≡ log.old.items ++ Entry.Nothing ∷ [] }
+{
+    log.push_reserved(Entry::Nothing);
+}
+
+/// Plays. There is room in the log.
+fn played<W: Window>(receiver: &mut Receiver<W>, log: &mut Vec<Entry>, now: u64)
+    requires log_room { vec_len log.old < vec_capacity log.old }
+    ensures step { (entry : Entry) × ((c : Setup) (sender : Sending) (wire : List Item) → c.receiver ≡ receiver.old.config
+        → Step c (stand_at sender wire receiver.old) (Event.Play now) entry (stand_at sender wire receiver.new))
+        × (log.new.items ≡ log.old.items ++ entry ∷ []) }
+    ensures receiver { receiver.new.config ≡ receiver.old.config }
+    ensures window { receiver.new.span.capacity ≡ receiver.old.span.capacity }
+{
+    log_played(log, now, receiver.peek(now));
+    receiver.pass(now);
+}
+
+/// Logs what is played. There is room in the log.
+fn log_played(log: &mut Vec<Entry>, now: u64, peeked: Peeked<'_>)
+    requires room { vec_len log.old < vec_capacity log.old }
+    ensures { log.new.items ≡ log.old.items ++ Entry.Played now (played_of peeked.entry) ∷ [] }
+{
+    match peeked {
+        Peeked::Packet(place, content) => log_packet(log, now, place, content),
+        Peeked::Gap(place) => log_unplayed(log, now, Some(place)),
+        Peeked::Wait => log_unplayed(log, now, None),
+    }
+}
+
+/// Logs that a packet was played, with a copy of its content from where that lies. There is room in the log.
+fn log_packet(log: &mut Vec<Entry>, now: u64, place: Place, content: &Content)
+    requires room { vec_len log.old < vec_capacity log.old }
+    ensures { log.new.items ≡ log.old.items ++ Entry.Played now (Played.Packet place content.now) ∷ [] }
+{
+    log.push_reserved(Entry::Played {
+        now,
+        played: Played::Packet(place, content.copy()),
+    });
+}
+
+/// Logs that no packet was played: a place was given up, or else the receiver waits. There is room in the log.
+fn log_unplayed(log: &mut Vec<Entry>, now: u64, gap: Option<Place>)
+    requires room { vec_len log.old < vec_capacity log.old }
+    ensures { MatchOption gap (log.new.items ≡ log.old.items ++ Entry.Played now Played.Wait ∷ [])
+        (λ place. log.new.items ≡ log.old.items ++ Entry.Played now (Played.Gap place) ∷ []) }
+{
+    log.push_reserved(Entry::Played {
+        now,
+        played: match gap {
+            Some(place) => Played::Gap(place),
+            None => Played::Wait,
+        },
+    });
+}
+
+/// Hands a datagram that nobody sent to an end. There is room in the log.
+fn injected<H: History, W: Window>(
+    sender: &mut Sender<H>,
+    receiver: &mut Receiver<W>,
+    log: &mut Vec<Entry>,
+    end: End,
+    datagram: &Datagram,
+    now: u64,
+)
+    requires log_room { vec_len log.old < vec_capacity log.old }
+    ensures step { (entry : Entry) × ((c : Setup) (wire : List Item) → sender.old.config ≡ sending c → c.receiver ≡ receiver.old.config
+        → c.window ≡ receiver.old.span.capacity
+        → Step c (stand_at sender.old wire receiver.old) (Event.Inject end datagram.now now) entry (stand_at sender.new wire receiver.new))
+        × (log.new.items ≡ log.old.items ++ entry ∷ []) }
+    ensures sender { sender.new.config ≡ sender.old.config }
+    ensures history { sender.new.past.capacity ≡ sender.old.past.capacity }
+    ensures receiver { receiver.new.config ≡ receiver.old.config }
+    ensures window { receiver.new.span.capacity ≡ receiver.old.span.capacity }
+{
+    log.push_reserved(Entry::Injected {
+        end,
+        now,
+        answer: heard(end, sender, receiver, datagram.as_slice(), now),
+    });
 }
 
 /// Hands octets to an end.
