@@ -1,5 +1,5 @@
 -- What the first line of a text says of the text.
-use Rattle.std.proofs.Common.{◌≡◌, ℕ, ◌+◌, List, [], ◌∷◌, ◌++◌, take, drop, refl, ap, ◌∙◌, sym, Some, None, Option, append_assoc, subst}
+use Rattle.std.proofs.Common.{◌≡◌, ℕ, ◌+◌, List, [], ◌∷◌, ◌++◌, take, drop, refl, ap, ◌∙◌, sym, Some, None, Option, is_some, true, false, append_assoc, subst}
 use Rattle.std.specs.Option.{IfSome}
 use Rattle.std.specs.Io.KnownBytes.{Keeps, prepend_known}
 use Rattle.world.specs.declared.event.Event.{Event}
@@ -68,6 +68,17 @@ fails_at (Some x) None held at number p f a = absurd p
 fails_at (Some x) (Some y) held at number p f a =
     let e = line_of_known x held y at p f.1 in
     (refl, events_in-none x _ _ e f.2 a, bad_in-none x _ _ number e f.2 a)
+
+-- the same of what was read there, whichever of both it is
+pub event_read : (old left : Option (List ℕ)) (held : List ℕ) (at : ℕ) (read : Option Event) → Keeps old (prepend_known held left) → Found (Line at) held left
+    → read ≡ event_of (take at held) → is_some read ≡ true → IfBoth old (prepend_known (drop (at + 1) held) left) (Continues read)
+event_read old left held at None p f a some = absurd cc
+event_read old left held at (Some event) p f a some = event_at old left held at event p f (sym a)
+
+pub fails_read : (old left : Option (List ℕ)) (held : List ℕ) (at number : ℕ) (read : Option Event) → Keeps old (prepend_known held left) → Found (Line at) held left
+    → read ≡ event_of (take at held) → is_some read ≡ false → IfSome old (FailsAt number (BadLine number))
+fails_read old left held at number None p f a none = fails_at old left held at number p f (sym a)
+fails_read old left held at number (Some event) p f a none = absurd cc
 
 pub fails_refused : (old left : Option (List ℕ)) (held : List ℕ) (number : ℕ) → Keeps old (prepend_known held left) → Found Refused held left → IfSome old (FailsAt number (BadLine number))
 fails_refused None left held number p f = tt

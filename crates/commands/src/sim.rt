@@ -82,28 +82,34 @@ fn read_config<R: Read, W: Write>(
     }
 }
 
-/// Reads the event of the line with this number, or tells that there is no further line.
+/// Reads the event of the line with this number, or finds that there is no further line: then it is none. The event is
+/// put where the caller has it, since it is as large as a datagram.
 fn read_event<R: Read, W: Write>(
     pending: &mut Pending,
     input: &mut R,
     output: &mut W,
     number: u64,
-) -> Result<Option<Event>, SimFault>
-    ensures ok { IfOk result (λ event. IfBoth (prepend_known pending.old (R.remaining input.old)) (prepend_known pending.new (R.remaining input.new)) (Continues event)) }
-    ensures end { IfOk result (λ event. EndsAt event (R.remaining input.new)) }
+    event: &mut Option<Event>,
+) -> Result<(), SimFault>
+    ensures ok { OnOk result (IfBoth (prepend_known pending.old (R.remaining input.old)) (prepend_known pending.new (R.remaining input.new)) (Continues event.new)) }
+    ensures end { OnOk result (EndsAt event.new (R.remaining input.new)) }
     ensures err { IfErr result (λ fault. IfSome (prepend_known pending.old (R.remaining input.old)) (FailsAt number fault)) }
     ensures lost { IfErr result (λ fault. Leaves fault (prepend_known pending.old (R.remaining input.old)) (R.remaining input.new)) }
     ensures written { Keeps (W.contents output.old) (W.contents output.new) }
 {
     match next_line(pending, input, output) {
-        Ok(Next::Line(at)) => match parse_event(&pending.octets()[..at]) {
-            Some(event) => {
-                pending.skip(at + 1);
-                Ok(Some(event))
+        Ok(Next::Line(at)) => {
+            *event = parse_event(&pending.octets()[..at]);
+            if event.is_none() {
+                return Err(SimFault::BadLine(number));
             }
-            None => Err(SimFault::BadLine(number)),
-        },
-        Ok(Next::End) => Ok(None),
+            pending.skip(at + 1);
+            Ok(())
+        }
+        Ok(Next::End) => {
+            *event = None;
+            Ok(())
+        }
         Ok(Next::Refused) => Err(SimFault::BadLine(number)),
         Err(fault) => Err(fault),
     }
@@ -149,12 +155,14 @@ pub fn sim_text<R: Read, W: Write>(
     let mut line = Vec::new(alloc);
     let config = read_config(&mut pending, input, output)?;
     let mut world = World::<RingHistory, RingWindow>::new(alloc, &config)?;
+    let mut event = None;
     // A log of 2^64 entries has no room in any memory, so the loop ends before its range does.
     for count in 0..u64::MAX - 2 {
-        let Some(event) = read_event(&mut pending, input, output, count + 2)? else {
+        read_event(&mut pending, input, output, count + 2, &mut event)?;
+        let Some(event) = &event else {
             return Ok(count);
         };
-        advance(&mut world, &event, &mut line)?;
+        advance(&mut world, event, &mut line)?;
         write_text(output, &line)?;
     }
     Err(SimFault::OutOfMemory)

@@ -20,12 +20,19 @@ pub(crate) fn play_all<H: History, W: Window>(
     ensures config { world.new.config ≡ world.old.config }
     ensures err { OnErr result ((count : ℕ) × Plays world.old.config now count (scene_of world.old) (scene_of world.new)) }
 {
-    while play_once(world, now)? {}
+    // An event is as large as a datagram, so it is made once.
+    let event = Event::Play(now);
+    while play_once(world, &event, now)? {}
     Ok(())
 }
 
-/// The receiver plays once, and answers whether it did not wait.
-fn play_once<H: History, W: Window>(world: &mut World<H, W>, now: u64) -> Result<bool, OutOfMemory>
+/// The receiver plays once, by this event, and answers whether it did not wait.
+fn play_once<H: History, W: Window>(
+    world: &mut World<H, W>,
+    event: &Event,
+    now: u64,
+) -> Result<bool, OutOfMemory>
+    requires { event.now ≡ Event.Play now }
     ensures played { IfOk result (λ went. (played : Played) × Happens world.old.config (scene_of world.old) (Event.Play now) (Entry.Played now played) (scene_of world.new)
         × (went ≡ goes played)) }
     // What did not wait took a place out of the window.
@@ -33,7 +40,7 @@ fn play_once<H: History, W: Window>(world: &mut World<H, W>, now: u64) -> Result
     ensures config { world.new.config ≡ world.old.config }
     ensures err { OnErr result (world.new ≡ world.old) }
 {
-    happen(world, &Event::Play(now))?;
+    happen(world, event)?;
     match world.last() {
         Some(
             Entry::Played {

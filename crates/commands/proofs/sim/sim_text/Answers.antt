@@ -35,25 +35,25 @@ returns-in_err-world-clause-a_beginning g c =
 pub loop-count-init : goal.loop-count-init
 loop-count-init g c = rw c.in_ok-world.ensures (known_start _ _ _ _ _ (rw c.in_ok-pending.ensures at c.in_ok-config.ensures.ok) c.in_ok-config.ensures.written)
 
-pub returns-in_err-event-clause-first_bad_line : goal.returns-in_err-event-clause-first_bad_line
-returns-in_err-event-clause-first_bad_line g c =
-    let before = known_kept _ _ _ _ _ _ _ c.loop-count.invariant c.in_err-event.ensures.written in
-    if_err _ _ _ c.from_residual-in_err-event.ensures.1 (known_stopped _ _ _ _ _ _ _ before c.in_err-event.ensures.err)
+pub returns-in_err-read_event-clause-first_bad_line : goal.returns-in_err-read_event-clause-first_bad_line
+returns-in_err-read_event-clause-first_bad_line g c =
+    let before = known_kept _ _ _ _ _ _ _ c.loop-count.invariant c.in_err-read_event.ensures.written in
+    if_err _ _ _ c.from_residual-in_err-read_event.ensures.1 (known_stopped _ _ _ _ _ _ _ before c.in_err-read_event.ensures.err)
 
-pub returns-in_err-event-clause-all_answered : goal.returns-in_err-event-clause-all_answered
-returns-in_err-event-clause-all_answered g c =
-    let before = known_kept _ _ _ _ _ _ _ c.loop-count.invariant c.in_err-event.ensures.written in
-    if_err _ _ _ c.from_residual-in_err-event.ensures.1 (known_answered _ _ _ _ _ _ _ _ before c.in_err-event.ensures.lost)
+pub returns-in_err-read_event-clause-all_answered : goal.returns-in_err-read_event-clause-all_answered
+returns-in_err-read_event-clause-all_answered g c =
+    let before = known_kept _ _ _ _ _ _ _ c.loop-count.invariant c.in_err-read_event.ensures.written in
+    if_err _ _ _ c.from_residual-in_err-read_event.ensures.1 (known_answered _ _ _ _ _ _ _ _ before c.in_err-read_event.ensures.lost)
 
-pub returns-in_err-event-clause-a_beginning : goal.returns-in_err-event-clause-a_beginning
-returns-in_err-event-clause-a_beginning g c =
-    let before = known_kept _ _ _ _ _ _ _ c.loop-count.invariant c.in_err-event.ensures.written in
-    on_err _ (known_of_read _ _ _ _ _ _ _ before (leaves_end _ _ _ c.in_err-event.ensures.lost))
+pub returns-in_err-read_event-clause-a_beginning : goal.returns-in_err-read_event-clause-a_beginning
+returns-in_err-read_event-clause-a_beginning g c =
+    let before = known_kept _ _ _ _ _ _ _ c.loop-count.invariant c.in_err-read_event.ensures.written in
+    on_err _ (known_of_read _ _ _ _ _ _ _ before (leaves_end _ _ _ c.in_err-read_event.ensures.lost))
 
 pub returns-in_default-clause-whole_log : goal.returns-in_default-clause-whole_log
 returns-in_default-clause-whole_log g c =
-    let before = known_kept _ _ _ _ _ _ _ c.loop-count.invariant c.in_ok-event.ensures.written in
-    known_done _ _ _ _ _ _ _ before (rw c.in_default.is at c.in_ok-event.ensures.ok)
+    let before = known_kept _ _ _ _ _ _ _ c.loop-count.invariant c.in_ok-read_event.ensures.written in
+    known_done _ _ _ _ _ _ _ before (rw c.in_default.is at c.in_ok-read_event.ensures.ok)
 
 pub returns-in_err-advance-clause-first_bad_line : goal.returns-in_err-advance-clause-first_bad_line
 returns-in_err-advance-clause-first_bad_line g c = known_memory _ _ _ _ c.from_residual-in_err-advance.ensures.1
@@ -63,21 +63,21 @@ returns-in_err-write_text-clause-first_bad_line g c = if_err _ _ _ c.from_residu
 
 pub returns-in_err-advance-clause-a_beginning : goal.returns-in_err-advance-clause-a_beginning
 returns-in_err-advance-clause-a_beginning g c =
-    let before = known_kept _ _ _ _ _ _ _ c.loop-count.invariant c.in_ok-event.ensures.written in
-    let next = rw c.in-Some.is at c.in_ok-event.ensures.ok in
+    let before = known_kept _ _ _ _ _ _ _ c.loop-count.invariant c.in_ok-read_event.ensures.written in
+    let next = rw c.in-Some.is at c.in_ok-read_event.ensures.ok in
     on_err _ (known_of_read _ _ _ _ _ _ _ before (taken_ends c.in-Some.event _ _ _ next))
 
 pub returns-in_err-write_text-clause-a_beginning : goal.returns-in_err-write_text-clause-a_beginning
 returns-in_err-write_text-clause-a_beginning g c =
-    let before = known_kept _ _ _ _ _ _ _ c.loop-count.invariant c.in_ok-event.ensures.written in
-    let next = rw c.in-Some.is at c.in_ok-event.ensures.ok in
+    let before = known_kept _ _ _ _ _ _ _ c.loop-count.invariant c.in_ok-read_event.ensures.written in
+    let next = rw c.in-Some.is at c.in_ok-read_event.ensures.ok in
     let part = rw c.deref.ensures.value at c.in_err-write_text.ensures.err in
     on_err _ (known_of_read_part _ _ _ part.0 c.in-Some.event _ _ _ _ _ _ _ _ before next c.in_ok-advance.ensures part.2)
 
 pub loop-count-preserved : goal.loop-count-preserved
 loop-count-preserved g c =
-    let before = known_kept _ _ _ _ _ _ _ c.loop-count.invariant c.in_ok-event.ensures.written in
-    let next = rw c.in-Some.is at c.in_ok-event.ensures.ok in
+    let before = known_kept _ _ _ _ _ _ _ c.loop-count.invariant c.in_ok-read_event.ensures.written in
+    let next = rw c.in-Some.is at c.in_ok-read_event.ensures.ok in
     let whole = rw c.deref.ensures.value at c.in_ok-write_text.ensures.ok in
     known_step _ _ _ c.in-Some.event _ _ _ _ _ _ _ before next c.in_ok-advance.ensures whole
 
