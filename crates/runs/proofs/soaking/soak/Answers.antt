@@ -1,4 +1,4 @@
-use Rattle.std.proofs.Common.{◌≡◌, ◌∙◌, refl, ap, arith}
+use Rattle.std.proofs.Common.{◌∙◌, refl, ap, arith}
 use Rattle.world.specs.World.{empty}
 use Rattle.runs.specs.Scene.{scene_of}
 use Rattle.runs.proofs.SoakSteps.{drawn_run}
