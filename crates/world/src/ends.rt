@@ -1,4 +1,7 @@
 //! What both ends of a world do with an event.
+//!
+//! An entry is as large as a content, and a function blanks each one that it may make as soon as it is entered. So those that
+//! come often are made in functions of their own, each where it is put into the log.
 ghost use Rattle.std.specs.Prelude.{◌≡◌, ◌<◌, ◌≤◌, ◌++◌, [], ◌∷◌, ℕ, length, List, MatchOption, vec_len};
 ghost use Rattle.std.specs.Vec.{vec_capacity};
 ghost use Rattle.rtpwire.specs.declared.limits.TheConstants.{MAX_DATAGRAM};
@@ -20,8 +23,7 @@ use rtpwire::{Carried, Content, Datagram, MAX_DATAGRAM};
 use sender::{SendFault, Sender};
 use stores::{History, Window};
 
-/// What the ends do with an event. Its entry is put into the log, where it lies best: an entry is as large as a content,
-/// so each is made where it is pushed. There is room on the wire and in the log.
+/// What the ends do with an event, whose entry is put into the log. There is room on the wire and in the log.
 pub(crate) fn answered<H: History, W: Window>(
     config: &Config,
     sender: &mut Sender<H>,
@@ -74,6 +76,7 @@ fn sent<H: History>(
     ensures history { sender.new.past.capacity ≡ sender.old.past.capacity }
 {
     let index = wire.len() as u64;
+    // A content that is lent needs no copy of its own, as one that is passed would.
     let mut octets = [0; MAX_DATAGRAM];
     let carried = Carried::of_content(content);
     match sender.send_into(&mut octets, &carried, padding).unwrap() {
