@@ -1,8 +1,7 @@
 -- A run goes on by one event.
-use Rattle.std.proofs.Common.{◌≡◌, ℕ, ◌+◌, ◌<◌, Bool, ◌-◌, List, [], ◌∷◌, ◌++◌, length, get_or, slice_get, take, reverse, Option, Some, sym, ap, subst, ◌∙◌, arith}
+use Rattle.std.proofs.Common.{◌≡◌, ℕ, ◌+◌, ◌<◌, Bool, ◌-◌, List, [], ◌∷◌, ◌++◌, length, get_or, slice_get, take, reverse, Option, Some, sym, ap, subst, ◌∙◌, refl, arith}
 use Rattle.std.proofs.lemmas.List.{take_more, reverse-append, length-append}
 use Rattle.std.proofs.lemmas.Option.{same_Some}
-use Rattle.stores.proofs.Lookup.{slice_get-append_right}
 use Rattle.world.specs.declared.event.Event.{Event}
 use Rattle.world.specs.declared.event.Entry.{Entry}
 use Rattle.world.specs.Config.{Config}
@@ -28,12 +27,17 @@ run_more c events i d log log' entry old new within is before step =
 pub pushed : (log reserved log' : List Entry) (entry : Entry) → log' ≡ reserved ++ entry ∷ [] → reserved ≡ log → log' ≡ log ++ entry ∷ []
 pushed log reserved log' entry push same = push ∙ ap (λ (x : List Entry). x ++ entry ∷ []) same
 
+last_of : (before : List Entry) (entry : Entry) → slice_get (before ++ entry ∷ []) (length before) ≡ Some entry
+last_of [] entry = refl
+last_of (x ∷ before) entry = last_of before entry
+
 -- what is read as a log's last entry is the one that was pushed
 pub last_pushed : (before log seen : List Entry) (entry told : Entry) → log ≡ before ++ entry ∷ [] → seen ≡ log → slice_get seen (length seen - 1) ≡ Some told → told ≡ entry
 last_pushed before log seen entry told is same read =
     let all = same ∙ is in
     let long = length-append before (entry ∷ []) in
-    let at = slice_get-append_right before (entry ∷ []) (length (before ++ entry ∷ []) - 1) 0 (omega (arith, long)) in
+    let last : length (before ++ entry ∷ []) - 1 ≡ length before = omega (arith, long) in
+    let at = ap (slice_get (before ++ entry ∷ [])) last ∙ last_of before entry in
     same_Some told entry (sym (subst (λ (x : List Entry). slice_get x (length x - 1) ≡ Some told) all read) ∙ at)
 
 -- a log that answers some events goes on to do so
