@@ -3,6 +3,9 @@ use Rattle.std.proofs.Common.{◌≡◌, ℕ, zero, suc, ◌+◌, ◌-◌, ◌<�
 use Rattle.std.specs.List.{filter, range_with_len}
 use Rattle.std.proofs.lemmas.List.{take_at, take_all, append-nil}
 use Rattle.std.proofs.lemmas.Bool.{cond_both}
+use Rattle.std.specs.Option.{option_map, IsSome}
+use Rattle.stores.specs.declared.slot.SlotRef.{SlotRef}
+use Rattle.stores.specs.Lent.{slot_of}
 use Rattle.stores.specs.declared.slot.Slot.{Slot}
 use Rattle.stores.specs.declared.slot.Slot.TheVariants.{Held, Missing}
 use Rattle.stores.specs.ByPlace.{slot_from}
@@ -16,6 +19,13 @@ pub not_due : (now delay retry limit : ℕ) (o : Option Slot) → is_missing o �
 not_due now delay retry limit None e = refl
 not_due now delay retry limit (Some (Held content)) e = refl
 not_due now delay retry limit (Some (Missing noticed asks last)) e = absurd (cc)
+
+-- a slot within is lent
+pub lent_within : (lent : Option SlotRef) (slots : List Slot) (i : ℕ) → option_map slot_of lent ≡ slice_get slots i → i < length slots → IsSome lent
+lent_within (Some x) slots i e within = refl
+lent_within None [] i e within = absurd (omega arith)
+lent_within None (x ∷ slots) zero e within = absurd cc
+lent_within None (x ∷ slots) (suc i) e within = lent_within None slots i e (omega arith)
 
 -- a slot is not due where its block's moment has not come
 pub not_due_so_soon : (due come : Bool) → come ≡ false → (due ≡ true → come ≡ true) → due ≡ false

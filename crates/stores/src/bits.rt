@@ -181,12 +181,27 @@ impl Bits {
         position.checked_sub(bit % 64)
     }
 
-    /// Whether the set has no further position behind this one whose bit is in its word.
-    pub fn is_last(&self, position: usize) -> bool
+    /// The least position of the set among those of a run from this one on, or where that run ends. It looks at one word.
+    pub fn first_in_run(&self, position: usize) -> usize
         requires { position < bits_of self.now.words.items }
+        ensures above { position ≤ result }
+        ensures within { result ≤ bits_of self.now.words.items }
+        ensures none { (p : ℕ) → position ≤ p → p < result → is_member self.now.words.items self.now.front p ≡ false }
     {
         let bit = self.bit_of(position);
-        self.words[bit / 64] >> (bit % 64) <= 1
+        let end = (bit / 64 + 1) * 64;
+        let first = match first_bit(self.words.as_slice(), bit, end) {
+            Some(first) => first,
+            None => end,
+        };
+        self.bound().min(position + (first - bit))
+    }
+
+    /// How many positions there are: the bound of all.
+    pub fn bound(&self) -> usize
+        ensures { result ≡ bits_of self.now.words.items }
+    {
+        64 * self.words.len()
     }
 
     /// Takes every position out of the set.

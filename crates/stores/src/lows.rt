@@ -59,12 +59,28 @@ pub fn note_ask(slots: &Slots, missing: &Bits, lows: &mut Vec<Low>, index: usize
 {
     let word = missing.word_of(index);
     lows[word].ask(now);
-    if !missing.is_last(index) {
+    renew(slots, missing, lows, index);
+}
+
+/// Finds the least moments of this index's block anew, where no place behind it in the block is missing. It looks at one block.
+fn renew(slots: &Slots, missing: &Bits, lows: &mut Vec<Low>, index: usize)
+    requires within { index < length slots.now.items }
+    requires room { length slots.now.items < bits_of missing.now.words.items }
+    requires index { IsSetOf is_missing missing.now.words.items missing.now.front slots.now.items }
+    requires blocks { length lows.old.items ≡ length missing.now.words.items }
+    requires low { AreLow lows.old.items missing.now.front slots.now.items }
+    ensures blocks { length lows.new.items ≡ length lows.old.items }
+    ensures low { AreLow lows.new.items missing.now.front slots.now.items }
+{
+    let Some(start) = missing.run_start(index) else {
+        return;
+    };
+    let end = slots.len().min(start + 64);
+    if index + 1 < end && missing.first_in_run(index + 1) < end {
         return;
     }
-    if let Some(start) = missing.run_start(index) {
-        lows[word] = low_of(slots, missing, start, slots.len().min(start + 64));
-    }
+    let word = missing.word_of(index);
+    lows[word] = low_of(slots, missing, start, end);
 }
 
 /// The least moments of the missing places from one index up to below an end.
@@ -77,11 +93,11 @@ fn low_of(slots: &Slots, missing: &Bits, start: usize, end: usize) -> Low
 {
     let mut low = Low::NONE;
     let mut index = start;
-    while let Some(next) = missing.first(index) {
-        if next >= end {
-            return low;
+    while index < end {
+        let next = missing.first_in_run(index);
+        if next < end {
+            low.meet(slots.get(next).unwrap());
         }
-        low.meet(slots.get(next).unwrap());
         index = next + 1;
     }
     low

@@ -147,15 +147,19 @@ fn least(marks: &Bits, lowest: usize) -> Option<usize>
     marks.first(lowest)
 }
 
-/// Below which entry none is marked: the least one that is, or, where none is, as before.
+/// Below which entry none is marked, found by a look at one word: where none is at all, below the bound; else up to the next one that is,
+/// or the end of its word.
 fn raised(marks: &Bits, lowest: usize) -> usize
     requires bounded { lowest ≤ bits_of marks.now.words.items }
     requires low { HasNoneBelow marks.now.words.items marks.now.front lowest }
     ensures bounded { result ≤ bits_of marks.now.words.items }
     ensures low { HasNoneBelow marks.now.words.items marks.now.front result }
 {
-    match least(marks, lowest) {
-        Some(first) => first,
-        None => lowest,
+    if marks.count() == 0 {
+        return marks.bound();
     }
+    if lowest >= marks.bound() {
+        return lowest;
+    }
+    marks.first_in_run(lowest)
 }

@@ -318,7 +318,7 @@ fn due_among(
         }
         let end = missing.run_end(next).min(slots.len());
         index = if has_come(lows[missing.word_of(next)].due_from(rule), now) {
-            due_of_run(due, first, slots, next, end, now, rule)
+            due_of_run(due, first, slots, missing, next, end, now, rule)
         } else {
             end
         };
@@ -330,6 +330,7 @@ fn due_of_run(
     due: &mut ArrayVec<Place, LONGEST_ASK>,
     first: u64,
     slots: &Slots,
+    missing: &Bits,
     start: usize,
     end: usize,
     now: u64,
@@ -338,21 +339,29 @@ fn due_of_run(
     requires places { first + length slots.now.items ≤ 2 ^ 48 }
     requires order { start < end }
     requires end { end ≤ length slots.now.items }
+    requires room { length slots.now.items < bits_of missing.now.words.items }
+    requires index { IsSetOf is_missing missing.now.words.items missing.now.front slots.now.items }
     requires some { length due.old.items < longest_ask }
     ensures left { due.new.items ++ due_rest now rule.delay rule.retry rule.asks first slots.now.items result ≡ due.old.items ++ due_rest now rule.delay rule.retry rule.asks first slots.now.items start }
     ensures further { start < result }
     ensures within { result ≤ end }
     ensures fits { length due.new.items ≤ longest_ask }
 {
-    for index in start..end {
+    let mut index = start;
+    while index < end {
         if due.is_full() {
             return index;
         }
-        if slots.get(index).unwrap().is_due(now, rule) {
-            due.push(Place::new(first + index as u64).unwrap());
+        let next = missing.first_in_run(index);
+        if next >= end {
+            return end;
         }
+        if slots.get(next).unwrap().is_due(now, rule) {
+            due.push(Place::new(first + next as u64).unwrap());
+        }
+        index = next + 1;
     }
-    end
+    index
 }
 
 /// The least moment from which on one of these slots is due.
