@@ -197,7 +197,7 @@ fn push_fixed_header<const N: usize>(
 }
 
 /// The first twelve octets of a packet.
-pub(crate) fn fixed_octets(
+fn fixed_octets(
     content: &Carried<'_>,
     padding: u8,
     sequence: u16,
