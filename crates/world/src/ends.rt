@@ -1,7 +1,7 @@
 //! What both ends of a world do with an event.
 //!
-//! An entry is as large as a content, and a function blanks each one that it may make as soon as it is entered. So those that
-//! come often are made in functions of their own, each where it is put into the log.
+//! An entry is as large as a content, and a function blanks each one that it may make as soon as it is entered. So what happens often
+//! pays for no other entry: those of sends, refusals and plays are made in functions of their own, each where it is put into the log.
 ghost use Rattle.std.specs.Prelude.{◌≡◌, ◌<◌, ◌≤◌, ◌++◌, [], ◌∷◌, ℕ, length, List, MatchOption, vec_len};
 ghost use Rattle.std.specs.Vec.{vec_capacity};
 ghost use Rattle.rtpwire.specs.declared.limits.TheConstants.{MAX_DATAGRAM};
