@@ -1,5 +1,6 @@
 pub mod Lookup
 pub mod SlotPlaces
+pub mod Soonest
 pub mod PutPlaces
 pub mod ReadPlaces
 pub mod Passing

@@ -5,14 +5,16 @@ use Rattle.std.proofs.lemmas.List.{length-replicate}
 use Rattle.std.proofs.lemmas.Bool.{cond_both}
 use Rattle.std.proofs.lemmas.Bool.Decides.{nat_tests}
 use Rattle.std.proofs.lemmas.Option.{slice_get_past, slice_get_within}
+use Rattle.circular_buffer.proofs.Places.{slice_get-some}
 use Rattle.rtpwire.specs.declared.content.Content.{Content}
 use Rattle.stores.specs.declared.slot.Slot.{Slot}
 use Rattle.stores.specs.declared.slot.Slot.TheVariants.{Held, Missing}
 use Rattle.stores.specs.declared.slot.PutFault.{PutFault}
-use Rattle.stores.specs.declared.slot.PutFault.TheVariants.{Late}
+use Rattle.stores.specs.declared.slot.PutFault.TheVariants.{Late, Duplicate}
 use Rattle.stores.specs.Span.{Span, IsSpan}
 use Rattle.stores.specs.declared.spot.Spot.TheVariants.{Above}
 use Rattle.stores.specs.Put.{IsSpot, noticed_at, overrun_of, answer_at, put_answer, extended, after_higher, left_from, after_put}
+use Rattle.stores.specs.Asking.{is_missing}
 use Rattle.stores.specs.ByPlace.{slot_from, StartsWith, Gains, PutStep}
 use Rattle.stores.proofs.Lookup.{slice_get-append_left, slice_get-append_right, slice_get-drop, slice_get-replicate, slice_get-set_same, slice_get-set_other}
 
@@ -171,6 +173,19 @@ pub put_by_place : (old new : Span) (p : ℕ) (content : Content) (now : ℕ) (r
 put_by_place old new p content now result is answer ok err =
     let T : Result ℕ PutFault → Type 0 = λ r. OnOk r (new ≡ after_put old p content now) → OnErr r (new ≡ old) → PutStep p content now old r new in
     subst T (sym answer) (by_cursor old.cursor old.slots old.capacity p content now new is) ok err
+
+-- the answer to a put of a held place
+pub answer_held : (cursor : Option ℕ) (slots : List Slot) (capacity k p index : ℕ) → cursor ≡ Some k → p ≡ k + index → index < length slots → is_missing (slice_get slots index) ≡ false →
+    Err Duplicate ≡ put_answer (record { cursor = cursor; slots = slots; capacity = capacity }) p
+answer_held cursor slots capacity k p index started at within held =
+    let least : nat_lt p k ≡ false = grind (arith, nat_tests, at) in
+    let here : p - k ≡ index = omega arith in
+    rw (started, least, here) (of_slot (slice_get slots index) refl held)
+  where
+    of_slot : (o : Option Slot) → slice_get slots index ≡ o → is_missing o ≡ false → Err Duplicate ≡ answer_at o (overrun_of capacity k p)
+    of_slot None e held = let some = slice_get-some slots index within in let other : None ≡ Some some.0 = sym e ∙ some.1 in absurd cc
+    of_slot (Some (Held content)) e held = refl
+    of_slot (Some (Missing noticed asks last)) e held = absurd cc
 
 -- the answer to a put above all slots
 pub answer_above : (cursor : Option ℕ) (slots : List Slot) (capacity k p overrun unseen : ℕ) → cursor ≡ Some k → IsSpot k (length slots) capacity p (Above overrun unseen) →

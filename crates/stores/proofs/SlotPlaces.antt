@@ -1,5 +1,5 @@
 -- What a window has at each place, and what is left of it when its front is taken out.
-use Rattle.std.proofs.Common.{◌≡◌, ◌↔◌, ℕ, ◌+◌, ◌^◌, ◌<◌, ◌≤◌, true, List, length, get_or, slice_get, slice_set, nat_lt, false, ap, ltb-true, ltb-false, length-set, Option, Some, None, IsSome, sym, subst, ◌∙◌, refl, arith}
+use Rattle.std.proofs.Common.{◌≡◌, ◌≢◌, ◌↔◌, ℕ, ◌+◌, ◌^◌, ◌<◌, ◌≤◌, true, List, length, get_or, slice_get, slice_set, nat_lt, false, ap, ltb-true, ltb-false, length-set, Option, Some, None, IsSome, sym, subst, ◌∙◌, refl, arith}
 use Rattle.std.specs.Prelude.{IsSomeAnd}
 use Rattle.std.proofs.lemmas.Bool.Decides.{nat_tests}
 use Rattle.std.proofs.lemmas.Grind.{common_steps}
@@ -11,7 +11,7 @@ use Rattle.stores.specs.Asking.{is_missing, asked_slot, asked_at}
 use Rattle.stores.specs.declared.slot.Slot.{Slot}
 use Rattle.stores.specs.Span.{Span, IsSpan, highest_of, front_of, without_front}
 use Rattle.stores.specs.ByPlace.{slot_from, slot_at, slot_at_cursor, is_above, IsInside, LosesFront}
-use Rattle.stores.proofs.Lookup.{same_lists}
+use Rattle.stores.proofs.Lookup.{same_lists, slice_get-set_other}
 
 -- the places with a slot are those from the cursor to the highest place
 pub has_slot : (s : Span) (q : ℕ) → IsSpan s → IsSome (slot_at s q) ↔ IsInside s q
@@ -61,9 +61,14 @@ front_is_at_cursor s k started = grind (arith, common_steps)
 pub take_front_by_place : (old new : Span) (slot : Slot) → IsSpan old → front_of old ≡ Some slot → new ≡ without_front old → IsSomeAnd old.cursor (LosesFront old slot new)
 take_front_by_place old new slot is front rest = grind (arith, common_steps)
 
-asked_long : (slots : List Slot) (i now : ℕ) (o : Option Slot) → length (asked_at slots i now o) ≡ length slots
+-- an ask for one slot leaves the others
+pub asked_long : (slots : List Slot) (i now : ℕ) (o : Option Slot) → length (asked_at slots i now o) ≡ length slots
 asked_long slots i now None = refl
 asked_long slots i now (Some slot) = length-set slots i (asked_slot now slot)
+
+pub asked_others : (slots : List Slot) (i now : ℕ) (o : Option Slot) (p : ℕ) → p ≢ i → slice_get (asked_at slots i now o) p ≡ slice_get slots p
+asked_others slots i now None p apart = refl
+asked_others slots i now (Some slot) p apart = slice_get-set_other slots i p (asked_slot now slot) apart
 
 -- a started window keeps its ends when a slot is replaced
 pub started_set : (cursor : Option ℕ) (slots : List Slot) (i : ℕ) (slot : Slot) → ForSome cursor (λ k. (0 < k + length slots) × (k + length slots ≤ 2 ^ 48)) →

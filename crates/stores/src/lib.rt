@@ -10,6 +10,7 @@ mod cell;
 mod entries;
 mod entry;
 mod history;
+mod kept;
 mod laws;
 mod list_history;
 mod list_window;

@@ -1,21 +1,19 @@
-ghost use Rattle.std.specs.Prelude.{◌≡◌, ℕ, ◌+◌, ◌/◌, ◌^◌, ◌<◌, ◌≤◌, [], ◌∷◌, ◌++◌, length, take, drop, replicate, slice_get};
+ghost use Rattle.std.specs.Prelude.{◌≡◌, ◌+◌, ◌/◌, ◌^◌, ◌<◌, ◌≤◌, ◌++◌, length, take, drop, replicate};
 ghost use Rattle.std.specs.List.{filter, range_with_len};
 ghost use Rattle.std.specs.Option.{ForSome, ForNone};
-ghost use Rattle.rtpwire.specs.declared.content.Content.{Content};
-ghost use Rattle.stores.specs.declared.slot.Slot.{Slot};
-ghost use Rattle.stores.specs.declared.slot.Slot.TheVariants.{Held};
 ghost use Rattle.stores.specs.Put.{noticed_at};
 ghost use Rattle.stores.specs.ByPlace.{slot_from};
-ghost use Rattle.stores.specs.Asking.{longest_ask, is_due, is_missing, has_come, any_below};
+ghost use Rattle.stores.specs.Asking.{longest_ask, is_due, is_missing};
 ghost use Rattle.stores.specs.Bits.{bits_of, IsSetOf};
 ghost use Rattle.stores.specs.Index.{IsIndex};
 ghost use Rattle.stores.specs.Due.{due_rest};
-ghost use Rattle.stores.specs.Kept.{Tells};
+ghost use Rattle.stores.specs.Kept.{IsSoonest, Tells};
 ghost use Rattle.stores.specs.Low.{AreLow};
 
-use crate::answer::Answer;
-use crate::ask_rule::{AskRule, sooner};
+use crate::answer::{Answer, Soonest, moment_of};
+use crate::ask_rule::AskRule;
 use crate::bits::Bits;
+use crate::kept::{beside, with_change, with_jump, without_front};
 use crate::low::{Low, has_come, is_no_sooner};
 use crate::lows::{note_ask, note_missing};
 use crate::memory::OutOfMemory;
@@ -40,7 +38,7 @@ pub struct RingWindow {
     missing: Bits,
     // The least moments of the missing places of each word of those bits.
     lows: Vec<Low>,
-    // What was answered last to when a place is due, until what is missing changes.
+    // What was found last of when a place is due, for as long as that can be told to hold.
     kept: Option<Answer>,
     ghost room: { length slots.items ≤ slots.capacity },
     ghost nonzero: { 0 < slots.capacity },
@@ -56,13 +54,13 @@ pub struct RingWindow {
 }
 
 impl RingWindow {
-    /// The least moment from which on a slot is due by this rule: the one that is kept, if it is by the same rule.
-    fn soonest(&self, rule: AskRule) -> Option<u64>
-        ensures { Tells (record { rule = rule; moment = result }) self.now.slots.items }
+    /// The least moment from which on a slot is due by this rule, and such a slot: what is kept, if it is by the same rule.
+    fn soonest(&self, rule: AskRule) -> Option<Soonest>
+        ensures { IsSoonest rule result self.now.slots.items (length self.now.slots.items) }
     {
         if let Some(answer) = self.kept {
             if answer.rule == rule {
-                return answer.moment;
+                return answer.soonest;
             }
         }
         next_among(&self.slots, &self.missing, &self.lows, rule)
@@ -127,13 +125,14 @@ impl Window for RingWindow {
                 if !self.missing.contains(index) {
                     return Err(PutFault::Duplicate);
                 }
+                self.kept = beside(self.kept, &self.slots, &self.missing, index);
                 self.slots.hold(index, carried);
                 self.missing.clear(index);
-                self.kept = None;
+                self.kept = with_change(self.kept, &self.slots, index);
                 Ok(0)
             }
             Spot::Above { overrun, unseen } => {
-                self.kept = kept_with_more(self.kept, &self.slots, overrun, unseen);
+                self.kept = with_jump(self.kept, self.slots.len(), overrun, unseen, now);
                 drop_front(&mut self.slots, &mut self.missing, &self.lows, overrun);
                 add_missing(
                     &mut self.slots,
@@ -154,7 +153,7 @@ impl Window for RingWindow {
     }
 
     fn take_front(&mut self) -> Slot {
-        self.kept = kept_without_front(self.kept, &self.slots, &self.missing);
+        self.kept = without_front(self.kept, 1);
         let slot = self.slots.take_first();
         self.missing.shift();
         if let Some(cursor) = self.cursor {
@@ -164,7 +163,7 @@ impl Window for RingWindow {
     }
 
     fn drop_front(&mut self) {
-        self.kept = kept_without_front(self.kept, &self.slots, &self.missing);
+        self.kept = without_front(self.kept, 1);
         self.slots.drop_first();
         self.missing.shift();
         if let Some(cursor) = self.cursor {
@@ -193,13 +192,13 @@ impl Window for RingWindow {
     }
 
     fn next_due(&self, rule: AskRule) -> Option<u64> {
-        self.soonest(rule)
+        moment_of(self.soonest(rule))
     }
 
     fn seek_due(&mut self, rule: AskRule) -> Option<u64> {
-        let moment = self.soonest(rule);
-        self.kept = Some(Answer { rule, moment });
-        moment
+        let soonest = self.soonest(rule);
+        self.kept = Some(Answer { rule, soonest });
+        moment_of(soonest)
     }
 
     fn count_ask(&mut self, place: Place, now: u64) {
@@ -208,40 +207,13 @@ impl Window for RingWindow {
         };
         let index = (place.value() - cursor) as usize;
         self.slots.count_ask(index, now);
-        self.kept = None;
+        self.kept = with_change(self.kept, &self.slots, index);
         note_ask(&self.slots, &self.missing, &mut self.lows, index, now);
     }
 
     fn missing(&self) -> usize {
         self.missing.count()
     }
-}
-
-/// The answer that is kept once the first slot goes: the same one, if that is held.
-fn kept_without_front(kept: Option<Answer>, slots: &Slots, missing: &Bits) -> Option<Answer>
-    requires some { 0 < length slots.now.items }
-    requires room { length slots.now.items < bits_of missing.now.words.items }
-    requires index { IsSetOf is_missing missing.now.words.items missing.now.front slots.now.items }
-    requires told { ForSome kept (λ answer. Tells answer slots.now.items) }
-    ensures { ForSome result (λ answer. Tells answer (drop 1 slots.now.items)) }
-{
-    if missing.contains(0) { None } else { kept }
-}
-
-/// The answer that is kept once so many slots go from the front, so many missing ones come behind, and then a held one: the same one,
-/// where only that comes.
-fn kept_with_more(kept: Option<Answer>, slots: &Slots, overrun: u64, unseen: u64) -> Option<Answer>
-    requires { ForSome kept (λ answer. Tells answer slots.now.items) }
-    ensures { (missing : Slot) (content : Content) → ForSome result (λ answer. Tells answer ((drop overrun slots.now.items ++ replicate unseen missing) ++ Held content ∷ [])) }
-{
-    let _count = slots.len();
-    if overrun > 0 {
-        return None;
-    }
-    if unseen > 0 {
-        return None;
-    }
-    kept
 }
 
 /// Drops the first slots, as many as there are of so many.
@@ -364,20 +336,20 @@ fn due_of_run(
     index
 }
 
-/// The least moment from which on one of these slots is due.
-fn next_among(slots: &Slots, missing: &Bits, lows: &Vec<Low>, rule: AskRule) -> Option<u64>
+/// The least moment from which on one of these slots is due, and such a slot. It looks at no block whose places come no sooner.
+fn next_among(slots: &Slots, missing: &Bits, lows: &Vec<Low>, rule: AskRule) -> Option<Soonest>
     requires room { length slots.now.items < bits_of missing.now.words.items }
     requires index { IsSetOf is_missing missing.now.words.items missing.now.front slots.now.items }
     requires blocks { length lows.now.items ≡ length missing.now.words.items }
     requires low { AreLow lows.now.items missing.now.front slots.now.items }
-    ensures { (now : ℕ) → now < 2 ^ 64 → has_come result now ≡ any_below (λ i. is_due now rule.delay rule.retry rule.asks (slice_get slots.now.items i)) (length slots.now.items) }
+    ensures { IsSoonest rule result slots.now.items (length slots.now.items) }
 {
     let mut least = None;
     let mut index = 0;
     while let Some(next) = missing.first(index) {
         let end = missing.run_end(next).min(slots.len());
         let soonest = lows[missing.word_of(next)].due_from(rule);
-        if !is_no_sooner(soonest, least) {
+        if !is_no_sooner(soonest, moment_of(least)) {
             least = next_within(least, slots, missing, next, end, rule);
         }
         index = end;
@@ -385,30 +357,32 @@ fn next_among(slots: &Slots, missing: &Bits, lows: &Vec<Low>, rule: AskRule) -> 
     least
 }
 
-/// The least moment from which on one of the slots up to an end is due, where that is the least one of those before a start.
+/// The least moment from which on one of the slots up to an end is due, and such a slot, where those before a start have this one.
 fn next_within(
-    before: Option<u64>,
+    before: Option<Soonest>,
     slots: &Slots,
     missing: &Bits,
     start: usize,
     end: usize,
     rule: AskRule,
-) -> Option<u64>
+) -> Option<Soonest>
     requires order { start ≤ end }
     requires end { end ≤ length slots.now.items }
     requires room { length slots.now.items < bits_of missing.now.words.items }
     requires index { IsSetOf is_missing missing.now.words.items missing.now.front slots.now.items }
-    requires before { (now : ℕ) → now < 2 ^ 64 → has_come before now ≡ any_below (λ i. is_due now rule.delay rule.retry rule.asks (slice_get slots.now.items i)) start }
-    ensures { (now : ℕ) → now < 2 ^ 64 → has_come result now ≡ any_below (λ i. is_due now rule.delay rule.retry rule.asks (slice_get slots.now.items i)) end }
+    requires before { IsSoonest rule before slots.now.items start }
+    ensures { IsSoonest rule result slots.now.items end }
 {
     let mut least = before;
     let mut index = start;
-    while let Some(next) = missing.first(index) {
-        if next >= end {
+    while index < end {
+        let found = missing.first_in_run(index);
+        if found >= end {
             return least;
         }
-        least = sooner(least, slots.get(next).unwrap().due_from(rule));
-        index = next + 1;
+        let moment = slots.get(found).unwrap().due_from(rule);
+        least = Soonest::or(least, moment, found);
+        index = found + 1;
     }
     least
 }

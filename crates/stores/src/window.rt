@@ -132,8 +132,8 @@ pub trait Window: Drop {
     fn next_due(&self, rule: AskRule) -> Option<u64>
         ensures { IsNextDue (meaning self.now) rule.delay rule.retry rule.asks result };
 
-    /// [`next_due`](Window::next_due), for a caller that asks by one rule again and again: a window may keep the answer for as long as
-    /// what is missing stays as it is.
+    /// [`next_due`](Window::next_due), for a caller that asks by one rule again and again: a window may keep what it found, for as long
+    /// as that holds.
     fn seek_due(&mut self, rule: AskRule) -> Option<u64>
         ensures next { IsNextDue (meaning self.old) rule.delay rule.retry rule.asks result }
         ensures same { meaning self.new ≡ meaning self.old }

@@ -1,27 +1,24 @@
-use Rattle.std.proofs.Common.{ℕ, ◌-◌, ◌<◌, ◌≤◌, Bool, length, slice_get, rules, ap, sym, ◌∙◌, arith}
+use Rattle.std.proofs.Common.{◌<◌, ◌≤◌, length, slice_get, rules, ap, sym, ◌∙◌, arith}
 use Rattle.std.specs.Prelude.{IsTrue}
 use Rattle.std.proofs.lemmas.Bool.Decides.{nat_tests}
 use Rattle.std.proofs.lemmas.Option.{slice_get_read}
-use Rattle.stores.specs.Asking.{is_due, has_come}
+use Rattle.stores.specs.Asking.{has_come}
 use Rattle.stores.specs.Low.{word_of}
 use Rattle.stores.proofs.SlotPlaces.{missing_within}
-use Rattle.stores.proofs.DueSlots.{not_due}
-use Rattle.stores.proofs.NextDue.{any_skip, any_bounded}
+use Rattle.stores.proofs.Soonest.{soonest_first, soonest_skip, soonest_pass}
 use Rattle.stores.proofs.ring_window.next_among.Goals as goal
 
+pub loop-next-init : goal.loop-next-init
+loop-next-init c = record { so_far = soonest_first c.args.rule c.args.slots.now.items; within = omega arith }
+
 pub next_within-least-requires-clause-before : goal.next_within-least-requires-clause-before
-next_within-least-requires-clause-before c = λ now fits.
+next_within-least-requires-clause-before c =
     let found = c.in-Some.ensures in
     let next = c.in-Some.next in
-    let index = c.loop-next.index in
     let slots = c.args.slots.now.items in
-    let rule = c.args.rule in
     let room = c.requires.room in
-    let above = found.0 in
     let within = missing_within slots next (sym (c.requires.index next found.1) ∙ found.2) in
-    let f : ℕ → Bool = λ i. is_due now rule.delay rule.retry rule.asks (slice_get slots i) in
-    let skip = any_skip f index (next - index) next (omega arith) (λ p l u. not_due now rule.delay rule.retry rule.asks (slice_get slots p) (sym (c.requires.index p (omega arith)) ∙ found.3 p l u)) in
-    c.loop-next.invariant.so_far now fits ∙ sym skip
+    soonest_skip c.args.rule c.loop-next.least slots c.loop-next.index next (λ p l u. sym (c.requires.index p (omega arith)) ∙ found.3 p l u) c.loop-next.invariant.so_far
 
 pub loop-next-smaller-then-not-is_no_sooner : goal.loop-next-smaller-then-not-is_no_sooner
 loop-next-smaller-then-not-is_no_sooner c =
@@ -55,6 +52,7 @@ loop-next-preserved c =
     let words = c.args.missing.now.words.items in
     let front = c.args.missing.now.front in
     let rule = c.args.rule in
+    let least = c.loop-next.least in
     let room = c.requires.room in
     let above = found.0 in
     let below = found.1 in
@@ -65,30 +63,22 @@ loop-next-preserved c =
     let early : c.min-end.result ≤ length slots = grind (arith, nat_tests) in
     let ends : c.min-end.result ≤ c.run_end.result = grind (arith, nat_tests) in
     let ahead : next < c.min-end.result = grind (arith, nat_tests) in
+    let skip = soonest_skip rule least slots index next (λ p l u. sym (c.requires.index p (omega arith)) ∙ found.3 p l u) c.loop-next.invariant.so_far in
+    let was = slice_get_read lows (length words) c.word_of.result c.index.result.now (sym c.requires.blocks) c.word_of.ensures.within c.index.ensures in
+    let later : IsTrue c.is_no_sooner.result = search rules in
     record {
-      so_far = λ now fits.
-          let f : ℕ → Bool = λ i. is_due now rule.delay rule.retry rule.asks (slice_get slots i) in
-          let skip = any_skip f index (next - index) next (omega arith) (λ p l u. not_due now rule.delay rule.retry rule.asks (slice_get slots p) (sym (c.requires.index p (omega arith)) ∙ found.3 p l u)) in
-          let was = slice_get_read lows (length words) c.word_of.result c.index.result.now (sym c.requires.blocks) c.word_of.ensures.within c.index.ensures in
-          let later : IsTrue c.is_no_sooner.result = search rules in
-          any_bounded f (has_come c.loop-next.least now) next (c.min-end.result - next) c.min-end.result (omega arith)
-          (c.loop-next.invariant.so_far now fits ∙ sym skip)
-          (λ p l u due.
+      so_far = soonest_pass rule least slots next c.min-end.result
+          (λ p now l u fits due.
           let word = ap (λ n. word_of n front p) c.requires.blocks ∙ c.run_end.ensures.run p l (omega arith) ∙ sym c.word_of.ensures.word in
           let low = c.requires.low p c.index.result.now (omega arith) (ap (slice_get lows) word ∙ was) in
-          c.is_no_sooner.ensures later now (c.due_from-soonest.ensures (slice_get slots p) now fits low due));
+          ap (λ m. has_come m now) (sym c.moment_of.ensures) ∙ c.is_no_sooner.ensures later now (c.due_from-soonest.ensures (slice_get slots p) now fits low due))
+          skip;
       within = early;
     }
 
 pub returns : goal.returns
-returns c = λ now fits.
-    let index = c.loop-next.index in
+returns c =
     let slots = c.args.slots.now.items in
-    let rule = c.args.rule in
     let room = c.requires.room in
     let none = c.in_default.ensures in
-    let within = c.loop-next.invariant.within in
-    let f : ℕ → Bool = λ i. is_due now rule.delay rule.retry rule.asks (slice_get slots i) in
-    let skip = any_skip f index (length slots - index) (length slots) (omega arith)
-    (λ p l u. not_due now rule.delay rule.retry rule.asks (slice_get slots p) (sym (c.requires.index p (omega arith)) ∙ none p l (omega arith))) in
-    c.loop-next.invariant.so_far now fits ∙ sym skip
+    soonest_skip c.args.rule c.loop-next.least slots c.loop-next.index (length slots) (λ p l u. sym (c.requires.index p (omega arith)) ∙ none p l (omega arith)) c.loop-next.invariant.so_far

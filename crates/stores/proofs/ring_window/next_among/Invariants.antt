@@ -1,11 +1,11 @@
-use Rattle.std.proofs.Common.{◌≡◌, ℕ, ◌-◌, ◌^◌, ◌<◌, ◌≤◌, length, slice_get}
-use Rattle.stores.specs.Asking.{is_due, has_come, any_below}
+use Rattle.std.proofs.Common.{◌-◌, ◌≤◌, length}
 use Rattle.stores.specs.Bits.{bits_of}
+use Rattle.stores.specs.Kept.{IsSoonest}
 use Rattle.stores.proofs.ring_window.next_among.Given as goal
 
 abbrev pub invariant-loop-next : goal.invariant-loop-next
 invariant-loop-next l = record {
-  so_far : (now : ℕ) → now < 2 ^ 64 → has_come l.least now ≡ any_below (λ i. is_due now l.rule.delay l.rule.retry l.rule.asks (slice_get l.slots.items i)) l.index;
+  so_far : IsSoonest l.rule l.least l.slots.items l.index;
   within : l.index ≤ length l.slots.items;
 }
 

@@ -1,59 +1,45 @@
-use Rattle.std.proofs.Common.{◌≡◌, ℕ, ◌-◌, ◌||◌, Bool, slice_get, Some, rules, ap, sym, ◌∙◌, arith}
-use Rattle.stores.specs.Asking.{is_due, has_come, any_below}
+use Rattle.std.proofs.Common.{◌≡◌, slice_get, Some, rules, ap, sym, ◌∙◌, arith}
+use Rattle.stores.specs.Asking.{is_due}
 use Rattle.stores.specs.Lent.{slot_of}
-use Rattle.stores.proofs.SlotPlaces.{missing_within}
-use Rattle.stores.proofs.DueSlots.{not_due}
-use Rattle.stores.proofs.NextDue.{any_more, any_skip}
+use Rattle.stores.proofs.DueSlots.{lent_within}
+use Rattle.stores.proofs.Soonest.{soonest_skip, soonest_meet}
 use Rattle.stores.proofs.ring_window.next_within.Goals as goal
 
-pub loop-next-preserved : goal.loop-next-preserved
-loop-next-preserved c =
-    let found = c.in-Some.ensures in
-    let above = found.0 in
-    let next = c.in-Some.next in
-    let index = c.loop-next.index in
+pub unwrap-requires : goal.unwrap-requires
+unwrap-requires c =
+    let past = c.if-found-end.false in
+    let ends = c.requires.end in
+    lent_within c.get.result c.args.slots.now.items c.first_in_run-found.result c.get.ensures (omega arith)
+
+pub loop-index-preserved : goal.loop-index-preserved
+loop-index-preserved c =
     let slots = c.args.slots.now.items in
     let rule = c.args.rule in
+    let least = c.loop-index.least in
+    let index = c.loop-index.index in
+    let next = c.first_in_run-found.result in
     let room = c.requires.room in
-    let within = missing_within slots next (sym (c.requires.index next found.1) ∙ found.2) in
+    let ends = c.requires.end in
+    let past = c.if-found-end.false in
     let got : slice_get slots next ≡ Some (slot_of c.unwrap.result) = search rules in
+    let skip = soonest_skip rule least slots index next (λ p l u. sym (c.requires.index p (omega arith)) ∙ c.first_in_run-found.ensures.none p l u) c.loop-index.invariant.so_far in
     record {
-      so_far = λ now fits.
-          let f : ℕ → Bool = λ i. is_due now rule.delay rule.retry rule.asks (slice_get slots i) in
-          let here : f next ≡ is_due now rule.delay rule.retry rule.asks (Some (slot_of c.unwrap.result)) = ap (is_due now rule.delay rule.retry rule.asks) got in
-          let skip = any_skip f index (next - index) next (omega arith) (λ p l u. not_due now rule.delay rule.retry rule.asks (slice_get slots p) (sym (c.requires.index p (omega arith)) ∙ found.3 p l u)) in
-          c.sooner-least.ensures now
-          ∙ ap (λ (b : Bool). b || has_come c.due_from.result now) (c.loop-next.invariant.so_far now fits)
-          ∙ ap (λ (b : Bool). any_below f index || b) (sym (c.due_from.ensures now fits) ∙ sym here)
-          ∙ ap (λ (b : Bool). b || f next) (sym skip)
-          ∙ sym (any_more f next);
+      so_far = soonest_meet rule least c.or-least.result c.due_from-moment.result slots next c.or-least.ensures.sooner c.or-least.ensures.serves
+          (λ now fits. ap (is_due now rule.delay rule.retry rule.asks) got ∙ c.due_from-moment.ensures now fits) skip;
       within = omega arith;
     }
 
-pub returns-then-next-end : goal.returns-then-next-end
-returns-then-next-end c = λ now fits.
-    let index = c.loop-next.index in
+pub returns-then-found-end : goal.returns-then-found-end
+returns-then-found-end c =
     let slots = c.args.slots.now.items in
-    let rule = c.args.rule in
     let room = c.requires.room in
-    let end = c.requires.end in
-    let found = c.in-Some.ensures in
-    let within = c.loop-next.invariant.within in
-    let f : ℕ → Bool = λ i. is_due now rule.delay rule.retry rule.asks (slice_get slots i) in
-    let skip = any_skip f index (c.args.end - index) c.args.end (omega arith)
-    (λ p l u. not_due now rule.delay rule.retry rule.asks (slice_get slots p) (sym (c.requires.index p (omega arith)) ∙ found.3 p l (omega arith))) in
-    c.loop-next.invariant.so_far now fits ∙ sym skip
+    let ends = c.requires.end in
+    let past = c.if-found-end.true in
+    soonest_skip c.args.rule c.loop-index.least slots c.loop-index.index c.args.end (λ p l u. sym (c.requires.index p (omega arith)) ∙ c.first_in_run-found.ensures.none p l (omega arith)) c.loop-index.invariant.so_far
 
 pub returns : goal.returns
-returns c = λ now fits.
-    let index = c.loop-next.index in
-    let slots = c.args.slots.now.items in
-    let rule = c.args.rule in
-    let room = c.requires.room in
-    let end = c.requires.end in
-    let none = c.in_default.ensures in
-    let within = c.loop-next.invariant.within in
-    let f : ℕ → Bool = λ i. is_due now rule.delay rule.retry rule.asks (slice_get slots i) in
-    let skip = any_skip f index (c.args.end - index) c.args.end (omega arith)
-    (λ p l u. not_due now rule.delay rule.retry rule.asks (slice_get slots p) (sym (c.requires.index p (omega arith)) ∙ none p l (omega arith))) in
-    c.loop-next.invariant.so_far now fits ∙ sym skip
+returns c =
+    let more = c.loop-index-test.false in
+    let within = c.loop-index.invariant.within in
+    let all : c.loop-index.index ≡ c.args.end = omega arith in
+    rw (sym all) c.loop-index.invariant.so_far

@@ -1,11 +1,11 @@
-use Rattle.std.proofs.Common.{◌-◌, ◌+◌, ◌^◌, ◌<◌, ◌≤◌, length, List, slice_get, rules, ap, sym, subst}
+use Rattle.std.proofs.Common.{◌-◌, ◌+◌, ◌^◌, ◌<◌, ◌≤◌, length, List, slice_get, rules, ap, sym, subst, ◌∙◌}
 use Rattle.std.specs.Prelude.{IsSomeAnd}
 use Rattle.std.specs.Option.{ForSome}
 use Rattle.circular_buffer.specs.Buffer.{Buffer}
 use Rattle.stores.specs.declared.slot.Slot.{Slot}
 use Rattle.stores.specs.Asking.{CanBeAsked}
 use Rattle.stores.specs.Index.{IsIndex}
-use Rattle.stores.proofs.SlotPlaces.{started_asked}
+use Rattle.stores.proofs.SlotPlaces.{started_asked, asked_long, asked_others}
 use Rattle.stores.proofs.MissingIndex.{index_asked}
 use Rattle.stores.proofs.ring_window.RingWindowWindow.count_ask.Goals as goal
 
@@ -23,3 +23,13 @@ invariant_of-self-clause-index c =
     let can : IsSomeAnd (slice_get before.slots.items index) CanBeAsked = search rules in
     subst (λ (xs : List Slot). IsIndex before.missing.words.items before.missing.front xs) (sym (ap (λ (b : Buffer Slot). b.items) c.count_ask.ensures))
     (index_asked before.missing.words.items before.missing.front before.slots.items index c.args.now can before.index)
+
+pub invariant_of-self-clause-told : goal.invariant_of-self-clause-told
+invariant_of-self-clause-told c =
+    let before = c.args.self.now in
+    let slots = before.slots.items in
+    let index = c.value.result - c.in-Some.cursor in
+    let items = ap (λ (b : Buffer Slot). b.items) c.count_ask.ensures in
+    c.with_change-self.ensures slots (sym (ap length items ∙ asked_long slots index c.args.now (slice_get slots index)))
+    (λ p apart. ap (λ xs. slice_get xs p) items ∙ asked_others slots index c.args.now (slice_get slots index) p apart)
+    before.told

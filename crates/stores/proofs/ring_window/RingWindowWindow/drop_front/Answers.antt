@@ -34,4 +34,4 @@ invariant_of-self-clause-low c =
 
 pub invariant_of-self-clause-told : goal.invariant_of-self-clause-told
 invariant_of-self-clause-told c = λ answer kept.
-    subst (Tells answer) (sym (ap (λ (b : Buffer Slot). b.items) c.drop_first.ensures)) (c.kept_without_front-self.ensures answer kept)
+    subst (Tells answer) (sym (ap (λ (b : Buffer Slot). b.items) c.drop_first.ensures)) (c.without_front-self.ensures c.args.self.now.slots.items c.args.self.now.told answer kept)

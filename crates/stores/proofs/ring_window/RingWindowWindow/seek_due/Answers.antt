@@ -1,8 +1,12 @@
+use Rattle.std.proofs.Common.{◌∙◌, ap}
+use Rattle.stores.specs.Asking.{has_come}
 use Rattle.stores.proofs.NextDue.{next_of_slots}
+use Rattle.stores.proofs.Soonest.{soonest_any}
 use Rattle.stores.proofs.ring_window.RingWindowWindow.seek_due.Goals as goal
 
 pub returns-clause-next : goal.returns-clause-next
 returns-clause-next c =
     let w = c.args.self.now in
     let rule = c.args.rule in
-    next_of_slots w.cursor w.slots.items w.slots.capacity rule.delay rule.retry rule.asks c.soonest-moment.result w.unstarted c.soonest-moment.ensures
+    next_of_slots w.cursor w.slots.items w.slots.capacity rule.delay rule.retry rule.asks c.moment_of.result w.unstarted
+    (λ now fits. ap (λ m. has_come m now) c.moment_of.ensures ∙ soonest_any rule c.soonest-soonest.result w.slots.items c.soonest-soonest.ensures now fits)
