@@ -1,6 +1,7 @@
 -- Asks that a window counts are asks of the receiver.
 use Rattle.std.proofs.Common.{◌≡◌, ◌≢◌, ℕ, zero, suc, nat_lt, nat_le, ◌&&◌, ◌+◌, ◌-◌, ◌*◌, ◌<◌, ◌==◌, ◌||◌, min, Bool, true, false, cond, List, [], ◌∷◌, length, take, get_or, Option, Some, None, IsSomeAnd, IsSome, option_map, refl, sym, ap, subst, ◌∙◌, arith, inl, inr, eqb-true, eq-eqb, ne_eqb, true≢false}
-use Rattle.std.specs.List.{All}
+use Rattle.std.specs.List.{All, filter}
+use Rattle.std.proofs.lemmas.Grind.{common_steps}
 use Rattle.std.proofs.lemmas.Bool.Decides.{nat_tests}
 use Rattle.std.specs.Prelude.{if◌then◌else◌}
 use Rattle.std.specs.List.Sorted.{IsStrictlyIncreasing}
@@ -18,7 +19,7 @@ use Rattle.stores.specs.declared.slot.Slot.TheVariants.{Held, Missing}
 use Rattle.stores.specs.Span.{Span, IsSpan}
 use Rattle.stores.specs.ByPlace.{slot_at, IsInside}
 use Rattle.stores.specs.PlaceLists.{Lists}
-use Rattle.stores.specs.Asking.{CanBeAsked, asked_slot, due_places, missing_places, CountsAsk}
+use Rattle.stores.specs.Asking.{CanBeAsked, asked_slot, places_of, due_places, missing_places, CountsAsk}
 use Rattle.stores.specs.Asking.{is_due as is_due_slot, is_missing as is_missing_slot, is_long_since}
 use Rattle.receiver.specs.Config.{Config}
 use Rattle.receiver.specs.Window.{held_in, missed_in, window_at, window_of}
@@ -82,6 +83,21 @@ module _ (s : Span) (is : IsSpan s) (inside : (q : ℕ) → IsSome (slot_at s q)
   due_askable askable n m i =
       let P : ℕ → Type 0 = λ q. IsSomeAnd (slot_at s q) CanBeAsked in
       All-take P i _ (All-take P m _ (All-take P n _ (λ k d l. askable _ (all_pass _ _ lists k d l))))
+
+-- a list of which nothing passes a test has nothing that passes a stronger one
+filter_none : (f g : ℕ → Bool) → ((q : ℕ) → g q ≡ false → f q ≡ false) → (xs : List ℕ) → length (filter g xs) ≡ 0 → filter f xs ≡ []
+filter_none f g less [] none = refl
+filter_none f g less (x ∷ xs) none = let rest = filter_none f g less xs in let here = less x in grind (arith, common_steps, rest, here)
+
+held_not_due : (now delay retry limit : ℕ) (o : Option Slot) → is_missing_slot o ≡ false → is_due_slot now delay retry limit o ≡ false
+held_not_due now delay retry limit None held = refl
+held_not_due now delay retry limit (Some (Held content)) held = refl
+held_not_due now delay retry limit (Some (Missing noticed asks last)) held = absurd cc
+
+-- where nothing is missing, nothing is due
+pub nothing_due : (s : Span) (now delay retry limit : ℕ) → length (missing_places s) ≡ 0 → due_places s now delay retry limit ≡ []
+nothing_due s now delay retry limit none =
+    filter_none (λ q. is_due_slot now delay retry limit (slot_at s q)) (λ q. is_missing_slot (slot_at s q)) (λ q. held_not_due now delay retry limit (slot_at s q)) (places_of s) none
 
 -- Asks that are counted one after another.
 

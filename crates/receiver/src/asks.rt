@@ -142,12 +142,16 @@ fn ask_due_into<W: Window>(
     Ok(Some(len))
 }
 
-/// Whether no place is due. Most asks end here, before room for the due places is blanked and all that is missing is looked at.
+/// Whether no place is due. Most asks end here, as nothing is missing, or before room for the due places is blanked and all that is
+/// missing is looked at.
 fn asks_nothing<W: Window>(window: &mut W, config: &ReceiverConfig, now: u64) -> bool
     ensures none { IsTrue result → (most : ℕ) (learnt : Option ℕ) → AsksMost config.now (window_of learnt (W.meaning window.old)) now most None (window_of learnt (W.meaning window.old)) }
     ensures same { W.meaning window.new ≡ W.meaning window.old }
 {
     window_by_place();
+    if window.missing() == 0 {
+        return true;
+    }
     match window.seek_due(config.rule()) {
         Some(moment) => now < moment,
         None => true,
