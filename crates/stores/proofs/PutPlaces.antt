@@ -1,11 +1,10 @@
 -- What a put means for the slot of each place.
-use Rattle.std.proofs.Common.{◌≡◌, ℕ, ◌+◌, ◌-◌, ◌<◌, ◌≤◌, ◌==◌, ◌&&◌, List, [], ◌∷◌, ◌++◌, length, drop, replicate, slice_get, slice_set, Option, Some, None, Result, Ok, Err, Bool, true, false, nat_lt, cond, refl, ap, sym, subst, ◌∙◌, arith, ltb-true, ltb-false, length-append, length-drop, length-set}
+use Rattle.std.proofs.Common.{◌≡◌, ℕ, ◌+◌, ◌-◌, ◌<◌, ◌≤◌, ◌==◌, ◌&&◌, List, [], ◌∷◌, ◌++◌, length, drop, replicate, slice_get, slice_set, Option, Some, None, Result, Ok, Err, Bool, true, false, nat_lt, cond, refl, ap, sym, subst, ◌∙◌, arith, ⊎_elim, ltb-true, ltb-false, length-append, length-drop, length-set}
 use Rattle.std.specs.Prelude.{OnOk, OnErr, if◌then◌else◌}
 use Rattle.std.proofs.lemmas.List.{length-replicate}
 use Rattle.std.proofs.lemmas.Bool.{cond_both}
 use Rattle.std.proofs.lemmas.Bool.Decides.{nat_tests}
-use Rattle.std.proofs.lemmas.Option.{slice_get_past, slice_get_within}
-use Rattle.circular_buffer.proofs.Places.{slice_get-some}
+use Rattle.std.proofs.lemmas.Option.{slice_get_past, slice_get_within, slice_get_cases}
 use Rattle.rtpwire.specs.declared.content.Content.{Content}
 use Rattle.stores.specs.declared.slot.Slot.{Slot}
 use Rattle.stores.specs.declared.slot.Slot.TheVariants.{Held, Missing}
@@ -183,7 +182,11 @@ answer_held cursor slots capacity k p index started at within held =
     rw (started, least, here) (of_slot (slice_get slots index) refl held)
   where
     of_slot : (o : Option Slot) → slice_get slots index ≡ o → is_missing o ≡ false → Err Duplicate ≡ answer_at o (overrun_of capacity k p)
-    of_slot None e held = let some = slice_get-some slots index within in let other : None ≡ Some some.0 = sym e ∙ some.1 in absurd cc
+    of_slot None e held =
+        ⊎_elim
+        (λ some. let other : None ≡ Some some.0 = sym e ∙ some.2 in absurd cc)
+        (λ past. let out = past.0 in absurd (omega arith))
+        (slice_get_cases slots index).1
     of_slot (Some (Held content)) e held = refl
     of_slot (Some (Missing noticed asks last)) e held = absurd cc
 
