@@ -152,10 +152,7 @@ fn asks_nothing<W: Window>(window: &mut W, config: &ReceiverConfig, now: u64) ->
     if window.missing() == 0 {
         return true;
     }
-    match window.seek_due(config.rule()) {
-        Some(moment) => now < moment,
-        None => true,
-    }
+    window.has_none_due(now, config.rule())
 }
 
 /// Finds the due places of a window, at most so many and as many as one ask looks at, and packs them: the pairs, and how many

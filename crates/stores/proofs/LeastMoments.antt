@@ -22,18 +22,21 @@ or_other : (a b c : Bool) → c ≡ (a || b) → b ≡ true → c ≡ true
 or_other a b c e is = grind (arith, nat_tests)
 
 -- a slot that is due is so from the sooner of both moments on
-pub due_low : (low : Low) (slot : Option Slot) (delay retry limit now : ℕ) (first again moment : Bool) → moment ≡ (first || again) →
+pub due_low : (low : Low) (slot : Option Slot) (delay retry limit now : ℕ) (first again moment : Bool) → limit ≤ low.asks → moment ≡ (first || again) →
     ((noticed last : ℕ) → has_come low.noticed noticed ≡ true → is_time now delay retry noticed 0 last ≡ true → first ≡ true) →
     ((noticed asks last : ℕ) → 0 < asks → has_come low.last last ≡ true → is_time now delay retry noticed asks last ≡ true → again ≡ true) →
     IsLow low slot → is_due now delay retry limit slot ≡ true → moment ≡ true
-due_low low None delay retry limit now first again moment e one other is due = absurd cc
-due_low low (Some (Held content)) delay retry limit now first again moment e one other is due = absurd cc
-due_low low (Some (Missing noticed zero last)) delay retry limit now first again moment e one other is due =
+due_low low None delay retry limit now first again moment few e one other is due = absurd cc
+due_low low (Some (Held content)) delay retry limit now first again moment few e one other is due = absurd cc
+due_low low (Some (Missing noticed zero last)) delay retry limit now first again moment few e one other is due =
     let time : is_time now delay retry noticed 0 last ≡ true = grind (arith, nat_tests, due) in
-    either first again moment e (one noticed last is time)
-due_low low (Some (Missing noticed (suc asks) last)) delay retry limit now first again moment e one other is due =
+    let within : 0 < low.asks = grind (arith, nat_tests, due, few) in
+    let come : has_come low.noticed noticed ≡ true = grind (arith, nat_tests, is, within) in
+    either first again moment e (one noticed last come time)
+due_low low (Some (Missing noticed (suc asks) last)) delay retry limit now first again moment few e one other is due =
     let time : is_time now delay retry noticed (suc asks) last ≡ true = grind (arith, nat_tests, due) in
-    let come : has_come low.last last ≡ true = grind (arith, nat_tests, is) in
+    let within : suc asks < low.asks = grind (arith, nat_tests, due, few) in
+    let come : has_come low.last last ≡ true = grind (arith, nat_tests, is, within) in
     or_other first again moment e (other noticed (suc asks) last (omega arith) come time)
 
 low_of_held : (low : Low) (slot : Option Slot) → is_missing slot ≡ false → IsLow low slot
@@ -95,6 +98,9 @@ asked_now slots i now can = asked_of (slice_get slots i) refl can where
       let got = slice_get-set_same slots i (Missing noticed (asks + 1) now) within in
       subst (λ (o : Option Slot). IsSomeAnd o (WasAskedAt now)) (sym got) (omega arith, refl)
 
+low_just_noticed : (low : Low) (now : ℕ) → has_come low.noticed now ≡ true → IsLow low (Some (noticed_at now))
+low_just_noticed low now come = grind (arith, nat_tests, come)
+
 -- missing slots came, and each has the least moment of its word
 pub low_adds : (lows : List Low) (front count now : ℕ) (slots : List Slot) → AreLow lows front slots →
     ((p : ℕ) → (low : Low) → length slots ≤ p → p < length slots + count → slice_get lows (word_of (length lows) front p) ≡ Some low → has_come low.noticed now ≡ true) →
@@ -106,7 +112,7 @@ low_adds lows front count now slots is more p low below at =
     (λ (within : p < length slots). subst (IsLow low) (sym (slice_get-append_left slots (replicate count (noticed_at now)) p within)) (is p low within at))
     (λ above.
     let got = slice_get-append_right slots (replicate count (noticed_at now)) p (p - length slots) (omega (arith, above)) ∙ slice_get-replicate count (noticed_at now) (p - length slots) (omega (arith, above)) in
-    subst (IsLow low) (sym got) (more p low (omega (arith, above)) (omega arith) at))
+    subst (IsLow low) (sym got) (low_just_noticed low now (more p low (omega (arith, above)) (omega arith) at)))
     (cases_lt p (length slots))
 
 -- a word's least moments became other ones, which are least for each of its slots

@@ -1,15 +1,15 @@
 -- The least moments of blocks of slots, by which a walk passes over those where no place can be due so soon.
-use Rattle.std.specs.Prelude.{◌≡◌, ◌≢◌, ℕ, ◌*◌, ◌/◌, ◌<◌, ◌==◌, Bool, true, List, length, slice_get, Option, Some, None, if◌then◌else◌}
+use Rattle.std.specs.Prelude.{◌≡◌, ◌≢◌, ℕ, ◌*◌, ◌/◌, ◌<◌, ◌==◌, Bool, true, List, length, slice_get, Option, Some, None, if◌then◌else◌, nat_lt}
 use Rattle.stores.specs.declared.low.Low.{Low}
 use Rattle.stores.specs.declared.slot.Slot.{Slot}
 use Rattle.stores.specs.declared.slot.Slot.TheVariants.{Held, Missing}
 use Rattle.stores.specs.Asking.{has_come}
 use Rattle.stores.specs.Bits.{turned}
 
--- These are least moments for a slot: where it is missing, it was noticed by then or later, and once it was asked for the last ask
--- was by then or later.
+-- These are least moments for a slot: where it is missing and was asked for fewer times than they are for, it was noticed by then or
+-- later, and once it was asked for the last ask was by then or later.
 abbrev pub is_low : Low → Option Slot → Bool
-is_low low (Some (Missing noticed asks last)) = if asks == 0 then has_come low.noticed noticed else has_come low.last last
+is_low low (Some (Missing noticed asks last)) = if nat_lt asks low.asks then (if asks == 0 then has_come low.noticed noticed else has_come low.last last) else true
 is_low low (Some (Held content)) = true
 is_low low None = true
 

@@ -8,14 +8,16 @@ ghost use Rattle.stores.specs.Low.{IsLow};
 use crate::ask_rule::{AskRule, sooner, time_from};
 use crate::slot::SlotRef;
 
-/// From when on places of a block may be due, by bounds: each was noticed or asked for at these moments or later. They may lie lower
-/// than they have to, which costs a walk over the block and nothing else.
+/// From when on places of a block may be due, by bounds: each that was asked for fewer than `asks` times was noticed or asked for at
+/// these moments or later. They may lie lower than they have to, which costs a walk over the block and nothing else.
 #[derive(Clone, Copy, Debug, PartialEq, Eq)]
 pub struct Low {
     /// A missing place that was not asked for was noticed at this moment or later. None: there is no such place.
     pub noticed: Option<u64>,
     /// One that was asked for was so, last, at this moment or later. None: there is no such place.
     pub last: Option<u64>,
+    /// Which places the bounds are of: those that were asked for fewer times.
+    pub asks: u8,
 }
 
 impl Low {
@@ -23,6 +25,7 @@ impl Low {
     pub const NONE: Low = Low {
         noticed: None,
         last: None,
+        asks: u8::MAX,
     };
 
     /// A place of the block is missing from this moment on.
@@ -52,6 +55,9 @@ impl Low {
             last,
         } = slot
         {
+            if asks >= self.asks {
+                return;
+            }
             if asks == 0 {
                 self.notice(noticed);
             } else {
@@ -64,6 +70,9 @@ impl Low {
     pub fn due_from(&self, rule: AskRule) -> Option<u64>
         ensures { (slot : Option Slot) (now : ℕ) → now < 2 ^ 64 → IsLow self.now slot → is_due now rule.delay rule.retry rule.asks slot ≡ true → has_come result now ≡ true }
     {
+        if rule.asks > self.asks {
+            return Some(0);
+        }
         sooner(first_from(self.noticed, rule), again_from(self.last, rule))
     }
 }

@@ -46,8 +46,16 @@ fn noticed(slots: &Slots, missing: &Bits, low: Low, word: usize, now: u64) -> Lo
 }
 
 /// Makes the least moments those of the blocks once the place at this index was asked for, which the slots tell already. Where no
-/// place behind it in its block is missing, as most asks go through a block from its first one on, the block's are found anew.
-pub fn note_ask(slots: &Slots, missing: &Bits, lows: &mut Vec<Low>, index: usize, now: u64)
+/// place behind it in its block is missing, as most asks go through a block from its first one on, the block's are found anew: those
+/// of the places that were asked for fewer than `asks` times.
+pub fn note_ask(
+    slots: &Slots,
+    missing: &Bits,
+    lows: &mut Vec<Low>,
+    index: usize,
+    now: u64,
+    asks: u8,
+)
     requires within { index < length slots.now.items }
     requires room { length slots.now.items < bits_of missing.now.words.items }
     requires index { IsSetOf is_missing missing.now.words.items missing.now.front slots.now.items }
@@ -59,11 +67,11 @@ pub fn note_ask(slots: &Slots, missing: &Bits, lows: &mut Vec<Low>, index: usize
 {
     let word = missing.word_of(index);
     lows[word].ask(now);
-    renew(slots, missing, lows, index);
+    renew(slots, missing, lows, index, asks);
 }
 
 /// Finds the least moments of this index's block anew, where no place behind it in the block is missing. It looks at one block.
-fn renew(slots: &Slots, missing: &Bits, lows: &mut Vec<Low>, index: usize)
+fn renew(slots: &Slots, missing: &Bits, lows: &mut Vec<Low>, index: usize, asks: u8)
     requires within { index < length slots.now.items }
     requires room { length slots.now.items < bits_of missing.now.words.items }
     requires index { IsSetOf is_missing missing.now.words.items missing.now.front slots.now.items }
@@ -80,18 +88,22 @@ fn renew(slots: &Slots, missing: &Bits, lows: &mut Vec<Low>, index: usize)
         return;
     }
     let word = missing.word_of(index);
-    lows[word] = low_of(slots, missing, start, end);
+    lows[word] = low_of(slots, missing, start, end, asks);
 }
 
-/// The least moments of the missing places from one index up to below an end.
-fn low_of(slots: &Slots, missing: &Bits, start: usize, end: usize) -> Low
+/// The least moments of the missing places from one index up to below an end that were asked for fewer than so many times.
+fn low_of(slots: &Slots, missing: &Bits, start: usize, end: usize, asks: u8) -> Low
     requires start { start ≤ length slots.now.items }
     requires end { end ≤ length slots.now.items }
     requires room { length slots.now.items < bits_of missing.now.words.items }
     requires index { IsSetOf is_missing missing.now.words.items missing.now.front slots.now.items }
     ensures { (p : ℕ) → start ≤ p → p < end → IsLow result (slice_get slots.now.items p) }
 {
-    let mut low = Low::NONE;
+    let mut low = Low {
+        noticed: None,
+        last: None,
+        asks,
+    };
     let mut index = start;
     while index < end {
         let next = missing.first_in_run(index);

@@ -1,13 +1,13 @@
-ghost use Rattle.std.specs.Prelude.{◌≡◌, ◌+◌, ◌/◌, ◌^◌, ◌<◌, ◌≤◌, ◌++◌, length, take, drop, replicate};
+ghost use Rattle.std.specs.Prelude.{◌≡◌, ◌+◌, ◌/◌, ◌^◌, ◌<◌, ◌≤◌, ◌++◌, length, take, drop, replicate, true, false, IsTrue, IsSomeAnd};
 ghost use Rattle.std.specs.List.{filter, range_with_len};
 ghost use Rattle.std.specs.Option.{ForSome, ForNone};
 ghost use Rattle.stores.specs.Put.{noticed_at};
 ghost use Rattle.stores.specs.ByPlace.{slot_from};
-ghost use Rattle.stores.specs.Asking.{longest_ask, is_due, is_missing};
+ghost use Rattle.stores.specs.Asking.{longest_ask, is_due, is_missing, has_come};
 ghost use Rattle.stores.specs.Bits.{bits_of, IsSetOf};
 ghost use Rattle.stores.specs.Index.{IsIndex};
 ghost use Rattle.stores.specs.Due.{due_rest};
-ghost use Rattle.stores.specs.Kept.{IsSoonest, Tells};
+ghost use Rattle.stores.specs.Kept.{IsSoonest, Tells, moment_of};
 ghost use Rattle.stores.specs.Low.{AreLow};
 
 use crate::answer::{Answer, Soonest, moment_of};
@@ -40,6 +40,8 @@ pub struct RingWindow {
     lows: Vec<Low>,
     // What was found last of when a place is due, for as long as that can be told to hold.
     kept: Option<Answer>,
+    // How often the last rule lets a place be asked for: the least moments that are found anew are of no others.
+    asks: u8,
     ghost room: { length slots.items ≤ slots.capacity },
     ghost nonzero: { 0 < slots.capacity },
     ghost limit: { slots.capacity ≤ 8192 },
@@ -54,16 +56,17 @@ pub struct RingWindow {
 }
 
 impl RingWindow {
-    /// The least moment from which on a slot is due by this rule, and such a slot: what is kept, if it is by the same rule.
-    fn soonest(&self, rule: AskRule) -> Option<Soonest>
-        ensures { IsSoonest rule result self.now.slots.items (length self.now.slots.items) }
+    /// The least moment from which on a slot is due by this rule, and such a slot: what is kept, if it is by the same rule. Where a slot
+    /// is due at the moment that is enough, it may be any such slot, with its moment.
+    fn soonest(&self, rule: AskRule, enough: Option<u64>) -> Option<Soonest>
+        ensures { ForSome enough (λ now. has_come (moment_of result) now ≡ false) → IsSoonest rule result self.now.slots.items (length self.now.slots.items) }
     {
         if let Some(answer) = self.kept {
             if answer.rule == rule {
                 return answer.soonest;
             }
         }
-        next_among(&self.slots, &self.missing, &self.lows, rule)
+        next_among(&self.slots, &self.missing, &self.lows, rule, enough)
     }
 }
 
@@ -85,6 +88,7 @@ impl Window for RingWindow {
             missing,
             lows,
             kept: None,
+            asks: u8::MAX,
         })
     }
 
@@ -192,13 +196,17 @@ impl Window for RingWindow {
     }
 
     fn next_due(&self, rule: AskRule) -> Option<u64> {
-        moment_of(self.soonest(rule))
+        moment_of(self.soonest(rule, None))
     }
 
-    fn seek_due(&mut self, rule: AskRule) -> Option<u64> {
-        let soonest = self.soonest(rule);
+    fn has_none_due(&mut self, now: u64, rule: AskRule) -> bool {
+        self.asks = rule.asks;
+        let soonest = self.soonest(rule, Some(now));
+        if has_come(moment_of(soonest), now) {
+            return false;
+        }
         self.kept = Some(Answer { rule, soonest });
-        moment_of(soonest)
+        true
     }
 
     fn count_ask(&mut self, place: Place, now: u64) {
@@ -208,7 +216,14 @@ impl Window for RingWindow {
         let index = (place.value() - cursor) as usize;
         self.slots.count_ask(index, now);
         self.kept = with_change(self.kept, &self.slots, index);
-        note_ask(&self.slots, &self.missing, &mut self.lows, index, now);
+        note_ask(
+            &self.slots,
+            &self.missing,
+            &mut self.lows,
+            index,
+            now,
+            self.asks,
+        );
     }
 
     fn missing(&self) -> usize {
@@ -336,13 +351,20 @@ fn due_of_run(
     index
 }
 
-/// The least moment from which on one of these slots is due, and such a slot. It looks at no block whose places come no sooner.
-fn next_among(slots: &Slots, missing: &Bits, lows: &Vec<Low>, rule: AskRule) -> Option<Soonest>
+/// The least moment from which on one of these slots is due, and such a slot. It looks at no block whose places come no sooner, and at no
+/// further one once a slot was found that is due at the moment that is enough.
+fn next_among(
+    slots: &Slots,
+    missing: &Bits,
+    lows: &Vec<Low>,
+    rule: AskRule,
+    enough: Option<u64>,
+) -> Option<Soonest>
     requires room { length slots.now.items < bits_of missing.now.words.items }
     requires index { IsSetOf is_missing missing.now.words.items missing.now.front slots.now.items }
     requires blocks { length lows.now.items ≡ length missing.now.words.items }
     requires low { AreLow lows.now.items missing.now.front slots.now.items }
-    ensures { IsSoonest rule result slots.now.items (length slots.now.items) }
+    ensures { ForSome enough (λ now. has_come (moment_of result) now ≡ false) → IsSoonest rule result slots.now.items (length slots.now.items) }
 {
     let mut least = None;
     let mut index = 0;
@@ -351,10 +373,23 @@ fn next_among(slots: &Slots, missing: &Bits, lows: &Vec<Low>, rule: AskRule) -> 
         let soonest = lows[missing.word_of(next)].due_from(rule);
         if !is_no_sooner(soonest, moment_of(least)) {
             least = next_within(least, slots, missing, next, end, rule);
+            if is_enough(least, enough) {
+                return least;
+            }
         }
         index = end;
     }
     least
+}
+
+/// Whether what was found has come at the moment that is enough, if there is one.
+fn is_enough(found: Option<Soonest>, enough: Option<u64>) -> bool
+    ensures { IsTrue result → IsSomeAnd enough (λ now. has_come (moment_of found) now ≡ true) }
+{
+    match enough {
+        Some(now) => has_come(moment_of(found), now),
+        None => false,
+    }
 }
 
 /// The least moment from which on one of the slots up to an end is due, and such a slot, where those before a start have this one.

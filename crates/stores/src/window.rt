@@ -1,4 +1,4 @@
-ghost use Rattle.std.specs.Prelude.{◌≡◌, ◌↔◌, ◌<◌, ◌≤◌, length, take, None, IfOk, IsSome, IsSomeAnd, IsTrue, OnOk, OnErr, if◌then◌else◌};
+ghost use Rattle.std.specs.Prelude.{◌≡◌, ◌↔◌, ◌<◌, ◌≤◌, [], length, take, None, IfOk, IsSome, IsSomeAnd, IsTrue, OnOk, OnErr, if◌then◌else◌};
 ghost use Rattle.std.specs.Option.{option_map};
 ghost use Rattle.stores.specs.Lent.{slot_of};
 ghost use Rattle.stores.specs.Span.{Span, IsSpan, empty_span, begun_span, highest_of, front_of, without_front};
@@ -132,13 +132,13 @@ pub trait Window: Drop {
     fn next_due(&self, rule: AskRule) -> Option<u64>
         ensures { IsNextDue (meaning self.now) rule.delay rule.retry rule.asks result };
 
-    /// [`next_due`](Window::next_due), for a caller that asks by one rule again and again: a window may keep what it found, for as long
-    /// as that holds.
-    fn seek_due(&mut self, rule: AskRule) -> Option<u64>
-        ensures next { IsNextDue (meaning self.old) rule.delay rule.retry rule.asks result }
+    /// Whether it is plain that no place is due at the moment `now` by the rule; false tells nothing. It is for a caller that asks by one
+    /// rule again and again, before it calls [`due_into`](Window::due_into): a window may keep what it found, for as long as that holds.
+    fn has_none_due(&mut self, now: u64, rule: AskRule) -> bool
+        ensures none { IsTrue result → due_places (meaning self.old) now rule.delay rule.retry rule.asks ≡ [] }
         ensures same { meaning self.new ≡ meaning self.old }
     {
-        self.next_due(rule)
+        false
     }
 
     /// Counts one more ask for this place, made at the moment `now`. The place must be missing, and asked for

@@ -1,7 +1,6 @@
-use Rattle.std.proofs.Common.{◌≡◌, ℕ, false, Option, Some, take, ltb-true, ap, sym, subst, ◌∙◌, arith}
-use Rattle.std.proofs.lemmas.Bool.Decides.{nat_tests}
+use Rattle.std.proofs.Common.{◌≡◌, [], take, ap, sym, subst, ◌∙◌}
 use Rattle.stores.specs.declared.ask_rule.AskRule.{AskRule}
-use Rattle.stores.specs.Asking.{IsNextDue, has_come}
+use Rattle.stores.specs.Asking.{due_places}
 use Rattle.receiver.specs.Asks.{looked_at}
 use Rattle.receiver.proofs.Asking.{asks_none, nothing_due, take_none}
 use Rattle.receiver.proofs.asks.asks_nothing.Goals as goal
@@ -15,24 +14,10 @@ returns-then-missing-eq0-clause-none g c = λ _ most learnt.
     asks_none s.slots s.capacity config c.args.now most learnt s.cursor (c.window_by_place.ensures.due s c.args.now config.delay config.retry config.asks)
     (ap (take (looked_at most)) (nothing_due s c.args.now config.delay config.retry config.asks (sym c.missing.ensures ∙ nothing)) ∙ take_none (looked_at most))
 
-pub returns-in-Some-clause-none : goal.returns-in-Some-clause-none
-returns-in-Some-clause-none g c = λ sooner most learnt.
+pub returns-clause-none : goal.returns-clause-none
+returns-clause-none g c = λ none most learnt.
     let s = g.W.Window.meaning c.args.window.now in
     let config = c.args.config.now in
-    let moment = c.seek_due.result in
-    let next : IsNextDue s config.delay config.retry config.asks moment = subst (λ (r : AskRule). IsNextDue s r.delay r.retry r.asks moment) c.rule.ensures.value c.seek_due.ensures.next in
-    let below = ltb-true c.args.now c.in-Some.moment sooner in
-    let later : has_come (Some c.in-Some.moment) c.args.now ≡ false = grind (arith, nat_tests, below) in
-    let never = ap (λ (m : Option ℕ). has_come m c.args.now) c.in-Some.is ∙ later in
+    let by_rule : due_places s c.args.now config.delay config.retry config.asks ≡ [] = subst (λ (r : AskRule). due_places s c.args.now r.delay r.retry r.asks ≡ []) c.rule.ensures.value (c.has_none_due.ensures.none none) in
     asks_none s.slots s.capacity config c.args.now most learnt s.cursor (c.window_by_place.ensures.due s c.args.now config.delay config.retry config.asks)
-    (ap (take (looked_at most)) ((next c.args.now c.ranges.now.fits).1 never) ∙ take_none (looked_at most))
-
-pub returns-in-None-clause-none : goal.returns-in-None-clause-none
-returns-in-None-clause-none g c = λ _ most learnt.
-    let s = g.W.Window.meaning c.args.window.now in
-    let config = c.args.config.now in
-    let moment = c.seek_due.result in
-    let next : IsNextDue s config.delay config.retry config.asks moment = subst (λ (r : AskRule). IsNextDue s r.delay r.retry r.asks moment) c.rule.ensures.value c.seek_due.ensures.next in
-    let never = ap (λ (m : Option ℕ). has_come m c.args.now) c.in-None.is in
-    asks_none s.slots s.capacity config c.args.now most learnt s.cursor (c.window_by_place.ensures.due s c.args.now config.delay config.retry config.asks)
-    (ap (take (looked_at most)) ((next c.args.now c.ranges.now.fits).1 never) ∙ take_none (looked_at most))
+    (ap (take (looked_at most)) by_rule ∙ take_none (looked_at most))
