@@ -154,6 +154,13 @@ impl Bits {
         self.words[word] == 0
     }
 
+    /// Whether more than half of the bits of this position's word are set, for a choice between two walks.
+    pub fn is_dense(&self, position: usize) -> bool
+        requires { position < bits_of self.now.words.items }
+    {
+        self.words[self.word_of(position)].count_ones() > 32
+    }
+
     /// The end of the positions from this one on whose bits are in its word.
     pub fn run_end(&self, position: usize) -> usize
         requires { position < bits_of self.now.words.items }

@@ -24,6 +24,7 @@ mod ring_window;
 mod slot;
 mod slots;
 mod spot;
+mod walks;
 mod window;
 
 pub use ask_rule::{AskRule, sooner};

@@ -5,8 +5,9 @@ ghost use Rattle.stores.specs.Bits.{bits_of, IsSetOf};
 ghost use Rattle.stores.specs.Low.{AreLow, AreLowBut, IsLow, WasAskedAt, word_of};
 ghost use Rattle.stores.specs.Put.{noticed_at};
 
+use crate::ask_rule::AskRule;
 use crate::bits::Bits;
-use crate::low::Low;
+use crate::low::{Low, is_no_sooner};
 use crate::slots::Slots;
 
 /// Makes the least moments those of the blocks once so many places more are missing, from this moment on, behind all slots.
@@ -45,20 +46,10 @@ fn noticed(slots: &Slots, missing: &Bits, low: Low, word: usize, now: u64) -> Lo
     low
 }
 
-/// Makes the least moments those of the blocks once the place at this index was asked for, which the slots tell already. Where no
-/// place behind it in its block is missing, as most asks go through a block from its first one on, the block's are found anew: those
-/// of the places that were asked for fewer than `asks` times.
-pub fn note_ask(
-    slots: &Slots,
-    missing: &Bits,
-    lows: &mut Vec<Low>,
-    index: usize,
-    now: u64,
-    asks: u8,
-)
+/// Makes the least moments those of the blocks once the place at this index was asked for, which the slots tell already.
+pub fn note_ask(slots: &Slots, missing: &Bits, lows: &mut Vec<Low>, index: usize, now: u64)
     requires within { index < length slots.now.items }
     requires room { length slots.now.items < bits_of missing.now.words.items }
-    requires index { IsSetOf is_missing missing.now.words.items missing.now.front slots.now.items }
     requires blocks { length lows.old.items ≡ length missing.now.words.items }
     requires asked { IsSomeAnd (slice_get slots.now.items index) (WasAskedAt now) }
     requires others { AreLowBut index lows.old.items missing.now.front slots.now.items }
@@ -67,10 +58,40 @@ pub fn note_ask(
 {
     let word = missing.word_of(index);
     lows[word].ask(now);
-    renew(slots, missing, lows, index, asks);
 }
 
-/// Finds the least moments of this index's block anew, where no place behind it in the block is missing. It looks at one block.
+/// Finds anew the least moments of the blocks below an end, where by their bounds a place might be due sooner than at this moment.
+pub fn renew_below(
+    slots: &Slots,
+    missing: &Bits,
+    lows: &mut Vec<Low>,
+    end: usize,
+    rule: AskRule,
+    moment: Option<u64>,
+)
+    requires end { end ≤ length slots.now.items }
+    requires room { length slots.now.items < bits_of missing.now.words.items }
+    requires index { IsSetOf is_missing missing.now.words.items missing.now.front slots.now.items }
+    requires blocks { length lows.old.items ≡ length missing.now.words.items }
+    requires low { AreLow lows.old.items missing.now.front slots.now.items }
+    ensures blocks { length lows.new.items ≡ length lows.old.items }
+    ensures low { AreLow lows.new.items missing.now.front slots.now.items }
+{
+    let mut index = 0;
+    while let Some(next) = missing.first(index) {
+        let after = missing.run_end(next);
+        if after.min(slots.len()) > end {
+            return;
+        }
+        let low = lows[missing.word_of(next)];
+        if !is_no_sooner(low.due_from(rule), moment) {
+            renew(slots, missing, lows, next, rule.asks);
+        }
+        index = after;
+    }
+}
+
+/// Finds the least moments of this index's block anew, of the places that were asked for fewer than so many times.
 fn renew(slots: &Slots, missing: &Bits, lows: &mut Vec<Low>, index: usize, asks: u8)
     requires within { index < length slots.now.items }
     requires room { length slots.now.items < bits_of missing.now.words.items }
@@ -84,9 +105,6 @@ fn renew(slots: &Slots, missing: &Bits, lows: &mut Vec<Low>, index: usize, asks:
         return;
     };
     let end = slots.len().min(start + 64);
-    if index + 1 < end && missing.first_in_run(index + 1) < end {
-        return;
-    }
     let word = missing.word_of(index);
     lows[word] = low_of(slots, missing, start, end, asks);
 }

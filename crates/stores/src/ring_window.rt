@@ -1,25 +1,22 @@
-ghost use Rattle.std.specs.Prelude.{◌≡◌, ◌+◌, ◌/◌, ◌^◌, ◌<◌, ◌≤◌, ◌++◌, length, take, drop, replicate, true, false, IsTrue, IsSomeAnd};
-ghost use Rattle.std.specs.List.{filter, range_with_len};
+ghost use Rattle.std.specs.Prelude.{◌≡◌, ◌+◌, ◌/◌, ◌^◌, ◌<◌, ◌≤◌, ◌++◌, length, drop, replicate};
 ghost use Rattle.std.specs.Option.{ForSome, ForNone};
 ghost use Rattle.stores.specs.Put.{noticed_at};
-ghost use Rattle.stores.specs.ByPlace.{slot_from};
-ghost use Rattle.stores.specs.Asking.{longest_ask, is_due, is_missing, has_come};
-ghost use Rattle.stores.specs.Bits.{bits_of, IsSetOf};
+ghost use Rattle.stores.specs.Bits.{bits_of};
 ghost use Rattle.stores.specs.Index.{IsIndex};
-ghost use Rattle.stores.specs.Due.{due_rest};
-ghost use Rattle.stores.specs.Kept.{IsSoonest, Tells, moment_of};
+ghost use Rattle.stores.specs.Kept.{IsSoonest, Tells};
 ghost use Rattle.stores.specs.Low.{AreLow};
 
 use crate::answer::{Answer, Soonest, moment_of};
 use crate::ask_rule::AskRule;
 use crate::bits::Bits;
-use crate::kept::{beside, with_change, with_jump, without_front};
-use crate::low::{Low, has_come, is_no_sooner};
-use crate::lows::{note_ask, note_missing};
+use crate::kept::{beside, note_change, with_change, with_jump, without_front};
+use crate::low::{Low, has_come};
+use crate::lows::{note_ask, note_missing, renew_below};
 use crate::memory::OutOfMemory;
 use crate::slot::{PutFault, Slot, SlotRef};
 use crate::slots::Slots;
 use crate::spot::{Spot, spot_of};
+use crate::walks::{due_among, looked_below, next_among};
 use crate::window::{LONGEST_ASK, Window};
 use arrayvec::ArrayVec;
 use places::Place;
@@ -40,8 +37,6 @@ pub struct RingWindow {
     lows: Vec<Low>,
     // What was found last of when a place is due, for as long as that can be told to hold.
     kept: Option<Answer>,
-    // How often the last rule lets a place be asked for: the least moments that are found anew are of no others.
-    asks: u8,
     ghost room: { length slots.items ≤ slots.capacity },
     ghost nonzero: { 0 < slots.capacity },
     ghost limit: { slots.capacity ≤ 8192 },
@@ -56,17 +51,27 @@ pub struct RingWindow {
 }
 
 impl RingWindow {
-    /// The least moment from which on a slot is due by this rule, and such a slot: what is kept, if it is by the same rule. Where a slot
-    /// is due at the moment that is enough, it may be any such slot, with its moment.
-    fn soonest(&self, rule: AskRule, enough: Option<u64>) -> Option<Soonest>
-        ensures { ForSome enough (λ now. has_come (moment_of result) now ≡ false) → IsSoonest rule result self.now.slots.items (length self.now.slots.items) }
+    /// What is kept, if it is by this rule.
+    fn kept_by(&self, rule: AskRule) -> Option<Answer>
+        ensures rule { ForSome result (λ answer. answer.rule ≡ rule) }
+        ensures told { ForSome result (λ answer. Tells answer self.now.slots.items) }
     {
-        if let Some(answer) = self.kept {
-            if answer.rule == rule {
-                return answer.soonest;
-            }
+        let answer = self.kept?;
+        if answer.rule == rule {
+            Some(answer)
+        } else {
+            None
         }
-        next_among(&self.slots, &self.missing, &self.lows, rule, enough)
+    }
+
+    /// The least moment from which on a slot is due by this rule, and such a slot.
+    fn soonest(&self, rule: AskRule) -> Option<Soonest>
+        ensures { IsSoonest rule result self.now.slots.items (length self.now.slots.items) }
+    {
+        match self.kept_by(rule) {
+            Some(answer) => answer.soonest,
+            None => next_among(&self.slots, &self.missing, &self.lows, rule, None),
+        }
     }
 }
 
@@ -88,7 +93,6 @@ impl Window for RingWindow {
             missing,
             lows,
             kept: None,
-            asks: u8::MAX,
         })
     }
 
@@ -196,15 +200,38 @@ impl Window for RingWindow {
     }
 
     fn next_due(&self, rule: AskRule) -> Option<u64> {
-        moment_of(self.soonest(rule, None))
+        moment_of(self.soonest(rule))
     }
 
     fn has_none_due(&mut self, now: u64, rule: AskRule) -> bool {
-        self.asks = rule.asks;
-        let soonest = self.soonest(rule, Some(now));
-        if has_come(moment_of(soonest), now) {
+        if let Some(answer) = self.kept_by(rule) {
+            return !has_come(moment_of(answer.soonest), now);
+        }
+        let soonest = next_among(&self.slots, &self.missing, &self.lows, rule, Some(now));
+        let moment = moment_of(soonest);
+        if has_come(moment, now) {
+            // What lies below the slot that is due was looked at in vain.
+            let below = looked_below(soonest, self.slots.len());
+            let later = Some(now.saturating_add(1));
+            renew_below(
+                &self.slots,
+                &self.missing,
+                &mut self.lows,
+                below,
+                rule,
+                later,
+            );
             return false;
         }
+        let all = self.slots.len();
+        renew_below(
+            &self.slots,
+            &self.missing,
+            &mut self.lows,
+            all,
+            rule,
+            moment,
+        );
         self.kept = Some(Answer { rule, soonest });
         true
     }
@@ -215,15 +242,8 @@ impl Window for RingWindow {
         };
         let index = (place.value() - cursor) as usize;
         self.slots.count_ask(index, now);
-        self.kept = with_change(self.kept, &self.slots, index);
-        note_ask(
-            &self.slots,
-            &self.missing,
-            &mut self.lows,
-            index,
-            now,
-            self.asks,
-        );
+        note_change(&mut self.kept, &self.slots, index);
+        note_ask(&self.slots, &self.missing, &mut self.lows, index, now);
     }
 
     fn missing(&self) -> usize {
@@ -277,147 +297,4 @@ fn add_missing(slots: &mut Slots, missing: &mut Bits, lows: &mut Vec<Low>, count
     'added: for _ in 0..count {
         slots.append_missing(now);
     }
-}
-
-/// Finds the first due places of these slots, of which the first is that of the place `first`. It looks at no block of which no place
-/// can be due so soon.
-fn due_among(
-    due: &mut ArrayVec<Place, LONGEST_ASK>,
-    first: u64,
-    slots: &Slots,
-    missing: &Bits,
-    lows: &Vec<Low>,
-    now: u64,
-    rule: AskRule,
-)
-    requires places { first + length slots.now.items ≤ 2 ^ 48 }
-    requires room { length slots.now.items < bits_of missing.now.words.items }
-    requires index { IsSetOf is_missing missing.now.words.items missing.now.front slots.now.items }
-    requires blocks { length lows.now.items ≡ length missing.now.words.items }
-    requires low { AreLow lows.now.items missing.now.front slots.now.items }
-    ensures { due.new.items ≡ take longest_ask (filter (λ q. is_due now rule.delay rule.retry rule.asks (slot_from first slots.now.items q)) (range_with_len first (length slots.now.items))) }
-{
-    due.clear();
-    let mut index = 0;
-    while let Some(next) = missing.first(index) {
-        if due.is_full() {
-            return;
-        }
-        let end = missing.run_end(next).min(slots.len());
-        index = if has_come(lows[missing.word_of(next)].due_from(rule), now) {
-            due_of_run(due, first, slots, missing, next, end, now, rule)
-        } else {
-            end
-        };
-    }
-}
-
-/// Adds the due places of the slots from a start up to below an end, as long as there is room. It answers up to where it looked.
-fn due_of_run(
-    due: &mut ArrayVec<Place, LONGEST_ASK>,
-    first: u64,
-    slots: &Slots,
-    missing: &Bits,
-    start: usize,
-    end: usize,
-    now: u64,
-    rule: AskRule,
-) -> usize
-    requires places { first + length slots.now.items ≤ 2 ^ 48 }
-    requires order { start < end }
-    requires end { end ≤ length slots.now.items }
-    requires room { length slots.now.items < bits_of missing.now.words.items }
-    requires index { IsSetOf is_missing missing.now.words.items missing.now.front slots.now.items }
-    requires some { length due.old.items < longest_ask }
-    ensures left { due.new.items ++ due_rest now rule.delay rule.retry rule.asks first slots.now.items result ≡ due.old.items ++ due_rest now rule.delay rule.retry rule.asks first slots.now.items start }
-    ensures further { start < result }
-    ensures within { result ≤ end }
-    ensures fits { length due.new.items ≤ longest_ask }
-{
-    let mut index = start;
-    while index < end {
-        if due.is_full() {
-            return index;
-        }
-        let next = missing.first_in_run(index);
-        if next >= end {
-            return end;
-        }
-        if slots.get(next).unwrap().is_due(now, rule) {
-            due.push(Place::new(first + next as u64).unwrap());
-        }
-        index = next + 1;
-    }
-    index
-}
-
-/// The least moment from which on one of these slots is due, and such a slot. It looks at no block whose places come no sooner, and at no
-/// further one once a slot was found that is due at the moment that is enough.
-fn next_among(
-    slots: &Slots,
-    missing: &Bits,
-    lows: &Vec<Low>,
-    rule: AskRule,
-    enough: Option<u64>,
-) -> Option<Soonest>
-    requires room { length slots.now.items < bits_of missing.now.words.items }
-    requires index { IsSetOf is_missing missing.now.words.items missing.now.front slots.now.items }
-    requires blocks { length lows.now.items ≡ length missing.now.words.items }
-    requires low { AreLow lows.now.items missing.now.front slots.now.items }
-    ensures { ForSome enough (λ now. has_come (moment_of result) now ≡ false) → IsSoonest rule result slots.now.items (length slots.now.items) }
-{
-    let mut least = None;
-    let mut index = 0;
-    while let Some(next) = missing.first(index) {
-        let end = missing.run_end(next).min(slots.len());
-        let soonest = lows[missing.word_of(next)].due_from(rule);
-        if !is_no_sooner(soonest, moment_of(least)) {
-            least = next_within(least, slots, missing, next, end, rule);
-            if is_enough(least, enough) {
-                return least;
-            }
-        }
-        index = end;
-    }
-    least
-}
-
-/// Whether what was found has come at the moment that is enough, if there is one.
-fn is_enough(found: Option<Soonest>, enough: Option<u64>) -> bool
-    ensures { IsTrue result → IsSomeAnd enough (λ now. has_come (moment_of found) now ≡ true) }
-{
-    match enough {
-        Some(now) => has_come(moment_of(found), now),
-        None => false,
-    }
-}
-
-/// The least moment from which on one of the slots up to an end is due, and such a slot, where those before a start have this one.
-fn next_within(
-    before: Option<Soonest>,
-    slots: &Slots,
-    missing: &Bits,
-    start: usize,
-    end: usize,
-    rule: AskRule,
-) -> Option<Soonest>
-    requires order { start ≤ end }
-    requires end { end ≤ length slots.now.items }
-    requires room { length slots.now.items < bits_of missing.now.words.items }
-    requires index { IsSetOf is_missing missing.now.words.items missing.now.front slots.now.items }
-    requires before { IsSoonest rule before slots.now.items start }
-    ensures { IsSoonest rule result slots.now.items end }
-{
-    let mut least = before;
-    let mut index = start;
-    while index < end {
-        let found = missing.first_in_run(index);
-        if found >= end {
-            return least;
-        }
-        let moment = slots.get(found).unwrap().due_from(rule);
-        least = Soonest::or(least, moment, found);
-        index = found + 1;
-    }
-    least
 }

@@ -3,8 +3,8 @@ use Rattle.std.proofs.lemmas.Option.{slice_get_read}
 use Rattle.stores.proofs.LeastMoments.{low_after_ask}
 use Rattle.stores.proofs.lows.note_ask.Goals as goal
 
-pub renew-requires-clause-low : goal.renew-requires-clause-low
-renew-requires-clause-low c =
+pub returns-clause-low : goal.returns-clause-low
+returns-clause-low c =
     let lows = c.args.lows.now.items in
     let words = c.args.missing.now.words.items in
     let was = slice_get_read lows (length words) c.word_of-word.result c.index_mut.result.now (sym c.requires.blocks) c.word_of-word.ensures.within c.index_mut.ensures.value in

@@ -30,6 +30,6 @@ invariant_of-self-clause-told c =
     let slots = before.slots.items in
     let index = c.value.result - c.in-Some.cursor in
     let items = ap (λ (b : Buffer Slot). b.items) c.count_ask.ensures in
-    c.with_change-self.ensures slots (sym (ap length items ∙ asked_long slots index c.args.now (slice_get slots index)))
+    c.note_change.ensures slots (sym (ap length items ∙ asked_long slots index c.args.now (slice_get slots index)))
     (λ p apart. ap (λ xs. slice_get xs p) items ∙ asked_others slots index c.args.now (slice_get slots index) p apart)
     before.told

@@ -1,18 +1,42 @@
-use Rattle.std.proofs.Common.{◌≡◌, false, ap, sym, subst, ◌∙◌}
+use Rattle.std.proofs.Common.{◌≡◌, ℕ, ◌^◌, ◌<◌, [], List, Option, Bool, true, false, length, not, ap, sym, subst, ◌∙◌, refl}
+use Rattle.std.specs.Prelude.{IsTrue}
+use Rattle.std.specs.Option.{ForNone}
 use Rattle.std.proofs.lemmas.Option.{same_Some}
-use Rattle.stores.specs.Asking.{has_come}
-use Rattle.stores.specs.Kept.{moment_of}
+use Rattle.stores.specs.declared.answer.Soonest.{Soonest}
+use Rattle.stores.specs.declared.ask_rule.AskRule.{AskRule}
+use Rattle.stores.specs.declared.slot.Slot.{Slot}
+use Rattle.stores.specs.Asking.{has_come, due_places}
+use Rattle.stores.specs.Kept.{moment_of, IsSoonest}
 use Rattle.stores.proofs.NextDue.{next_of_slots}
 use Rattle.stores.proofs.Soonest.{soonest_any}
 use Rattle.stores.proofs.ring_window.RingWindowWindow.has_none_due.Goals as goal
 
+-- no place is due before the least moment
+none_yet : (cursor : Option ℕ) (slots : List Slot) (capacity now : ℕ) (rule : AskRule) (soonest : Option Soonest) → ForNone cursor (length slots ≡ 0) → now < 2 ^ 64 →
+    IsSoonest rule soonest slots (length slots) → has_come (moment_of soonest) now ≡ false →
+    due_places (record { cursor = cursor; slots = slots; capacity = capacity }) now rule.delay rule.retry rule.asks ≡ []
+none_yet cursor slots capacity now rule soonest none fits is later =
+    let next = next_of_slots cursor slots capacity rule.delay rule.retry rule.asks (moment_of soonest) none (λ at within. soonest_any rule soonest slots is at within) in
+    (next now fits).1 later
+
+not_true : (b : Bool) → IsTrue (not b) → b ≡ false
+not_true true is = absurd cc
+not_true false is = refl
+
+-- what is kept
+pub returns-in-Some-clause-none : goal.returns-in-Some-clause-none
+returns-in-Some-clause-none c = λ none.
+    let w = c.args.self.now in
+    let answer = c.in-Some.answer in
+    let told = subst (λ (r : AskRule). IsSoonest r answer.soonest w.slots.items (length w.slots.items)) (c.in-Some.ensures.rule answer refl) (c.in-Some.ensures.told answer refl) in
+    let later = ap (λ m. has_come m c.args.now) (sym c.moment_of.ensures) ∙ sym c.has_come.ensures ∙ not_true c.has_come.result none in
+    none_yet w.cursor w.slots.items w.slots.capacity c.args.now c.args.rule answer.soonest w.unstarted c.ranges.now.fits told later
+
+-- what was found
 pub returns-clause-none : goal.returns-clause-none
 returns-clause-none c = λ _.
     let w = c.args.self.now in
-    let rule = c.args.rule in
-    let soonest = c.soonest-soonest.result in
-    let later : has_come (moment_of soonest) c.args.now ≡ false = ap (λ m. has_come m c.args.now) (sym c.moment_of.ensures) ∙ sym c.has_come.ensures ∙ c.if-has_come.false in
-    let is = c.soonest-soonest.ensures (λ m e. subst (λ n. has_come (moment_of soonest) n ≡ false) (same_Some c.args.now m e) later) in
-    let next = next_of_slots w.cursor w.slots.items w.slots.capacity rule.delay rule.retry rule.asks (moment_of soonest) w.unstarted
-    (λ now fits. soonest_any rule soonest w.slots.items is now fits) in
-    (next c.args.now c.ranges.now.fits).1 later
+    let soonest = c.next_among-soonest.result in
+    let later : has_come (moment_of soonest) c.args.now ≡ false = ap (λ m. has_come m c.args.now) (sym c.moment_of-moment.ensures) ∙ sym c.has_come-2.ensures ∙ c.if-has_come.false in
+    let is = c.next_among-soonest.ensures (λ m e. subst (λ n. has_come (moment_of soonest) n ≡ false) (same_Some c.args.now m e) later) in
+    none_yet w.cursor w.slots.items w.slots.capacity c.args.now c.args.rule soonest w.unstarted c.ranges.now.fits is later

@@ -9,4 +9,4 @@ returns c =
     let w = c.args.self.now in
     let rule = c.args.rule in
     next_of_slots w.cursor w.slots.items w.slots.capacity rule.delay rule.retry rule.asks c.moment_of.result w.unstarted
-    (λ now fits. ap (λ m. has_come m now) c.moment_of.ensures ∙ soonest_any rule c.soonest.result w.slots.items (c.soonest.ensures (λ _ e. absurd (cc e))) now fits)
+    (λ now fits. ap (λ m. has_come m now) c.moment_of.ensures ∙ soonest_any rule c.soonest.result w.slots.items c.soonest.ensures now fits)

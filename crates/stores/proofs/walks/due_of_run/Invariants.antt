@@ -1,5 +1,5 @@
 use Rattle.std.proofs.Common.{◌≡◌, ◌≤◌, ◌<◌, ◌⊎◌, ◌-◌, ◌++◌, length}
-use Rattle.stores.proofs.ring_window.due_of_run.Given as goal
+use Rattle.stores.proofs.walks.due_of_run.Given as goal
 use Rattle.stores.specs.Asking.{longest_ask}
 use Rattle.stores.specs.Due.{due_rest}
 

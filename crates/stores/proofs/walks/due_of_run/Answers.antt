@@ -2,9 +2,9 @@ use Rattle.std.proofs.Common.{◌≡◌, ◌-◌, ◌<◌, ◌++◌, Some, lengt
 use Rattle.std.proofs.lemmas.Grind.{common_steps}
 use Rattle.std.proofs.lemmas.Option.{get_or_from_slice_get}
 use Rattle.stores.proofs.DueSlots.{due_left_yes, due_left_no, due_left_skip, lent_within}
-use Rattle.stores.proofs.ring_window.due_of_run.Goals as goal
+use Rattle.stores.proofs.walks.due_of_run.Goals as goal
 use Rattle.stores.specs.Lent.{slot_of}
-use Rattle.stores.proofs.ring_window.due_of_run.Goals.{then-is_due, else-is_due}
+use Rattle.stores.proofs.walks.due_of_run.Goals.{then-is_due, else-is_due}
 
 pub returns-then-next-end-clause-left : goal.returns-then-next-end-clause-left
 returns-then-next-end-clause-left c =

@@ -1,6 +1,6 @@
 use Rattle.std.proofs.Common.{◌-◌, ◌≤◌}
 use Rattle.stores.specs.Kept.{IsSoonest}
-use Rattle.stores.proofs.ring_window.next_within.Given as goal
+use Rattle.stores.proofs.walks.next_within.Given as goal
 
 abbrev pub invariant-loop-index : goal.invariant-loop-index
 invariant-loop-index l = record {

@@ -3,7 +3,7 @@ use Rattle.stores.specs.Asking.{is_due}
 use Rattle.stores.specs.Lent.{slot_of}
 use Rattle.stores.proofs.DueSlots.{lent_within}
 use Rattle.stores.proofs.Soonest.{soonest_skip, soonest_meet}
-use Rattle.stores.proofs.ring_window.next_within.Goals as goal
+use Rattle.stores.proofs.walks.next_within.Goals as goal
 
 pub unwrap-requires : goal.unwrap-requires
 unwrap-requires c =

@@ -2,7 +2,7 @@ use Rattle.std.proofs.Common.{◌≡◌, ◌-◌, ◌≤◌, ◌++◌, length}
 use Rattle.stores.specs.Bits.{bits_of}
 use Rattle.stores.specs.Asking.{longest_ask}
 use Rattle.stores.proofs.DueSlots.{due_left}
-use Rattle.stores.proofs.ring_window.due_among.Given as goal
+use Rattle.stores.proofs.walks.due_among.Given as goal
 
 abbrev pub invariant-loop-next : goal.invariant-loop-next
 invariant-loop-next l = record {
