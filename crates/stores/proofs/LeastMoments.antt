@@ -153,16 +153,16 @@ low_after_ask lows n front index now word slots old new long at within was asked
 
 -- the least moments of a word, found by a walk over its run of slots
 pub low_after_walk : (lows : List Low) (n front index word start end : ℕ) (slots : List Slot) (low : Low) → length lows ≡ n → word ≡ word_of n front index → word < n →
-    length slots < 64 * n → end ≡ min (length slots) (start + 64) →
-    ((p : ℕ) → p < 64 * n → word_of n front p ≡ word_of n front index → start ≤ p) →
-    ((p : ℕ) → p < 64 * n → word_of n front p ≡ word_of n front index → p < start + 64) →
+    end ≡ min (length slots) (start + 64) →
+    ((p : ℕ) → p < length slots → word_of n front p ≡ word_of n front index → start ≤ p) →
+    ((p : ℕ) → p < length slots → word_of n front p ≡ word_of n front index → p < start + 64) →
     ((p : ℕ) → start ≤ p → p < end → IsLow low (slice_get slots p)) → AreLow lows front slots → AreLow (slice_set lows word low) front slots
-low_after_walk lows n front index word start end slots low long at within room ends first last walked is =
+low_after_walk lows n front index word start end slots low long at within ends first last walked is =
     low_set lows front word low slots (omega arith)
     (λ p below same.
     let there : word_of n front p ≡ word_of n front index = ap (λ m. word_of m front p) (sym long) ∙ same ∙ at in
-    let above = first p (omega arith) there in
-    let under = last p (omega arith) there in
+    let above = first p below there in
+    let under = last p below there in
     walked p above (grind (arith, nat_tests)))
     (λ p other below apart got. is p other below got)
 

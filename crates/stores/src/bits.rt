@@ -173,19 +173,25 @@ impl Bits {
         bound.min(position + ahead)
     }
 
-    /// The first of the positions whose bits are in the word of this one. None where they are no run: both the first position and
-    /// the last one are among them.
-    pub fn run_start(&self, position: usize) -> Option<usize>
-        requires { position < bits_of self.now.words.items }
+    /// The first of the positions, of so many, whose bits are in the word of this one. None where they are no run: the first position
+    /// and one of the last ones are among them.
+    pub fn run_start(&self, position: usize, len: usize) -> Option<usize>
+        requires position { position < bits_of self.now.words.items }
+        requires len { len ≤ bits_of self.now.words.items }
         ensures start { IfSome result (λ start. start ≤ position) }
-        ensures run { IfSome result (λ start. (p : ℕ) → p < bits_of self.now.words.items → word_of (length self.now.words.items) self.now.front p ≡ word_of (length self.now.words.items) self.now.front position → start ≤ p) }
-        ensures end { IfSome result (λ start. (p : ℕ) → p < bits_of self.now.words.items → word_of (length self.now.words.items) self.now.front p ≡ word_of (length self.now.words.items) self.now.front position → p < start + 64) }
+        ensures run { IfSome result (λ start. (p : ℕ) → p < len → word_of (length self.now.words.items) self.now.front p ≡ word_of (length self.now.words.items) self.now.front position → start ≤ p) }
+        ensures end { IfSome result (λ start. (p : ℕ) → p < len → word_of (length self.now.words.items) self.now.front p ≡ word_of (length self.now.words.items) self.now.front position → p < start + 64) }
     {
         let bit = self.bit_of(position);
-        if self.front % 64 > 0 && bit / 64 == self.front / 64 {
+        let over = self.front % 64;
+        if over == 0 || bit / 64 != self.front / 64 {
+            return position.checked_sub(bit % 64);
+        }
+        // The front's word, whose bits below the front are those of the last positions.
+        if len + over > self.bound() {
             return None;
         }
-        position.checked_sub(bit % 64)
+        Some(0)
     }
 
     /// The least position of the set among those of a run from this one on, or where that run ends. It looks at one word.

@@ -7,7 +7,7 @@ ghost use Rattle.stores.specs.Put.{noticed_at};
 
 use crate::ask_rule::AskRule;
 use crate::bits::Bits;
-use crate::low::{Low, is_no_sooner};
+use crate::low::{Low, has_come};
 use crate::slots::Slots;
 
 /// Makes the least moments those of the blocks once so many places more are missing, from this moment on, behind all slots.
@@ -60,16 +60,15 @@ pub fn note_ask(slots: &Slots, missing: &Bits, lows: &mut Vec<Low>, index: usize
     lows[word].ask(now);
 }
 
-/// Finds anew the least moments of the blocks below an end, where by their bounds a place might be due sooner than at this moment.
-pub fn renew_below(
+/// Finds anew the bounds of the blocks that, by their bounds, may have a place that is due, up to the first one that may have one by
+/// the new bounds too. It answers whether there is such a block.
+pub fn renew_come(
     slots: &Slots,
     missing: &Bits,
     lows: &mut Vec<Low>,
-    end: usize,
+    now: u64,
     rule: AskRule,
-    moment: Option<u64>,
-)
-    requires end { end ≤ length slots.now.items }
+) -> bool
     requires room { length slots.now.items < bits_of missing.now.words.items }
     requires index { IsSetOf is_missing missing.now.words.items missing.now.front slots.now.items }
     requires blocks { length lows.old.items ≡ length missing.now.words.items }
@@ -79,20 +78,23 @@ pub fn renew_below(
 {
     let mut index = 0;
     while let Some(next) = missing.first(index) {
-        let after = missing.run_end(next);
-        if after.min(slots.len()) > end {
-            return;
+        if next >= slots.len() || renew_at(slots, missing, lows, next, now, rule) {
+            return true;
         }
-        let low = lows[missing.word_of(next)];
-        if !is_no_sooner(low.due_from(rule), moment) {
-            renew(slots, missing, lows, next, rule.asks);
-        }
-        index = after;
+        index = missing.run_end(next);
     }
+    false
 }
 
-/// Finds the least moments of this index's block anew, of the places that were asked for fewer than so many times.
-fn renew(slots: &Slots, missing: &Bits, lows: &mut Vec<Low>, index: usize, asks: u8)
+/// Finds anew the bounds of this index's block, if it may have a place that is due by them, and answers whether it may by the new ones.
+fn renew_at(
+    slots: &Slots,
+    missing: &Bits,
+    lows: &mut Vec<Low>,
+    index: usize,
+    now: u64,
+    rule: AskRule,
+) -> bool
     requires within { index < length slots.now.items }
     requires room { length slots.now.items < bits_of missing.now.words.items }
     requires index { IsSetOf is_missing missing.now.words.items missing.now.front slots.now.items }
@@ -101,15 +103,21 @@ fn renew(slots: &Slots, missing: &Bits, lows: &mut Vec<Low>, index: usize, asks:
     ensures blocks { length lows.new.items ≡ length lows.old.items }
     ensures low { AreLow lows.new.items missing.now.front slots.now.items }
 {
-    let Some(start) = missing.run_start(index) else {
-        return;
+    let word = missing.word_of(index);
+    if !has_come(lows[word].due_from(rule), now) {
+        return false;
+    }
+    // Bounds that can't be found anew tell nothing.
+    let Some(start) = missing.run_start(index, slots.len()) else {
+        return false;
     };
     let end = slots.len().min(start + 64);
-    let word = missing.word_of(index);
-    lows[word] = low_of(slots, missing, start, end, asks);
+    let low = low_of(slots, missing, start, end, rule.asks);
+    lows[word] = low;
+    has_come(low.due_from(rule), now)
 }
 
-/// The least moments of the missing places from one index up to below an end that were asked for fewer than so many times.
+/// The bounds of the missing places from one index up to below an end that were asked for fewer than so many times.
 fn low_of(slots: &Slots, missing: &Bits, start: usize, end: usize, asks: u8) -> Low
     requires start { start ≤ length slots.now.items }
     requires end { end ≤ length slots.now.items }
@@ -122,6 +130,10 @@ fn low_of(slots: &Slots, missing: &Bits, start: usize, end: usize, asks: u8) -> 
         last: None,
         asks,
     };
+    // Where most are missing a look at each takes less than to find them by the bits.
+    if missing.is_dense(start) {
+        return low_of_each(low, slots, start, end);
+    }
     let mut index = start;
     while index < end {
         let next = missing.first_in_run(index);
@@ -129,6 +141,20 @@ fn low_of(slots: &Slots, missing: &Bits, start: usize, end: usize, asks: u8) -> 
             low.meet(slots.get(next).unwrap());
         }
         index = next + 1;
+    }
+    low
+}
+
+/// These bounds once the slots from one index up to below an end are met.
+fn low_of_each(low: Low, slots: &Slots, start: usize, end: usize) -> Low
+    requires end { end ≤ length slots.now.items }
+    ensures { (p : ℕ) → start ≤ p → p < end → IsLow result (slice_get slots.now.items p) }
+{
+    let mut low = low;
+    let mut index = start;
+    while index < end {
+        low.meet(slots.get(index).unwrap());
+        index += 1;
     }
     low
 }

@@ -11,12 +11,12 @@ use crate::ask_rule::AskRule;
 use crate::bits::Bits;
 use crate::kept::{beside, note_change, with_change, with_jump, without_front};
 use crate::low::{Low, has_come};
-use crate::lows::{note_ask, note_missing, renew_below};
+use crate::lows::{note_ask, note_missing, renew_come};
 use crate::memory::OutOfMemory;
 use crate::slot::{PutFault, Slot, SlotRef};
 use crate::slots::Slots;
 use crate::spot::{Spot, spot_of};
-use crate::walks::{due_among, looked_below, next_among};
+use crate::walks::{due_among, next_among};
 use crate::window::{LONGEST_ASK, Window};
 use arrayvec::ArrayVec;
 use places::Place;
@@ -33,7 +33,7 @@ pub struct RingWindow {
     slots: Slots,
     // The missing places, by how far they are from the cursor.
     missing: Bits,
-    // The least moments of the missing places of each word of those bits.
+    // Bounds of the moments of the missing places of each word of those bits.
     lows: Vec<Low>,
     // What was found last of when a place is due, for as long as that can be told to hold.
     kept: Option<Answer>,
@@ -70,7 +70,7 @@ impl RingWindow {
     {
         match self.kept_by(rule) {
             Some(answer) => answer.soonest,
-            None => next_among(&self.slots, &self.missing, &self.lows, rule, None),
+            None => next_among(&self.slots, &self.missing, &self.lows, rule),
         }
     }
 }
@@ -207,33 +207,12 @@ impl Window for RingWindow {
         if let Some(answer) = self.kept_by(rule) {
             return !has_come(moment_of(answer.soonest), now);
         }
-        let soonest = next_among(&self.slots, &self.missing, &self.lows, rule, Some(now));
-        let moment = moment_of(soonest);
-        if has_come(moment, now) {
-            // What lies below the slot that is due was looked at in vain.
-            let below = looked_below(soonest, self.slots.len());
-            let later = Some(now.saturating_add(1));
-            renew_below(
-                &self.slots,
-                &self.missing,
-                &mut self.lows,
-                below,
-                rule,
-                later,
-            );
+        if renew_come(&self.slots, &self.missing, &mut self.lows, now, rule) {
             return false;
         }
-        let all = self.slots.len();
-        renew_below(
-            &self.slots,
-            &self.missing,
-            &mut self.lows,
-            all,
-            rule,
-            moment,
-        );
+        let soonest = next_among(&self.slots, &self.missing, &self.lows, rule);
         self.kept = Some(Answer { rule, soonest });
-        true
+        !has_come(moment_of(soonest), now)
     }
 
     fn count_ask(&mut self, place: Place, now: u64) {

@@ -1,12 +1,11 @@
 //! Walks over the slots of a ring window that look for due ones, and pass over blocks where none can be due so soon.
-ghost use Rattle.std.specs.Prelude.{◌≡◌, ◌+◌, ◌^◌, ◌<◌, ◌≤◌, ◌++◌, length, take, true, false, IsTrue, IsSomeAnd};
+ghost use Rattle.std.specs.Prelude.{◌≡◌, ◌+◌, ◌^◌, ◌<◌, ◌≤◌, ◌++◌, length, take};
 ghost use Rattle.std.specs.List.{filter, range_with_len};
-ghost use Rattle.std.specs.Option.{ForSome};
 ghost use Rattle.stores.specs.ByPlace.{slot_from};
-ghost use Rattle.stores.specs.Asking.{longest_ask, is_due, is_missing, has_come};
+ghost use Rattle.stores.specs.Asking.{longest_ask, is_due, is_missing};
 ghost use Rattle.stores.specs.Bits.{bits_of, IsSetOf};
 ghost use Rattle.stores.specs.Due.{due_rest};
-ghost use Rattle.stores.specs.Kept.{IsSoonest, moment_of};
+ghost use Rattle.stores.specs.Kept.{IsSoonest};
 ghost use Rattle.stores.specs.Low.{AreLow};
 
 use crate::answer::{Soonest, moment_of};
@@ -126,20 +125,13 @@ fn due_of_each(
     index
 }
 
-/// The least moment from which on one of these slots is due, and such a slot. It looks at no block whose places come no sooner, and at no
-/// further one once a slot was found that is due at the moment that is enough.
-pub fn next_among(
-    slots: &Slots,
-    missing: &Bits,
-    lows: &Vec<Low>,
-    rule: AskRule,
-    enough: Option<u64>,
-) -> Option<Soonest>
+/// The least moment from which on one of these slots is due, and such a slot. It looks at no block whose places come no sooner.
+pub fn next_among(slots: &Slots, missing: &Bits, lows: &Vec<Low>, rule: AskRule) -> Option<Soonest>
     requires room { length slots.now.items < bits_of missing.now.words.items }
     requires index { IsSetOf is_missing missing.now.words.items missing.now.front slots.now.items }
     requires blocks { length lows.now.items ≡ length missing.now.words.items }
     requires low { AreLow lows.now.items missing.now.front slots.now.items }
-    ensures { ForSome enough (λ now. has_come (moment_of result) now ≡ false) → IsSoonest rule result slots.now.items (length slots.now.items) }
+    ensures { IsSoonest rule result slots.now.items (length slots.now.items) }
 {
     let mut least = None;
     let mut index = 0;
@@ -148,33 +140,10 @@ pub fn next_among(
         let soonest = lows[missing.word_of(next)].due_from(rule);
         if !is_no_sooner(soonest, moment_of(least)) {
             least = next_within(least, slots, missing, next, end, rule);
-            if is_enough(least, enough) {
-                return least;
-            }
         }
         index = end;
     }
     least
-}
-
-/// How many slots, of so many, lie below the one that a search found.
-pub fn looked_below(found: Option<Soonest>, len: usize) -> usize
-    ensures { result ≤ len }
-{
-    match found {
-        Some(found) => found.index.min(len),
-        None => 0,
-    }
-}
-
-/// Whether what was found has come at the moment that is enough, if there is one.
-fn is_enough(found: Option<Soonest>, enough: Option<u64>) -> bool
-    ensures { IsTrue result → IsSomeAnd enough (λ now. has_come (moment_of found) now ≡ true) }
-{
-    match enough {
-        Some(now) => has_come(moment_of(found), now),
-        None => false,
-    }
 }
 
 /// The least moment from which on one of the slots up to an end is due, and such a slot, where those before a start have this one.

@@ -20,8 +20,8 @@ next_within-least-requires-clause-before c =
     let within = missing_within slots next (sym (c.requires.index next found.1) ∙ found.2) in
     soonest_skip c.args.rule c.loop-next.least slots c.loop-next.index next (λ p l u. sym (c.requires.index p (omega arith)) ∙ found.3 p l u) c.loop-next.invariant.so_far
 
-pub loop-next-smaller-else-is_enough : goal.loop-next-smaller-else-is_enough
-loop-next-smaller-else-is_enough c =
+pub loop-next-smaller-then-not-is_no_sooner : goal.loop-next-smaller-then-not-is_no_sooner
+loop-next-smaller-then-not-is_no_sooner c =
     let found = c.in-Some.ensures in
     let above = found.0 in
     let below = found.1 in
@@ -77,7 +77,7 @@ loop-next-preserved c =
     }
 
 pub returns : goal.returns
-returns c = λ _.
+returns c =
     let slots = c.args.slots.now.items in
     let room = c.requires.room in
     let none = c.in_default.ensures in

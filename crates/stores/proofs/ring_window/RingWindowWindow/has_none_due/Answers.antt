@@ -1,7 +1,6 @@
 use Rattle.std.proofs.Common.{◌≡◌, ℕ, ◌^◌, ◌<◌, [], List, Option, Bool, true, false, length, not, ap, sym, subst, ◌∙◌, refl}
 use Rattle.std.specs.Prelude.{IsTrue}
 use Rattle.std.specs.Option.{ForNone}
-use Rattle.std.proofs.lemmas.Option.{same_Some}
 use Rattle.stores.specs.declared.answer.Soonest.{Soonest}
 use Rattle.stores.specs.declared.ask_rule.AskRule.{AskRule}
 use Rattle.stores.specs.declared.slot.Slot.{Slot}
@@ -34,9 +33,8 @@ returns-in-Some-clause-none c = λ none.
 
 -- what was found
 pub returns-clause-none : goal.returns-clause-none
-returns-clause-none c = λ _.
+returns-clause-none c = λ none.
     let w = c.args.self.now in
     let soonest = c.next_among-soonest.result in
-    let later : has_come (moment_of soonest) c.args.now ≡ false = ap (λ m. has_come m c.args.now) (sym c.moment_of-moment.ensures) ∙ sym c.has_come-2.ensures ∙ c.if-has_come.false in
-    let is = c.next_among-soonest.ensures (λ m e. subst (λ n. has_come (moment_of soonest) n ≡ false) (same_Some c.args.now m e) later) in
-    none_yet w.cursor w.slots.items w.slots.capacity c.args.now c.args.rule soonest w.unstarted c.ranges.now.fits is later
+    let later = ap (λ m. has_come m c.args.now) (sym c.moment_of-2.ensures) ∙ sym c.has_come-2.ensures ∙ not_true c.has_come-2.result none in
+    none_yet w.cursor w.slots.items w.slots.capacity c.args.now c.args.rule soonest w.unstarted c.ranges.now.fits c.next_among-soonest.ensures later

@@ -1,7 +1,7 @@
 use Rattle.std.proofs.Common.{◌≡◌, ◌-◌, ◌≤◌, length}
 use Rattle.stores.specs.Bits.{bits_of}
 use Rattle.stores.specs.Low.{AreLow}
-use Rattle.stores.proofs.lows.renew_below.Given as goal
+use Rattle.stores.proofs.lows.renew_come.Given as goal
 
 abbrev pub invariant-loop-next : goal.invariant-loop-next
 invariant-loop-next l = record {
