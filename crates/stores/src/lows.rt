@@ -1,4 +1,4 @@
-//! The least moments of the blocks of a window's missing places, one block for each word of the bits that tell which are missing.
+//! The bounds of the blocks of a window's missing places, one block for each word of the bits that tell which are missing.
 ghost use Rattle.std.specs.Prelude.{◌≡◌, ◌+◌, ◌<◌, ◌≤◌, ◌++◌, true, length, replicate, slice_get, ℕ, IsSomeAnd};
 ghost use Rattle.stores.specs.Asking.{has_come, is_missing};
 ghost use Rattle.stores.specs.Bits.{bits_of, IsSetOf};
@@ -10,7 +10,7 @@ use crate::bits::Bits;
 use crate::low::{Low, has_come};
 use crate::slots::Slots;
 
-/// Makes the least moments those of the blocks once so many places more are missing, from this moment on, behind all slots.
+/// Makes the bounds those of the blocks once so many places more are missing, from this moment on, behind all slots.
 pub fn note_missing(slots: &Slots, missing: &Bits, lows: &mut Vec<Low>, count: usize, now: u64)
     requires room { length slots.now.items + count ≤ bits_of missing.now.words.items }
     requires index { IsSetOf is_missing missing.now.words.items missing.now.front slots.now.items }
@@ -28,7 +28,7 @@ pub fn note_missing(slots: &Slots, missing: &Bits, lows: &mut Vec<Low>, count: u
     }
 }
 
-/// The least moments of the block of this word, which are these, once a further place of it is missing, from this moment on.
+/// The bounds of the block of this word, which are these, once a further place of it is missing, from this moment on.
 fn noticed(slots: &Slots, missing: &Bits, low: Low, word: usize, now: u64) -> Low
     requires word { word < length missing.now.words.items }
     requires room { length slots.now.items ≤ bits_of missing.now.words.items }
@@ -46,7 +46,7 @@ fn noticed(slots: &Slots, missing: &Bits, low: Low, word: usize, now: u64) -> Lo
     low
 }
 
-/// Makes the least moments those of the blocks once the place at this index was asked for, which the slots tell already.
+/// Makes the bounds those of the blocks once the place at this index was asked for, which the slots tell already.
 pub fn note_ask(slots: &Slots, missing: &Bits, lows: &mut Vec<Low>, index: usize, now: u64)
     requires within { index < length slots.now.items }
     requires room { length slots.now.items < bits_of missing.now.words.items }
@@ -78,7 +78,7 @@ pub fn renew_come(
 {
     let mut index = 0;
     while let Some(next) = missing.first(index) {
-        if next >= slots.len() || renew_at(slots, missing, lows, next, now, rule) {
+        if renew_at(slots, missing, lows, next, now, rule) {
             return true;
         }
         index = missing.run_end(next);
