@@ -91,3 +91,13 @@ rest_is_some words bit rest is some word small =
       bit_of_rest words bit (bit + t) (omega arith) (omega arith) ∙ (let d : bit + t - bit ≡ t = omega arith in ap (λ n. bit_at (get_or words (bit / 64) 0 / 2 ^ (bit % 64)) n == 1) d ∙ ap (λ n. bit_at n t == 1) (sym is) ∙ ap (λ n. n == 1) one),
       λ b above below. bit_of_rest words bit b above (omega arith) ∙ ap (λ n. bit_at n (b - bit) == 1) (sym is) ∙ ap (λ n. n == 1) (first.2 (b - bit) (omega arith)),
     )
+
+-- a bit that is set at or above one, within its word, is so in what is left of the word above that one
+pub set_in_rest : (words : List ℕ) (bit b word : ℕ) → bit / 64 < length words → word ≡ get_or words (bit / 64) word → bit ≤ b → b / 64 ≡ bit / 64 → is_set words b ≡ true →
+    bit_at (word / 2 ^ (bit % 64)) (b - bit) ≡ 1
+set_in_rest words bit b word within e above same set =
+    eqb-true _ _ (
+    ap (λ w. bit_at (w / 2 ^ (bit % 64)) (b - bit) == 1) (get_or_read words (bit / 64) word within e 0)
+    ∙ sym (bit_of_rest words bit b above same)
+    ∙ set
+    )

@@ -1,5 +1,5 @@
 -- The least moments of blocks: what they say of a slot, and that they stay least when slots come, go and change.
-use Rattle.std.proofs.Common.{◌≡◌, ◌≢◌, ℕ, zero, suc, ◌+◌, ◌-◌, ◌*◌, ◌<◌, ◌≤◌, ◌++◌, ◌||◌, Bool, true, false, List, [], ◌∷◌, length, drop, min, replicate, slice_get, slice_set, Option, Some, None, ap, sym, subst, ◌∙◌, refl, arith, ⊎_elim, length-set, length-append}
+use Rattle.std.proofs.Common.{◌≡◌, ◌≢◌, ℕ, zero, suc, ◌+◌, ◌-◌, ◌*◌, ◌<◌, ◌≤◌, ◌++◌, ◌||◌, Bool, true, false, List, [], ◌∷◌, length, drop, replicate, slice_get, slice_set, Option, Some, None, ap, sym, subst, ◌∙◌, refl, arith, ⊎_elim, length-set, length-append}
 use Rattle.std.specs.Prelude.{IsSomeAnd}
 use Rattle.std.proofs.lemmas.Bool.{cases_eq, cases_lt}
 use Rattle.std.proofs.lemmas.Bool.Decides.{nat_tests}
@@ -39,7 +39,8 @@ due_low low (Some (Missing noticed (suc asks) last)) delay retry limit now first
     let come : has_come low.last last ≡ true = grind (arith, nat_tests, is, within) in
     or_other first again moment e (other noticed (suc asks) last (omega arith) come time)
 
-low_of_held : (low : Low) (slot : Option Slot) → is_missing slot ≡ false → IsLow low slot
+-- a slot that isn't missing has any bounds
+pub low_of_held : (low : Low) (slot : Option Slot) → is_missing slot ≡ false → IsLow low slot
 low_of_held low None held = refl
 low_of_held low (Some (Held content)) held = refl
 low_of_held low (Some (Missing noticed asks last)) held = absurd cc
@@ -153,17 +154,14 @@ low_after_ask lows n front index now word slots old new long at within was asked
 
 -- the least moments of a word, found by a walk over its run of slots
 pub low_after_walk : (lows : List Low) (n front index word start end : ℕ) (slots : List Slot) (low : Low) → length lows ≡ n → word ≡ word_of n front index → word < n →
-    end ≡ min (length slots) (start + 64) →
     ((p : ℕ) → p < length slots → word_of n front p ≡ word_of n front index → start ≤ p) →
-    ((p : ℕ) → p < length slots → word_of n front p ≡ word_of n front index → p < start + 64) →
+    ((p : ℕ) → p < length slots → word_of n front p ≡ word_of n front index → p < end) →
     ((p : ℕ) → start ≤ p → p < end → IsLow low (slice_get slots p)) → AreLow lows front slots → AreLow (slice_set lows word low) front slots
-low_after_walk lows n front index word start end slots low long at within ends first last walked is =
+low_after_walk lows n front index word start end slots low long at within first last walked is =
     low_set lows front word low slots (omega arith)
     (λ p below same.
     let there : word_of n front p ≡ word_of n front index = ap (λ m. word_of m front p) (sym long) ∙ same ∙ at in
-    let above = first p below there in
-    let under = last p below there in
-    walked p above (grind (arith, nat_tests)))
+    walked p (first p below there) (last p below there))
     (λ p other below apart got. is p other below got)
 
 -- the least moments of a word in which a place was noticed to be missing

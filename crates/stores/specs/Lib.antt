@@ -9,6 +9,7 @@ pub mod RunIsPast
 pub mod PastByPlace
 pub mod Bits
 pub mod Index
+pub mod Run
 pub mod Low
 pub mod Due
 pub mod Kept

@@ -1,10 +1,12 @@
 //! A set of positions below a bound, in words of 64 bits.
-ghost use Rattle.std.specs.Prelude.{◌≡◌, ℕ, ◌+◌, ◌-◌, ◌*◌, ◌/◌, ◌<◌, ◌≤◌, ◌==◌, true, false, length, replicate, MatchOption, IfOk, IfSome, IsTrue, if◌then◌else◌, nat_lt};
+ghost use Rattle.std.specs.Prelude.{◌≡◌, ℕ, ◌+◌, ◌-◌, ◌*◌, ◌/◌, ◌%◌, ◌<◌, ◌≤◌, ◌==◌, true, false, length, replicate, MatchOption, IfOk, IfSome, IsTrue, if◌then◌else◌, nat_lt};
 ghost use Rattle.std.specs.Int.{bit_at};
 ghost use Rattle.stores.specs.Bits.{is_set, bits_of, turned, is_member, size_of, is_between, set_from, members_below};
 ghost use Rattle.stores.specs.Low.{word_of};
+ghost use Rattle.stores.specs.Run.{Covers};
 
 use crate::memory::OutOfMemory;
+use crate::run::Run;
 use std::alloc::Global;
 
 /// A set of positions from 0 up to below a bound. [`shift`](Bits::shift) moves all of them down by one.
@@ -154,6 +156,11 @@ impl Bits {
         self.words[word] == 0
     }
 
+    /// Whether the set has no more than two positions for each word, for a choice between two walks.
+    pub fn is_sparse(&self) -> bool {
+        self.count <= 2 * self.words.len()
+    }
+
     /// Whether more than half of the bits of this position's word are set, for a choice between two walks.
     pub fn is_dense(&self, position: usize) -> bool
         requires { position < bits_of self.now.words.items }
@@ -167,10 +174,24 @@ impl Bits {
         ensures above { position < result }
         ensures within { result ≤ bits_of self.now.words.items }
         ensures run { (p : ℕ) → position ≤ p → p < result → word_of (length self.now.words.items) self.now.front p ≡ word_of (length self.now.words.items) self.now.front position }
+        ensures near { result + turned (bits_of self.now.words.items) self.now.front position % 64 ≤ position + 64 }
+        ensures far { (p : ℕ) → p < bits_of self.now.words.items → p + turned (bits_of self.now.words.items) self.now.front position % 64 < position + 64 → p < result }
     {
         let bound = 64 * self.words.len();
         let ahead = 64 - self.bit_of(position) % 64;
         bound.min(position + ahead)
+    }
+
+    /// The positions of the set among those of a run from this one on. In the word of position 0 it may give some above the bound too,
+    /// for the bits of the first positions.
+    pub fn run(&self, position: usize) -> Run
+        requires { position < bits_of self.now.words.items }
+        ensures position { result.position ≡ position }
+        ensures covers { (end : ℕ) → end ≤ bits_of self.now.words.items → end + turned (bits_of self.now.words.items) self.now.front position % 64 ≤ position + 64 →
+            Covers result (is_member self.now.words.items self.now.front) end }
+    {
+        let bit = self.bit_of(position);
+        Run::new(self.words[bit / 64] >> (bit % 64), position)
     }
 
     /// The first of the positions, of so many, whose bits are in the word of this one. None where they are no run: the first position
@@ -180,7 +201,8 @@ impl Bits {
         requires len { len ≤ bits_of self.now.words.items }
         ensures start { IfSome result (λ start. start ≤ position) }
         ensures run { IfSome result (λ start. (p : ℕ) → p < len → word_of (length self.now.words.items) self.now.front p ≡ word_of (length self.now.words.items) self.now.front position → start ≤ p) }
-        ensures end { IfSome result (λ start. (p : ℕ) → p < len → word_of (length self.now.words.items) self.now.front p ≡ word_of (length self.now.words.items) self.now.front position → p < start + 64) }
+        ensures end { IfSome result (λ start. (p : ℕ) → p < len → word_of (length self.now.words.items) self.now.front p ≡ word_of (length self.now.words.items) self.now.front position →
+            p + turned (bits_of self.now.words.items) self.now.front start % 64 < start + 64) }
     {
         let bit = self.bit_of(position);
         let over = self.front % 64;

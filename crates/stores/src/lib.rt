@@ -21,6 +21,7 @@ mod pool;
 mod ring;
 mod ring_history;
 mod ring_window;
+mod run;
 mod slot;
 mod slots;
 mod spot;

@@ -1,7 +1,7 @@
 //! The bounds of the blocks of a window's missing places, one block for each word of the bits that tell which are missing.
-ghost use Rattle.std.specs.Prelude.{◌≡◌, ◌+◌, ◌<◌, ◌≤◌, ◌++◌, true, length, replicate, slice_get, ℕ, IsSomeAnd};
+ghost use Rattle.std.specs.Prelude.{◌≡◌, ◌+◌, ◌%◌, ◌<◌, ◌≤◌, ◌++◌, true, length, replicate, slice_get, ℕ, IsSomeAnd};
 ghost use Rattle.stores.specs.Asking.{has_come, is_missing};
-ghost use Rattle.stores.specs.Bits.{bits_of, IsSetOf};
+ghost use Rattle.stores.specs.Bits.{bits_of, turned, IsSetOf};
 ghost use Rattle.stores.specs.Low.{AreLow, AreLowBut, IsLow, WasAskedAt, word_of};
 ghost use Rattle.stores.specs.Put.{noticed_at};
 
@@ -111,18 +111,19 @@ fn renew_at(
     let Some(start) = missing.run_start(index, slots.len()) else {
         return false;
     };
-    let end = slots.len().min(start + 64);
+    let end = slots.len().min(missing.run_end(start));
     let low = low_of(slots, missing, start, end, rule.asks);
     lows[word] = low;
     has_come(low.due_from(rule), now)
 }
 
-/// The bounds of the missing places from one index up to below an end that were asked for fewer than so many times.
+/// The bounds of the missing places from one index up to below the end of its run that were asked for fewer than so many times.
 fn low_of(slots: &Slots, missing: &Bits, start: usize, end: usize, asks: u8) -> Low
-    requires start { start ≤ length slots.now.items }
+    requires order { start ≤ end }
     requires end { end ≤ length slots.now.items }
     requires room { length slots.now.items < bits_of missing.now.words.items }
     requires index { IsSetOf is_missing missing.now.words.items missing.now.front slots.now.items }
+    requires run { end + turned (bits_of missing.now.words.items) missing.now.front start % 64 ≤ start + 64 }
     ensures { (p : ℕ) → start ≤ p → p < end → IsLow result (slice_get slots.now.items p) }
 {
     let mut low = Low {
@@ -134,13 +135,12 @@ fn low_of(slots: &Slots, missing: &Bits, start: usize, end: usize, asks: u8) -> 
     if missing.is_dense(start) {
         return low_of_each(low, slots, start, end);
     }
-    let mut index = start;
-    while index < end {
-        let next = missing.first_in_run(index);
-        if next < end {
-            low.meet(slots.get(next).unwrap());
+    let mut run = missing.run(start);
+    while let Some(next) = run.next() {
+        if next >= end {
+            return low;
         }
-        index = next + 1;
+        low.meet(slots.get(next).unwrap());
     }
     low
 }

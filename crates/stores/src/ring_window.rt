@@ -11,12 +11,12 @@ use crate::ask_rule::AskRule;
 use crate::bits::Bits;
 use crate::kept::{beside, note_change, with_change, with_jump, without_front};
 use crate::low::{Low, has_come};
-use crate::lows::{note_ask, note_missing, renew_come};
+use crate::lows::{note_ask, note_missing};
 use crate::memory::OutOfMemory;
 use crate::slot::{PutFault, Slot, SlotRef};
 use crate::slots::Slots;
 use crate::spot::{Spot, spot_of};
-use crate::walks::{due_among, next_among};
+use crate::walks::{due_among, next_among, next_unless_due};
 use crate::window::{LONGEST_ASK, Window};
 use arrayvec::ArrayVec;
 use places::Place;
@@ -207,10 +207,10 @@ impl Window for RingWindow {
         if let Some(answer) = self.kept_by(rule) {
             return !has_come(moment_of(answer.soonest), now);
         }
-        if renew_come(&self.slots, &self.missing, &mut self.lows, now, rule) {
+        let found = next_unless_due(&self.slots, &self.missing, &mut self.lows, now, rule);
+        let Some(soonest) = found else {
             return false;
-        }
-        let soonest = next_among(&self.slots, &self.missing, &self.lows, rule);
+        };
         self.kept = Some(Answer { rule, soonest });
         !has_come(moment_of(soonest), now)
     }

@@ -9,16 +9,16 @@ use Rattle.stores.proofs.walks.due_of_each.Goals.{then-is_due, else-is_due}
 pub unwrap-requires : goal.unwrap-requires
 unwrap-requires c =
     let ends = c.requires.end in
-    let more = c.loop-index-test.true in
-    lent_within c.get.result c.args.slots.now.items c.loop-index.index c.get.ensures (omega arith)
+    let more = c.loop-next-test.true in
+    lent_within c.get.result c.args.slots.now.items c.loop-next.next c.get.ensures (omega arith)
 
-pub loop-index-preserved : goal.loop-index-preserved
-loop-index-preserved c =
+pub loop-next-preserved : goal.loop-next-preserved
+loop-next-preserved c =
     let slots = c.args.slots.now.items in
     let rule = c.args.rule in
-    let index = c.loop-index.index in
+    let index = c.loop-next.next in
     let ends = c.requires.end in
-    let more = c.loop-index-test.true in
+    let more = c.loop-next-test.true in
     let within : index < length slots = omega arith in
     let got : slice_get slots index ≡ Some (slot_of c.unwrap.result) = search rules in
     let slot = sym (get_or_from_slice_get slots index (slot_of c.unwrap.result) (slot_of c.unwrap.result) got) in

@@ -35,6 +35,6 @@ returns-in-Some-clause-none c = λ none.
 pub returns-clause-none : goal.returns-clause-none
 returns-clause-none c = λ none.
     let w = c.args.self.now in
-    let soonest = c.next_among-soonest.result in
+    let soonest = c.in-Some-found.soonest in
     let later = ap (λ m. has_come m c.args.now) (sym c.moment_of-2.ensures) ∙ sym c.has_come-2.ensures ∙ not_true c.has_come-2.result none in
-    none_yet w.cursor w.slots.items w.slots.capacity c.args.now c.args.rule soonest w.unstarted c.ranges.now.fits c.next_among-soonest.ensures later
+    none_yet w.cursor w.slots.items w.slots.capacity c.args.now c.args.rule soonest w.unstarted c.ranges.now.fits c.in-Some-found.ensures.found later

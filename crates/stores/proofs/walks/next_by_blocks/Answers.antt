@@ -6,7 +6,7 @@ use Rattle.stores.specs.Asking.{has_come}
 use Rattle.stores.specs.Low.{word_of}
 use Rattle.stores.proofs.SlotPlaces.{missing_within}
 use Rattle.stores.proofs.Soonest.{soonest_first, soonest_skip, soonest_pass}
-use Rattle.stores.proofs.walks.next_among.Goals as goal
+use Rattle.stores.proofs.walks.next_by_blocks.Goals as goal
 
 pub loop-next-init : goal.loop-next-init
 loop-next-init c = record { so_far = soonest_first c.args.rule c.args.slots.now.items; within = omega arith }

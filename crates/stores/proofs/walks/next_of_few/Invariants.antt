@@ -1,7 +1,7 @@
 use Rattle.std.proofs.Common.{◌-◌, ◌≤◌, length}
 use Rattle.stores.specs.Bits.{bits_of}
 use Rattle.stores.specs.Kept.{IsSoonest}
-use Rattle.stores.proofs.walks.next_among.Given as goal
+use Rattle.stores.proofs.walks.next_of_few.Given as goal
 
 abbrev pub invariant-loop-next : goal.invariant-loop-next
 invariant-loop-next l = record {

@@ -1,9 +1,9 @@
-use Rattle.std.proofs.Common.{◌≡◌, ◌-◌, ◌<◌, ◌≤◌, ◌++◌, false, length, slice_get, rules, ap, sym, ◌∙◌, arith}
+use Rattle.std.proofs.Common.{◌≡◌, false, ◌-◌, ◌<◌, ◌≤◌, ◌++◌, length, slice_get, rules, ap, sym, ◌∙◌, arith}
 use Rattle.std.proofs.lemmas.Bool.Decides.{nat_tests}
 use Rattle.std.proofs.lemmas.Option.{slice_get_read}
 use Rattle.stores.proofs.SlotPlaces.{missing_within}
 use Rattle.stores.proofs.DueSlots.{due_left_whole, due_left_skip, due_left_past, due_left_none, not_due_so_soon, found_full, found_all}
-use Rattle.stores.proofs.walks.due_among.Goals as goal
+use Rattle.stores.proofs.walks.due_by_blocks.Goals as goal
 use Rattle.stores.specs.Asking.{longest_ask, is_due, has_come}
 use Rattle.stores.specs.Low.{word_of}
 
