@@ -1,5 +1,5 @@
 //! The world: two ends, the wire and the log.
-ghost use Rattle.std.specs.Prelude.{◌≡◌, ◌↔◌, ◌≤◌, ℕ, ◌++◌, [], ◌∷◌, reverse, List, IsTrue, IsSomeAnd, IfOk, OnOk, OnErr};
+ghost use Rattle.std.specs.Prelude.{◌≡◌, ◌↔◌, ◌≤◌, ℕ, ◌++◌, [], ◌∷◌, reverse, List, IsTrue, IsSomeAnd, IsNone, IfOk, OnOk, OnErr};
 ghost use Rattle.sender.specs.Sender.{RepeatsWithin};
 ghost use Rattle.receiver.specs.Asks.{AsksWithin};
 ghost use Rattle.receiver.specs.Receiver.{state_of};
@@ -122,7 +122,8 @@ impl<H: History, W: Window> World<H, W> {
 
     /// The entry of what happened last, if anything did.
     pub fn last(&self) -> Option<&Entry>
-        ensures { (before : List Entry) (entry : Entry) → self.now.log ≡ before ++ entry ∷ [] → IsSomeAnd result (λ last. last.now ≡ entry) }
+        ensures some { (before : List Entry) (entry : Entry) → self.now.log ≡ before ++ entry ∷ [] → IsSomeAnd result (λ last. last.now ≡ entry) }
+        ensures none { self.now.log ≡ [] → IsNone result }
     {
         self.log().last()
     }
