@@ -142,8 +142,7 @@ fn ask_due_into<W: Window>(
     Ok(Some(len))
 }
 
-/// Whether it is plain that no place is due; false tells nothing. Most asks end here, as nothing is missing, or before room for the due
-/// places is blanked and all that is missing is looked at.
+/// Whether it is plain that no place is due; false tells nothing. Most asks end here, and blank no room for due places.
 fn asks_nothing<W: Window>(window: &mut W, config: &ReceiverConfig, now: u64) -> bool
     ensures none { IsTrue result → (most : ℕ) (learnt : Option ℕ) → AsksMost config.now (window_of learnt (W.meaning window.old)) now most None (window_of learnt (W.meaning window.old)) }
     ensures same { W.meaning window.new ≡ W.meaning window.old }
