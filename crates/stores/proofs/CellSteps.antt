@@ -45,23 +45,23 @@ slot_of_cell contents cells i cell found = slice_get-map (slot_in contents) cell
 pool_after : (cells : List Cell) (contents : List Content) (free : List ℕ) → IsPool cells contents free → 0 < length cells → IsPool (drop 1 cells) contents (freed free (slice_get cells 0))
 pool_after [] contents free is some = absurd (omega arith)
 pool_after (Taken n ∷ cells) contents free is some = pool_freed (Taken n ∷ cells) contents free n refl is
-pool_after (Unseen noticed asks last ∷ cells) contents free is some = pool_passed (Unseen noticed asks last ∷ cells) contents free noticed asks last refl is
+pool_after (Unseen asks noticed last ∷ cells) contents free is some = pool_passed (Unseen asks noticed last ∷ cells) contents free noticed asks last refl is
 
 module _ (ring ring₂ : Buffer Cell) (contents : List Content) (free : List ℕ) (most free_most : ℕ) (before : Buffer Slot)
     (are : AreSlots ring contents free most free_most) (view : buffer (slots_in contents ring.items) ring.capacity ≡ before) (size : ring₂.capacity ≡ ring.capacity) where
   -- a cell without a number comes
-  pub missing_added : (now : ℕ) → ring₂.items ≡ ring.items ++ Unseen now 0 0 ∷ [] → length before.items < before.capacity
+  pub missing_added : (now : ℕ) → ring₂.items ≡ ring.items ++ Unseen 0 now 0 ∷ [] → length before.items < before.capacity
       → AreSlots ring₂ contents free most free_most
   missing_added now cells room =
       let count = sym (slot_count contents ring.items) ∙ ap (λ (b : Buffer Slot). length b.items) view in
       let fits = ap (λ (b : Buffer Slot). b.capacity) view in
-      let longer = ap length cells ∙ length-append ring.items (Unseen now 0 0 ∷ []) in
+      let longer = ap length cells ∙ length-append ring.items (Unseen 0 now 0 ∷ []) in
       let few = are.few in
       let enough = are.contents_room in
       let enough_free = are.free_room in
       let limit = are.limit in
       record {
-        pool = same_pool (ring.items ++ Unseen now 0 0 ∷ []) ring₂.items contents contents free free cells refl refl (pool_missing ring.items contents free now 0 0 are.pool);
+        pool = same_pool (ring.items ++ Unseen 0 now 0 ∷ []) ring₂.items contents contents free free cells refl refl (pool_missing ring.items contents free now 0 0 are.pool);
         few = omega (arith, few, size);
         contents_room = omega (arith, size, enough);
         free_room = omega (arith, size, enough_free);
@@ -118,11 +118,11 @@ module _ (ring ring₂ : Buffer Cell) (contents : List Content) (free : List ℕ
   pub cell_asked : (i now : ℕ) (cell : Cell) → slice_get ring.items i ≡ Some cell → CanCellBeAsked cell → ring₂.items ≡ slice_set ring.items i (asked_cell now cell)
       → Leaves ring₂ contents free most free_most (buffer (asked_at before.items i now (slice_get before.items i)) before.capacity)
   cell_asked i now (Taken n) found can cells = absurd can
-  cell_asked i now (Unseen noticed asks last) found can cells =
+  cell_asked i now (Unseen asks noticed last) found can cells =
       let fits = ap (λ (b : Buffer Slot). b.capacity) view in
       let seen = ap (λ (b : Buffer Slot). b.items) view in
-      let slot : slice_get before.items i ≡ Some (Missing noticed asks last) = ap (λ (s : List Slot). slice_get s i) (sym seen) ∙ slot_of_cell contents ring.items i (Unseen noticed asks last) found in
-      let longer = ap length cells ∙ length-set ring.items i (Unseen noticed (asks + 1) now) in
+      let slot : slice_get before.items i ≡ Some (Missing noticed asks last) = ap (λ (s : List Slot). slice_get s i) (sym seen) ∙ slot_of_cell contents ring.items i (Unseen asks noticed last) found in
+      let longer = ap length cells ∙ length-set ring.items i (Unseen (asks + 1) noticed now) in
       let few = are.few in
       let enough = are.contents_room in
       let enough_free = are.free_room in
@@ -130,7 +130,7 @@ module _ (ring ring₂ : Buffer Cell) (contents : List Content) (free : List ℕ
       let room = are.room in
       record {
         are = record {
-          pool = same_pool (slice_set ring.items i (Unseen noticed (asks + 1) now)) ring₂.items contents contents free free cells refl refl
+          pool = same_pool (slice_set ring.items i (Unseen (asks + 1) noticed now)) ring₂.items contents contents free free cells refl refl
               (pool_asked ring.items contents free i noticed asks last noticed (asks + 1) now found are.pool);
           few = omega (arith, few, size);
           contents_room = omega (arith, size, enough);
@@ -139,7 +139,7 @@ module _ (ring ring₂ : Buffer Cell) (contents : List Content) (free : List ℕ
           room = omega (arith, longer, size, room);
         };
         view = same_buffers
-            (ap (slots_in contents) cells ∙ map-set (slot_in contents) ring.items i (Unseen noticed (asks + 1) now)
+            (ap (slots_in contents) cells ∙ map-set (slot_in contents) ring.items i (Unseen (asks + 1) noticed now)
             ∙ ap (λ (s : List Slot). slice_set s i (Missing noticed (asks + 1) now)) seen
             ∙ ap (λ (o : Option Slot). asked_at before.items i now o) (sym slot))
             (size ∙ fits);
@@ -149,8 +149,8 @@ module _ (ring ring₂ : Buffer Cell) (contents : List Content) (free : List ℕ
   pub cell_can_be_asked : (i : ℕ) (cell : Cell) → slice_get ring.items i ≡ Some cell → IsSomeAnd (slice_get before.items i) CanBeAsked → CanCellBeAsked cell
   cell_can_be_asked i (Taken n) found can =
       subst (λ (o : Option Slot). IsSomeAnd o CanBeAsked) (ap (λ (b : Buffer Slot). slice_get b.items i) (sym view) ∙ slot_of_cell contents ring.items i (Taken n) found) can
-  cell_can_be_asked i (Unseen noticed asks last) found can =
-      subst (λ (o : Option Slot). IsSomeAnd o CanBeAsked) (ap (λ (b : Buffer Slot). slice_get b.items i) (sym view) ∙ slot_of_cell contents ring.items i (Unseen noticed asks last) found) can
+  cell_can_be_asked i (Unseen asks noticed last) found can =
+      subst (λ (o : Option Slot). IsSomeAnd o CanBeAsked) (ap (λ (b : Buffer Slot). slice_get b.items i) (sym view) ∙ slot_of_cell contents ring.items i (Unseen asks noticed last) found) can
 
 -- a number is freed only where there is room for it
 pub room_to_free : (cells : List Cell) (contents : List Content) (free : List ℕ) (n : ℕ) → IsPool cells contents free → slice_get cells 0 ≡ Some (Taken n) → length free < length contents
@@ -164,12 +164,12 @@ pub record UnseenAt (cells : List Cell) (i : ℕ) : Type 0 where
   pub noticed : ℕ
   pub asks : ℕ
   pub last : ℕ
-  pub found : slice_get cells i ≡ Some (Unseen noticed asks last)
+  pub found : slice_get cells i ≡ Some (Unseen asks noticed last)
 
 unseen_in : (contents : List Content) (cells : List Cell) (i : ℕ) (o : Option Cell) → slice_get cells i ≡ o → is_missing (option_map (slot_in contents) o) ≡ true → UnseenAt cells i
 unseen_in contents cells i None found missing = absurd cc
 unseen_in contents cells i (Some (Taken n)) found missing = absurd cc
-unseen_in contents cells i (Some (Unseen noticed asks last)) found missing = record { noticed = noticed; asks = asks; last = last; found = found }
+unseen_in contents cells i (Some (Unseen asks noticed last)) found missing = record { noticed = noticed; asks = asks; last = last; found = found }
 
 pub unseen_at : (ring : Buffer Cell) (contents : List Content) (before : Buffer Slot) (i : ℕ) → buffer (slots_in contents ring.items) ring.capacity ≡ before → is_missing (slice_get before.items i) ≡ true → UnseenAt ring.items i
 unseen_at ring contents before i view missing =

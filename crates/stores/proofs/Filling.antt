@@ -89,7 +89,7 @@ module _ (ring ring₂ : Buffer Cell) (contents contents₁ contents₂ : List C
       }
 
   -- a cell that was there
-  pub held_at : (i noticed asks last : ℕ) → slice_get ring.items i ≡ Some (Unseen noticed asks last) → ring₂.items ≡ slice_set ring.items i (Taken n)
+  pub held_at : (i noticed asks last : ℕ) → slice_get ring.items i ≡ Some (Unseen asks noticed last) → ring₂.items ≡ slice_set ring.items i (Taken n)
       → Leaves ring₂ contents₂ free₂ most₂ free_most₂ (buffer (slice_set before.items i (Held content)) before.capacity)
   held_at i noticed asks last found cells =
       let pool = before_fill ring.items contents contents₁ free free₁ free₂ n are.pool grown freed taken in

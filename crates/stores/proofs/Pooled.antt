@@ -20,17 +20,17 @@ numbers_append : (a b : List Cell) → numbers_of (a ++ b) ≡ numbers_of a ++ n
 unfolding numbers_of
 numbers_append [] b = refl
 numbers_append (Taken n ∷ a) b = ap (λ (ns : List ℕ). n ∷ ns) (numbers_append a b)
-numbers_append (Unseen noticed asks last ∷ a) b = numbers_append a b
+numbers_append (Unseen asks noticed last ∷ a) b = numbers_append a b
 
 numbers_taken : (n : ℕ) → numbers_of (Taken n ∷ []) ≡ n ∷ []
 unfolding numbers_of
 numbers_taken n = refl
 
-numbers_unseen : (noticed asks last : ℕ) → numbers_of (Unseen noticed asks last ∷ []) ≡ []
+numbers_unseen : (noticed asks last : ℕ) → numbers_of (Unseen asks noticed last ∷ []) ≡ []
 unfolding numbers_of
 numbers_unseen noticed asks last = refl
 
-times_set : (cells : List Cell) (i n m noticed asks last : ℕ) → slice_get cells i ≡ Some (Unseen noticed asks last)
+times_set : (cells : List Cell) (i n m noticed asks last : ℕ) → slice_get cells i ≡ Some (Unseen asks noticed last)
     → times m (numbers_of (slice_set cells i (Taken n))) ≡ times m (n ∷ []) + times m (numbers_of cells)
 unfolding numbers_of times
 times_set [] i n m noticed asks last found = absurd cc
@@ -39,7 +39,7 @@ times_set (Unseen a b c ∷ cells) zero n m noticed asks last found = omega arit
 times_set (Taken k ∷ cells) (suc i) n m noticed asks last found = let rest = times_set cells i n m noticed asks last found in omega arith
 times_set (Unseen a b c ∷ cells) (suc i) n m noticed asks last found = times_set cells i n m noticed asks last found
 
-count_set : (cells : List Cell) (i n noticed asks last : ℕ) → slice_get cells i ≡ Some (Unseen noticed asks last)
+count_set : (cells : List Cell) (i n noticed asks last : ℕ) → slice_get cells i ≡ Some (Unseen asks noticed last)
     → length (numbers_of (slice_set cells i (Taken n))) ≡ 1 + length (numbers_of cells)
 unfolding numbers_of
 count_set [] i n noticed asks last found = absurd cc
@@ -48,8 +48,8 @@ count_set (Unseen a b c ∷ cells) zero n noticed asks last found = omega arith
 count_set (Taken k ∷ cells) (suc i) n noticed asks last found = let rest = count_set cells i n noticed asks last found in omega arith
 count_set (Unseen a b c ∷ cells) (suc i) n noticed asks last found = count_set cells i n noticed asks last found
 
-pub numbers_asked : (cells : List Cell) (i noticed asks last noticed' asks' last' : ℕ) → slice_get cells i ≡ Some (Unseen noticed asks last)
-    → numbers_of (slice_set cells i (Unseen noticed' asks' last')) ≡ numbers_of cells
+pub numbers_asked : (cells : List Cell) (i noticed asks last noticed' asks' last' : ℕ) → slice_get cells i ≡ Some (Unseen asks noticed last)
+    → numbers_of (slice_set cells i (Unseen asks' noticed' last')) ≡ numbers_of cells
 unfolding numbers_of
 numbers_asked [] i noticed asks last noticed' asks' last' found = absurd cc
 numbers_asked (Taken k ∷ cells) zero noticed asks last noticed' asks' last' found = absurd cc
@@ -65,7 +65,7 @@ held_le [] = omega arith
 held_le (Taken n ∷ cells) = let rest = held_le cells in omega arith
 held_le (Unseen a b c ∷ cells) = let rest = held_le cells in omega arith
 
-pub held_lt : (cells : List Cell) (i noticed asks last : ℕ) → slice_get cells i ≡ Some (Unseen noticed asks last) → length (numbers_of cells) < length cells
+pub held_lt : (cells : List Cell) (i noticed asks last : ℕ) → slice_get cells i ≡ Some (Unseen asks noticed last) → length (numbers_of cells) < length cells
 unfolding numbers_of
 held_lt [] i noticed asks last found = absurd cc
 held_lt (Taken k ∷ cells) zero noticed asks last found = absurd cc
@@ -195,7 +195,7 @@ slots_append cells contents free n content is =
     ∙ ap (λ (s : List Slot). s ++ slot_in (slice_set contents n content) (Taken n) ∷ []) (slots_filled contents n content cells (unused cells contents free n is))
     ∙ ap (λ (s : Slot). slots_in contents cells ++ s ∷ []) (filled_there contents n content (is_there cells contents free n is))
 
-pub pool_set : (cells : List Cell) (contents : List Content) (free : List ℕ) (i n noticed asks last : ℕ) (content : Content) → slice_get cells i ≡ Some (Unseen noticed asks last)
+pub pool_set : (cells : List Cell) (contents : List Content) (free : List ℕ) (i n noticed asks last : ℕ) (content : Content) → slice_get cells i ≡ Some (Unseen asks noticed last)
     → IsPool cells contents (free ++ n ∷ []) → IsPool (slice_set cells i (Taken n)) (slice_set contents n content) free
 pool_set cells contents free i n noticed asks last content found is =
     number_taken cells (slice_set cells i (Taken n)) contents free n content (λ m. times_set cells i n m noticed asks last found) (count_set cells i n noticed asks last found) is
@@ -235,7 +235,7 @@ pool_freed (Taken m ∷ cells) contents free n found is =
     let same : m ≡ n = cc in
     subst (λ k. AreNumbers (numbers_of cells ++ (free ++ k ∷ [])) (length contents)) same (numbers_freed (m ∷ []) (numbers_of cells) free (length contents) is)
 
-pub pool_passed : (cells : List Cell) (contents : List Content) (free : List ℕ) (noticed asks last : ℕ) → slice_get cells 0 ≡ Some (Unseen noticed asks last) → IsPool cells contents free
+pub pool_passed : (cells : List Cell) (contents : List Content) (free : List ℕ) (noticed asks last : ℕ) → slice_get cells 0 ≡ Some (Unseen asks noticed last) → IsPool cells contents free
     → IsPool (drop 1 cells) contents free
 unfolding numbers_of
 pool_passed [] contents free noticed asks last found is = absurd cc
@@ -298,13 +298,13 @@ numbers_left (Unseen a b c ∷ cells) (suc i) (suc count) n l found = numbers_le
 
 -- cells without a number come and change
 
-pub pool_missing : (cells : List Cell) (contents : List Content) (free : List ℕ) (noticed asks last : ℕ) → IsPool cells contents free → IsPool (cells ++ Unseen noticed asks last ∷ []) contents free
+pub pool_missing : (cells : List Cell) (contents : List Content) (free : List ℕ) (noticed asks last : ℕ) → IsPool cells contents free → IsPool (cells ++ Unseen asks noticed last ∷ []) contents free
 pool_missing cells contents free noticed asks last is =
-    let same : numbers_of (cells ++ Unseen noticed asks last ∷ []) ≡ numbers_of cells =
-    numbers_append cells (Unseen noticed asks last ∷ []) ∙ ap (λ (ns : List ℕ). numbers_of cells ++ ns) (numbers_unseen noticed asks last) ∙ append-nil (numbers_of cells) in
+    let same : numbers_of (cells ++ Unseen asks noticed last ∷ []) ≡ numbers_of cells =
+    numbers_append cells (Unseen asks noticed last ∷ []) ∙ ap (λ (ns : List ℕ). numbers_of cells ++ ns) (numbers_unseen noticed asks last) ∙ append-nil (numbers_of cells) in
     subst (λ ns. AreNumbers (ns ++ free) (length contents)) (sym same) is
 
-pub pool_asked : (cells : List Cell) (contents : List Content) (free : List ℕ) (i noticed asks last noticed' asks' last' : ℕ) → slice_get cells i ≡ Some (Unseen noticed asks last)
-    → IsPool cells contents free → IsPool (slice_set cells i (Unseen noticed' asks' last')) contents free
+pub pool_asked : (cells : List Cell) (contents : List Content) (free : List ℕ) (i noticed asks last noticed' asks' last' : ℕ) → slice_get cells i ≡ Some (Unseen asks noticed last)
+    → IsPool cells contents free → IsPool (slice_set cells i (Unseen asks' noticed' last')) contents free
 pool_asked cells contents free i noticed asks last noticed' asks' last' found is =
     subst (λ ns. AreNumbers (ns ++ free) (length contents)) (sym (numbers_asked cells i noticed asks last noticed' asks' last' found)) is

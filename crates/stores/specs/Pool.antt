@@ -13,7 +13,7 @@ use Rattle.stores.specs.Numbers.{AreNumbers}
 -- the slot that a cell is
 abbrev pub slot_in : List Content → Cell → Slot
 slot_in contents (Taken number) = Held (get_or contents number blank_content)
-slot_in contents (Unseen noticed asks last) = Missing noticed asks last
+slot_in contents (Unseen asks noticed last) = Missing noticed asks last
 
 abbrev pub slots_in : List Content → List Cell → List Slot
 slots_in contents cells = map (slot_in contents) cells
@@ -22,7 +22,7 @@ slots_in contents cells = map (slot_in contents) cells
 unfoldable pub numbers_of : List Cell → List ℕ
 numbers_of [] = []
 numbers_of (Taken number ∷ cells) = number ∷ numbers_of cells
-numbers_of (Unseen noticed asks last ∷ cells) = numbers_of cells
+numbers_of (Unseen asks noticed last ∷ cells) = numbers_of cells
 
 -- Each buffer is one cell's or free, and no more than one of these: the numbers of the cells and the free ones are together
 -- those of the buffers.
@@ -50,15 +50,15 @@ grown_free contents (n ∷ free) = n ∷ free
 -- the free numbers once the buffer of this cell, if it has one, is free too
 abbrev pub freed : List ℕ → Option Cell → List ℕ
 freed free None = free
-freed free (Some (Unseen noticed asks last)) = free
+freed free (Some (Unseen asks noticed last)) = free
 freed free (Some (Taken number)) = free ++ number ∷ []
 
 -- one more ask may be counted
 abbrev pub CanCellBeAsked : Cell → Type 0
 CanCellBeAsked (Taken number) = ⊥
-CanCellBeAsked (Unseen noticed asks last) = asks < 255
+CanCellBeAsked (Unseen asks noticed last) = asks < 255
 
 -- the cell after an ask at the moment `now`
 abbrev pub asked_cell : ℕ → Cell → Cell
 asked_cell now (Taken number) = Taken number
-asked_cell now (Unseen noticed asks last) = Unseen noticed (asks + 1) now
+asked_cell now (Unseen asks noticed last) = Unseen (asks + 1) noticed now
