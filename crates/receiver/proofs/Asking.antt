@@ -1,5 +1,5 @@
 -- Asks that a window counts are asks of the receiver.
-use Rattle.std.proofs.Common.{◌≡◌, ◌≢◌, ℕ, zero, suc, nat_lt, nat_le, ◌&&◌, ◌+◌, ◌-◌, ◌*◌, ◌<◌, ◌==◌, ◌||◌, min, Bool, true, false, cond, List, [], ◌∷◌, length, take, get_or, Option, Some, None, IsSomeAnd, IsSome, option_map, refl, sym, ap, subst, ◌∙◌, arith, inl, inr, eqb-true, eq-eqb, ne_eqb, true≢false}
+use Rattle.std.proofs.Common.{◌≡◌, ◌≢◌, ℕ, zero, suc, nat_lt, nat_le, ◌&&◌, ◌+◌, ◌-◌, ◌*◌, ◌<◌, ◌==◌, ◌||◌, Bool, true, false, cond, List, [], ◌∷◌, length, take, drop, drop-cons, add-one, get_or, Option, Some, None, IsSomeAnd, IsSome, option_map, refl, sym, ap, subst, ◌∙◌, arith, inl, inr, eqb-true, eq-eqb, ne_eqb, true≢false}
 use Rattle.std.specs.List.{All, filter}
 use Rattle.std.proofs.lemmas.Grind.{common_steps}
 use Rattle.std.proofs.lemmas.Bool.Decides.{nat_tests}
@@ -7,6 +7,7 @@ use Rattle.std.specs.Prelude.{if◌then◌else◌}
 use Rattle.std.specs.List.Sorted.{IsStrictlyIncreasing}
 use Rattle.std.proofs.lemmas.Bool.{cases_eq}
 use Rattle.std.proofs.lemmas.Option.{same_Some}
+use Rattle.std.proofs.lemmas.List.{take_all, drop_all}
 use Rattle.std.proofs.lemmas.List.Folds.{list_any_more}
 use Rattle.std.proofs.lemmas.List.Elements.{All-take}
 use Rattle.arrayvec.specs.ArrayVec.{ArrayVec}
@@ -19,7 +20,7 @@ use Rattle.stores.specs.declared.slot.Slot.TheVariants.{Held, Missing}
 use Rattle.stores.specs.Span.{Span, IsSpan}
 use Rattle.stores.specs.ByPlace.{slot_at, IsInside}
 use Rattle.stores.specs.PlaceLists.{Lists}
-use Rattle.stores.specs.Asking.{CanBeAsked, asked_slot, places_of, due_places, missing_places, CountsAsk}
+use Rattle.stores.specs.Asking.{CanBeAsked, CanEachBeAsked, asked, asked_each, asked_slot, places_of, due_places, missing_places, CountsAsk}
 use Rattle.stores.specs.Asking.{is_due as is_due_slot, is_missing as is_missing_slot, is_long_since}
 use Rattle.receiver.specs.Config.{Config}
 use Rattle.receiver.specs.Window.{held_in, missed_in, window_at, window_of}
@@ -134,6 +135,28 @@ module _ (old mid : Span) (places : List ℕ) (i d now : ℕ) (rising : IsStrict
         capacity = one.capacity ∙ before.capacity;
       }
 
+module _ (law : (s new : Span) (place now : ℕ) → IsSomeAnd (slot_at s place) CanBeAsked → new ≡ asked s place now → CountsAsk s new place now)
+    (old : Span) (places : List ℕ) (now : ℕ) (rising : IsStrictlyIncreasing places) (all : CanAllBeAsked old places) where
+  -- the asks that are left, so many, once the first ones were counted
+  counts_left : (n i : ℕ) (mid : Span) → i + n ≡ length places → CountsAsks old mid (take i places) now →
+      CanEachBeAsked mid (drop i places) now × CountsAsks old (asked_each mid (drop i places) now) places now
+  counts_left zero i mid end before =
+      let P : List ℕ → Type 0 = λ left. CanEachBeAsked mid left now × CountsAsks old (asked_each mid left now) places now in
+      subst P (sym (drop_all i places (omega arith))) (tt, subst (λ (ps : List ℕ). CountsAsks old mid ps now) (take_all i places (omega arith)) before)
+  counts_left (suc n) i mid end before =
+      let P : List ℕ → Type 0 = λ left. CanEachBeAsked mid left now × CountsAsks old (asked_each mid left now) places now in
+      let p = get_or places i 0 in
+      let within : i < length places = omega arith in
+      let askable = askable_still old mid places i 0 now rising within before all in
+      let one = law mid (asked mid p now) p now askable refl in
+      let rest = counts_left n (i + 1) (asked mid p now) (omega arith) (counts_more old mid places i 0 now rising within before (asked mid p now) one) in
+      let left : drop i places ≡ p ∷ drop (i + 1) places = rw (add-one) (drop-cons places i 0 within) in
+      subst P (sym left) ((askable, rest.0), rest.1)
+
+  -- each of the places may be asked for, one after the other, and that counts them all
+  pub counts_each : CanEachBeAsked old places now × CountsAsks old (asked_each old places now) places now
+  counts_each = counts_left (length places) 0 old (omega arith) (counts_none old places now)
+
 held_asked : (now : ℕ) (o : Option Slot) → held_in (option_map (asked_slot now) o) ≡ held_in o
 held_asked now None = refl
 held_asked now (Some (Held content)) = refl
@@ -172,16 +195,6 @@ asks_at learnt k slots room new covered now counts =
 pub take_none : (n : ℕ) → take {A = ℕ} n [] ≡ []
 take_none zero = refl
 take_none (suc n) = refl
-
--- so many of so many are the lesser number of them
-pub take_lesser : (m n k : ℕ) (xs : List ℕ) → k ≡ min m n → take m (take n xs) ≡ take k xs
-take_lesser zero n zero xs e = refl
-take_lesser zero n (suc k) xs e = absurd (omega arith)
-take_lesser (suc m) zero zero xs e = refl
-take_lesser (suc m) zero (suc k) xs e = absurd (omega arith)
-take_lesser (suc m) (suc n) zero xs e = absurd (omega arith)
-take_lesser (suc m) (suc n) (suc k) [] e = refl
-take_lesser (suc m) (suc n) (suc k) (x ∷ xs) e = ap (λ ys. x ∷ ys) (take_lesser m n k xs (omega arith))
 
 -- an ask of a window
 module _ (slots : List Slot) (room : ℕ) (c : Config) (now most : ℕ) (learnt : Option ℕ) where

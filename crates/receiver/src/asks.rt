@@ -143,9 +143,8 @@ fn ask_due_into<W: Window>(
 }
 
 /// Whether it is plain that no place is due; false tells nothing. Most asks end here, and blank no room for due places.
-fn asks_nothing<W: Window>(window: &mut W, config: &ReceiverConfig, now: u64) -> bool
-    ensures none { IsTrue result → (most : ℕ) (learnt : Option ℕ) → AsksMost config.now (window_of learnt (W.meaning window.old)) now most None (window_of learnt (W.meaning window.old)) }
-    ensures same { W.meaning window.new ≡ W.meaning window.old }
+fn asks_nothing<W: Window>(window: &W, config: &ReceiverConfig, now: u64) -> bool
+    ensures { IsTrue result → (most : ℕ) (learnt : Option ℕ) → AsksMost config.now (window_of learnt (W.meaning window.now)) now most None (window_of learnt (W.meaning window.now)) }
 {
     window_by_place();
     if window.missing() == 0 {
@@ -157,19 +156,19 @@ fn asks_nothing<W: Window>(window: &mut W, config: &ReceiverConfig, now: u64) ->
 /// Finds the due places of a window, at most so many and as many as one ask looks at, and packs them: the pairs, and how many
 /// places they cover. None where there are none.
 fn pairs_due<W: Window>(
-    window: &W,
+    window: &mut W,
     config: &ReceiverConfig,
     now: u64,
     most: usize,
     due: &mut ArrayVec<Place, LONGEST_ASK>,
 ) -> Option<(ArrayVec<Pair, 64>, usize)>
-    ensures found { AnswersPairs (W.meaning window.now) now config.now.delay config.now.retry config.now.asks most result due.new.items }
-    ensures lists { Lists (due_places (W.meaning window.now) now config.now.delay config.now.retry config.now.asks)
-        (λ q. is_due now config.now.delay config.now.retry config.now.asks (slot_at (W.meaning window.now) q)) }
+    ensures found { AnswersPairs (W.meaning window.old) now config.now.delay config.now.retry config.now.asks most result due.new.items }
+    ensures lists { Lists (due_places (W.meaning window.old) now config.now.delay config.now.retry config.now.asks)
+        (λ q. is_due now config.now.delay config.now.retry config.now.asks (slot_at (W.meaning window.old) q)) }
+    ensures same { W.meaning window.new ≡ W.meaning window.old }
 {
     window_by_place();
-    window.due_into(due, now, config.rule());
-    due.truncate(most);
+    window.find_due(due, most, now, config.rule());
     if due.is_empty() {
         return None;
     }
@@ -183,9 +182,7 @@ fn count_asks<W: Window>(window: &mut W, places: &[Place], now: u64)
     ensures { CountsAsks (W.meaning window.old) (W.meaning window.new) places.now now }
 {
     window_by_place();
-    for place in places {
-        window.count_ask(*place, now);
-    }
+    window.count_asks(places, now);
 }
 
 /// How many places of a window are missing.

@@ -1,5 +1,5 @@
 -- What is due, what is missing and what an ask leaves, place by place.
-use Rattle.std.proofs.Common.{◌≡◌, ℕ, ◌+◌, ◌-◌, ◌<◌, ◌≤◌, ◌==◌, Bool, true, false, List, length, slice_get, slice_set, Option, Some, None, IsSomeAnd, nat_lt, cond, ap, sym, ◌∙◌, refl, arith, ltb-false, length-set}
+use Rattle.std.proofs.Common.{◌≡◌, ℕ, ◌+◌, ◌-◌, ◌<◌, ◌≤◌, ◌==◌, Bool, true, false, List, [], ◌∷◌, length, slice_get, slice_set, Option, Some, None, IsSomeAnd, nat_lt, cond, ap, sym, subst, ◌∙◌, refl, arith, ltb-false, length-set}
 use Rattle.std.specs.Prelude.{if◌then◌else◌}
 use Rattle.std.specs.Option.{option_map}
 use Rattle.std.specs.List.{filter, range_with_len}
@@ -9,9 +9,9 @@ use Rattle.std.proofs.lemmas.Option.{same_Some, slice_get_past, slice_get_within
 use Rattle.stores.specs.declared.slot.Slot.{Slot}
 use Rattle.stores.specs.declared.slot.Slot.TheVariants.{Held, Missing}
 use Rattle.stores.specs.Span.{Span, IsSpan, highest_of}
-use Rattle.stores.specs.ByPlace.{slot_from, slot_at}
+use Rattle.stores.specs.ByPlace.{slot_from, slot_at, slot_at_cursor}
 use Rattle.stores.specs.PlaceLists.{Lists}
-use Rattle.stores.specs.Asking.{is_due, is_missing, places_of, due_places, missing_places, CanBeAsked, asked_slot, asked_at, asked, CountsAsk}
+use Rattle.stores.specs.Asking.{is_due, is_missing, places_of, due_places, missing_places, CanBeAsked, CanEachBeAsked, asked_slot, asked_at, asked, asked_each, CountsAsk}
 use Rattle.stores.proofs.Lookup.{slice_get-set_same, slice_get-set_other}
 use Rattle.stores.proofs.Listed.{lists_passing}
 
@@ -85,3 +85,10 @@ counts_from (Some k) slots capacity p now can =
 -- what a counted ask leaves at each place
 pub count_ask_by_place : (old new : Span) (p now : ℕ) → IsSomeAnd (slot_at old p) CanBeAsked → new ≡ asked old p now → CountsAsk old new p now
 count_ask_by_place old new p now can e = rw e (counts_from old.cursor old.slots old.capacity p now can)
+
+-- no place of a window that was not started may be asked for
+pub none_to_ask : (s : Span) (places : List ℕ) (now : ℕ) → s.cursor ≡ None → CanEachBeAsked s places now → s ≡ asked_each s places now
+none_to_ask s [] now none can = refl
+none_to_ask s (p ∷ places) now none can =
+    let nowhere : slot_at s p ≡ None = ap (λ c. slot_at_cursor c s.slots p) none in
+    absurd (subst (λ (o : Option Slot). IsSomeAnd o CanBeAsked) nowhere can.0)

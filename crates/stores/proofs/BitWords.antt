@@ -101,3 +101,20 @@ set_in_rest words bit b word within e above same set =
     ∙ sym (bit_of_rest words bit b above same)
     ∙ set
     )
+
+-- a bit of one word after one was set, and after one was cleared
+pub word_bit_set : (word bit b : ℕ) → bit < 64 → (bit_at (bit_or word (1 * 2 ^ bit % 2 ^ 64)) b == 1) ≡ (if b == bit then true else (bit_at word b == 1))
+word_bit_set word bit b small =
+    cond_both (b == bit) true false (λ _. (bit_at (bit_or word (1 * 2 ^ bit % 2 ^ 64)) b == 1) ≡ (if b == bit then true else (bit_at word b == 1)))
+    (λ e. let at : b ≡ bit = eqb-true _ _ e in
+    ap (λ n. bit_at (bit_or word (1 * 2 ^ bit % 2 ^ 64)) n == 1) at ∙ ap (λ n. n == 1) (bit_at_set_same w64 word bit small) ∙ chosen b bit true (bit_at word b == 1) at)
+    (λ e. let apart : b ≢ bit = eqb-false _ _ e in
+    ap (λ n. n == 1) (bit_at_set_other w64 word bit small b apart) ∙ passed b bit true (bit_at word b == 1) apart)
+
+pub word_bit_clear : (word bit b : ℕ) → bit < 64 → b < 64 → (bit_at (bit_and word (bit_not w64 (1 * 2 ^ bit % 2 ^ 64))) b == 1) ≡ (if b == bit then false else (bit_at word b == 1))
+word_bit_clear word bit b small below =
+    cond_both (b == bit) true false (λ _. (bit_at (bit_and word (bit_not w64 (1 * 2 ^ bit % 2 ^ 64))) b == 1) ≡ (if b == bit then false else (bit_at word b == 1)))
+    (λ e. let at : b ≡ bit = eqb-true _ _ e in
+    ap (λ n. bit_at (bit_and word (bit_not w64 (1 * 2 ^ bit % 2 ^ 64))) n == 1) at ∙ ap (λ n. n == 1) (bit_at_clear_same w64 word bit small) ∙ chosen b bit false (bit_at word b == 1) at)
+    (λ e. let apart : b ≢ bit = eqb-false _ _ e in
+    ap (λ n. n == 1) (bit_at_clear_other w64 word bit small b below apart) ∙ passed b bit false (bit_at word b == 1) apart)

@@ -1,5 +1,5 @@
 -- The due places of slots, of which the first is that of the place k, from an index on: how a loop meets them.
-use Rattle.std.proofs.Common.{◌≡◌, ℕ, zero, suc, ◌+◌, ◌-◌, ◌<◌, ◌≤◌, ◌++◌, List, [], ◌∷◌, length, take, get_or, slice_get, Bool, true, false, Option, Some, None, nat_le, leb-true, leb-false, ap, sym, ◌∙◌, refl, arith}
+use Rattle.std.proofs.Common.{◌≡◌, ℕ, zero, suc, ◌+◌, ◌-◌, ◌<◌, ◌≤◌, ◌++◌, List, [], ◌∷◌, length, min, take, get_or, slice_get, Bool, true, false, Option, Some, None, nat_le, leb-true, leb-false, ap, sym, ◌∙◌, refl, arith}
 use Rattle.std.specs.List.{filter, range_with_len}
 use Rattle.std.proofs.lemmas.List.{take_at, take_all, append-nil}
 use Rattle.std.proofs.lemmas.Bool.{cond_both}
@@ -10,7 +10,7 @@ use Rattle.stores.specs.declared.slot.Slot.{Slot}
 use Rattle.stores.specs.declared.slot.Slot.TheVariants.{Held, Missing}
 use Rattle.stores.specs.ByPlace.{slot_from}
 use Rattle.stores.specs.Asking.{is_due, is_missing, due_places, longest_ask}
-use Rattle.stores.specs.Due.{due_rest}
+use Rattle.stores.specs.Due.{due_from_first, due_rest}
 use Rattle.stores.proofs.SlotPlaces.{slot_from_index, slot_of_index}
 use Rattle.stores.proofs.Passing.{passing_yes, passing_no, passing_none}
 
@@ -93,9 +93,24 @@ found_all limit xs rest all e none fits =
     let whole : xs ≡ all = sym (append-nil xs) ∙ ap (λ ys. xs ++ ys) (sym none) ∙ e in
     sym (ap (take limit) (sym whole) ∙ take_all limit xs fits)
 
+-- the due places of a started window are those of its slots
+pub due_of_started : (cursor : Option ℕ) (slots : List Slot) (capacity now delay retry limit k : ℕ) → cursor ≡ Some k →
+    due_places (record { cursor = cursor; slots = slots; capacity = capacity }) now delay retry limit ≡ due_from_first now delay retry limit k slots
+due_of_started cursor slots capacity now delay retry limit k started = rw started refl
+
 -- the due places of a window and those of its slots, as they were read
 pub due_of_slots : (cursor : Option ℕ) (slots read : List Slot) (capacity now delay retry limit k : ℕ) (xs : List ℕ) → cursor ≡ Some k → read ≡ slots →
     xs ≡ take longest_ask (filter (λ q. is_due now delay retry limit (slot_from k read q)) (range_with_len k (length read))) →
     xs ≡ take longest_ask (due_places (record { cursor = cursor; slots = slots; capacity = capacity }) now delay retry limit)
 due_of_slots cursor slots read capacity now delay retry limit k xs started same e =
     rw started (e ∙ ap (λ ys. take longest_ask (filter (λ q. is_due now delay retry limit (slot_from k ys q)) (range_with_len k (length ys)))) same)
+
+-- so many of so many are the lesser number of them
+pub take_lesser : (m n k : ℕ) (xs : List ℕ) → k ≡ min m n → take m (take n xs) ≡ take k xs
+take_lesser zero n zero xs e = refl
+take_lesser zero n (suc k) xs e = absurd (omega arith)
+take_lesser (suc m) zero zero xs e = refl
+take_lesser (suc m) zero (suc k) xs e = absurd (omega arith)
+take_lesser (suc m) (suc n) zero xs e = absurd (omega arith)
+take_lesser (suc m) (suc n) (suc k) [] e = refl
+take_lesser (suc m) (suc n) (suc k) (x ∷ xs) e = ap (λ ys. x ∷ ys) (take_lesser m n k xs (omega arith))

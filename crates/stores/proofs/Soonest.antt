@@ -1,5 +1,6 @@
 -- The least moment at which a slot is due, with a slot that is due from it on: how a walk finds it, and that it stays so when slots change.
 use Rattle.std.proofs.Common.{◌≡◌, ◌≢◌, ℕ, zero, suc, ◌+◌, ◌-◌, ◌^◌, ◌<◌, ◌≤◌, ◌++◌, ◌||◌, Bool, true, false, List, [], ◌∷◌, length, drop, replicate, slice_get, Option, Some, None, ap, sym, subst, ◌∙◌, refl, arith, ⊎_elim, length-append}
+use Rattle.std.specs.Prelude.{IfSome}
 use Rattle.std.proofs.lemmas.Bool.{cases_eq, cases_lt, cases_Bool, or_from}
 use Rattle.std.proofs.Math.Bool.{or-true}
 use Rattle.std.proofs.lemmas.Bool.Decides.{nat_tests}
@@ -53,6 +54,11 @@ soonest_any rule soonest slots is now fits =
         let since : s.moment ≤ now = grind (arith, nat_tests, come) in
         let due = is.serves s refl now fits since in
         any_at (due_by rule slots now) (length slots) s.index (due_within rule slots now s.index due) due
+
+-- what holds of what is there follows from another such fact
+pub if_some : {X : Type 0} (o : Option X) (P Q : X → Type 0) → ((x : X) → P x → Q x) → IfSome o P → IfSome o Q
+if_some None P Q step is = is
+if_some (Some x) P Q step is = step x is
 
 -- the first slots went
 pub soonest_drop_none : (rule : AskRule) (slots : List Slot) (count : ℕ) → IsSoonest rule None slots (length slots) → IsSoonest rule None (drop count slots) (length (drop count slots))
@@ -179,6 +185,25 @@ pub soonest_skip : (rule : AskRule) (soonest : Option Soonest) (slots : List Slo
 soonest_skip rule soonest slots i j none is =
     soonest_pass rule soonest slots i j
     (λ p now l u fits due. let off = not_due now rule.delay rule.retry rule.asks (slice_get slots p) (none p l u) in absurd (cc (off, due))) is
+
+-- a slot is due from the moment on before which none is
+pub soonest_reached : (rule : AskRule) (before result : Option Soonest) (soonest moment : Option ℕ) (slots : List Slot) (start end index : ℕ) → moment ≡ soonest →
+    ((now : ℕ) → has_come (moment_of result) now ≡ (false || has_come moment now)) →
+    ((due : ℕ → ℕ → Bool) → Serves due None → ((now : ℕ) → now < 2 ^ 64 → due now index ≡ has_come moment now) → Serves due result) →
+    ((now : ℕ) → now < 2 ^ 64 → due_by rule slots now index ≡ has_come moment now) →
+    ((now : ℕ) → has_come (moment_of before) now ≡ true → has_come soonest now ≡ true) →
+    ((p now : ℕ) → start ≤ p → p < end → now < 2 ^ 64 → due_by rule slots now p ≡ true → has_come soonest now ≡ true) →
+    IsSoonest rule before slots start → IsSoonest rule result slots end
+soonest_reached rule before result soonest moment slots start end index same at serves here sooner none is =
+    let reach : (now : ℕ) → has_come soonest now ≡ true → has_come (moment_of result) now ≡ true = λ now come. at now ∙ ap (λ m. has_come m now) same ∙ come in
+    record {
+      not_before = λ i now l fits due.
+          ⊎_elim
+          (λ (early : i < start). reach now (sooner now (is.not_before i now early fits due)))
+          (λ late. reach now (none i now (omega (arith, late)) l fits due))
+          (cases_lt i start);
+      serves = serves (due_by rule slots) (λ s e. absurd cc) here;
+    }
 
 -- the next slot is met, which is due from a moment on
 pub soonest_meet : (rule : AskRule) (found soonest : Option Soonest) (moment : Option ℕ) (slots : List Slot) (next : ℕ) →

@@ -1,5 +1,5 @@
 -- Which missing places are due to be asked for, how many places are missing, and what an ask leaves.
-use Rattle.std.specs.Prelude.{◌≡◌, ◌↔◌, ℕ, zero, suc, ◌+◌, ◌-◌, ◌^◌, ◌<◌, ◌==◌, ◌||◌, ◌&&◌, Bool, true, false, List, [], length, slice_get, slice_set, Option, Some, None, if◌then◌else◌, nat_lt, nat_le}
+use Rattle.std.specs.Prelude.{◌≡◌, ◌↔◌, ℕ, zero, suc, ◌+◌, ◌-◌, ◌^◌, ◌<◌, ◌==◌, ◌||◌, ◌&&◌, Bool, true, false, List, [], ◌∷◌, length, slice_get, slice_set, Option, Some, None, IsSomeAnd, if◌then◌else◌, nat_lt, nat_le}
 use Rattle.std.specs.List.{filter, range_with_len}
 use Rattle.std.specs.Option.{option_map}
 use Rattle.stores.specs.declared.slot.Slot.{Slot}
@@ -86,6 +86,16 @@ asked_slots (Some k) slots p now = asked_at slots (p - k) now (slice_get slots (
 -- the window after an ask for the place p
 abbrev pub asked : Span → ℕ → ℕ → Span
 asked s p now = record { cursor = s.cursor; slots = asked_slots s.cursor s.slots p now; capacity = s.capacity }
+
+-- one more ask may be counted for each of these places, one after the other
+abbrev pub CanEachBeAsked : Span → List ℕ → (now : ℕ) → Type 0
+CanEachBeAsked s [] now = Unit
+CanEachBeAsked s (p ∷ places) now = IsSomeAnd (slot_at s p) CanBeAsked × CanEachBeAsked (asked s p now) places now
+
+-- the window after an ask for each of these places
+abbrev pub asked_each : Span → List ℕ → (now : ℕ) → Span
+asked_each s [] now = s
+asked_each s (p ∷ places) now = asked_each (asked s p now) places now
 
 -- An ask for the place p was counted: its slot has one more ask, the last one at the moment `now`, and nothing
 -- else changed.

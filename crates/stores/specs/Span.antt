@@ -1,6 +1,7 @@
 -- What a window is to its callers: a cursor, and one slot for each place from the cursor to the highest.
 use Rattle.std.specs.Prelude.{◌≡◌, ℕ, ◌+◌, ◌-◌, ◌^◌, ◌<◌, ◌≤◌, List, [], length, drop, slice_get, Option, Some, None}
 use Rattle.std.specs.Option.{ForSome, ForNone, option_map}
+use Rattle.circular_buffer.specs.Buffer.{Buffer}
 use Rattle.stores.specs.declared.slot.Slot.{Slot}
 
 pub record Span : Type 0 where
@@ -37,3 +38,7 @@ front_of s = slice_get s.slots 0
 -- the window after the slot of the cursor was taken out
 abbrev pub without_front : Span → Span
 without_front s = record { cursor = option_map (λ k. k + 1) s.cursor; slots = drop 1 s.slots; capacity = s.capacity }
+
+-- the window with this cursor and these slots
+abbrev pub span_of : Option ℕ → Buffer Slot → Span
+span_of cursor slots = record { cursor = cursor; slots = slots.items; capacity = slots.capacity }

@@ -2,7 +2,7 @@
 ghost use Rattle.std.specs.Prelude.{◌≡◌, ℕ, ◌+◌, ◌-◌, ◌*◌, ◌/◌, ◌%◌, ◌<◌, ◌≤◌, ◌==◌, true, false, length, replicate, MatchOption, IfOk, IfSome, IsTrue, if◌then◌else◌, nat_lt};
 ghost use Rattle.std.specs.Int.{bit_at};
 ghost use Rattle.stores.specs.Bits.{is_set, bits_of, turned, is_member, size_of, is_between, set_from, members_below};
-ghost use Rattle.stores.specs.Low.{word_of};
+ghost use Rattle.stores.specs.Low.{bit_in_word, word_of};
 ghost use Rattle.stores.specs.Run.{Covers};
 
 use crate::memory::OutOfMemory;
@@ -145,7 +145,18 @@ impl Bits {
         ensures word { result ≡ word_of (length self.now.words.items) self.now.front position }
         ensures within { result < length self.now.words.items }
     {
-        self.bit_of(position) / 64
+        let word = (self.front + position) / 64;
+        let count = self.words.len();
+        if word < count { word } else { word - count }
+    }
+
+    /// The number of the bit of this position in its word.
+    pub fn bit_in_word(&self, position: usize) -> usize
+        requires { position < bits_of self.now.words.items }
+        ensures bit { result ≡ bit_in_word (length self.now.words.items) self.now.front position }
+        ensures within { result < 64 }
+    {
+        (self.front + position) % 64
     }
 
     /// Whether the set has no position whose bit is in this word.
@@ -156,16 +167,9 @@ impl Bits {
         self.words[word] == 0
     }
 
-    /// Whether the set has no more than two positions for each word, for a choice between two walks.
+    /// Whether the set has no more than three positions for each word, for a choice between two walks.
     pub fn is_sparse(&self) -> bool {
-        self.count <= 2 * self.words.len()
-    }
-
-    /// Whether more than half of the bits of this position's word are set, for a choice between two walks.
-    pub fn is_dense(&self, position: usize) -> bool
-        requires { position < bits_of self.now.words.items }
-    {
-        self.words[self.word_of(position)].count_ones() > 32
+        self.count <= 3 * self.words.len()
     }
 
     /// The end of the positions from this one on whose bits are in its word.

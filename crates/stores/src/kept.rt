@@ -112,13 +112,3 @@ pub fn with_change(kept: Option<Answer>, slots: &Slots, index: usize) -> Option<
         soonest: Soonest::or(answer.soonest, moment, index),
     })
 }
-
-/// Makes it the answer once the slot at this index became another one, where there is one.
-pub fn note_change(kept: &mut Option<Answer>, slots: &Slots, index: usize)
-    ensures { (old : List Slot) → length old ≡ length slots.now.items → ((p : ℕ) → p ≢ index → slice_get slots.now.items p ≡ slice_get old p)
-        → ForSome kept.old (λ answer. Tells answer old) → ForSome kept.new (λ answer. Tells answer slots.now.items) }
-{
-    if kept.is_some() {
-        *kept = with_change(*kept, slots, index);
-    }
-}

@@ -1,9 +1,9 @@
 //! The least moments of the missing places of a block, for a walk that looks at no block without need.
-ghost use Rattle.std.specs.Prelude.{◌≡◌, ℕ, ◌^◌, ◌<◌, true, Option, Some, IsTrue};
+ghost use Rattle.std.specs.Prelude.{◌≡◌, ◌≢◌, ℕ, ◌^◌, ◌<◌, ◌==◌, false, true, Option, Some, IsTrue, if◌then◌else◌};
 ghost use Rattle.stores.specs.Lent.{slot_of};
 ghost use Rattle.stores.specs.declared.slot.Slot.{Slot};
 ghost use Rattle.stores.specs.Asking.{is_due, is_time, has_come};
-ghost use Rattle.stores.specs.Low.{IsLow};
+ghost use Rattle.stores.specs.Low.{IsLow, IsLowAt, leaves_out};
 
 use crate::ask_rule::{AskRule, sooner, time_from};
 use crate::slot::SlotRef;
@@ -18,6 +18,9 @@ pub struct Low {
     pub last: Option<u64>,
     /// Which places the bounds are of: those that were asked for fewer times.
     pub asks: u8,
+    /// The places that they leave out, by the bits of the block: those that a look found due. Where they are then asked for, as is usual,
+    /// the bounds are exact, and the block need not be looked at again.
+    pub without: u64,
 }
 
 impl Low {
@@ -26,12 +29,14 @@ impl Low {
         noticed: None,
         last: None,
         asks: u8::MAX,
+        without: 0,
     };
 
     /// A place of the block is missing from this moment on.
     pub fn notice(&mut self, now: u64)
         ensures noticed { has_come self.new.noticed now ≡ true }
         ensures kept { (slot : Option Slot) → IsLow self.old slot → IsLow self.new slot }
+        ensures without { self.new.without ≡ self.old.without }
     {
         self.noticed = sooner(self.noticed, Some(now));
     }
@@ -40,6 +45,7 @@ impl Low {
     pub fn ask(&mut self, now: u64)
         ensures asked { has_come self.new.last now ≡ true }
         ensures kept { (slot : Option Slot) → IsLow self.old slot → IsLow self.new slot }
+        ensures without { self.new.without ≡ self.old.without }
     {
         self.last = sooner(self.last, Some(now));
     }
@@ -48,6 +54,7 @@ impl Low {
     pub fn meet(&mut self, slot: SlotRef<'_>)
         ensures met { IsLow self.new (Some (slot_of slot.entry)) }
         ensures kept { (slot : Option Slot) → IsLow self.old slot → IsLow self.new slot }
+        ensures without { self.new.without ≡ self.old.without }
     {
         if let SlotRef::Missing {
             noticed,
@@ -66,11 +73,43 @@ impl Low {
         }
     }
 
+    /// Leaves out the place with this bit.
+    pub fn leave_out(&mut self, bit: usize)
+        requires { bit < 64 }
+        ensures without { (b : ℕ) → b < 64 → leaves_out self.new b ≡ (if b == bit then true else leaves_out self.old b) }
+        ensures kept { (slot : Option Slot) → IsLow self.old slot → IsLow self.new slot }
+    {
+        self.without |= 1 << bit;
+    }
+
+    /// Leaves out the place with this bit no more.
+    pub fn take_in(&mut self, bit: usize)
+        requires { bit < 64 }
+        ensures without { (b : ℕ) → b < 64 → leaves_out self.new b ≡ (if b == bit then false else leaves_out self.old b) }
+        ensures kept { (slot : Option Slot) → IsLow self.old slot → IsLow self.new slot }
+        ensures last { self.new.last ≡ self.old.last }
+    {
+        self.without &= !(1 << bit);
+    }
+
+    /// The place with this bit was asked for at this moment. Where another one of the block is noted to have been so, this knows it.
+    pub fn ask_for(&mut self, bit: usize, now: u64, noted: bool)
+        requires bit { bit < 64 }
+        requires noted { IsTrue noted → has_come self.old.last now ≡ true }
+        ensures asked { has_come self.new.last now ≡ true }
+        ensures kept { (slot : Option Slot) (b : ℕ) → b < 64 → b ≢ bit → IsLowAt self.old b slot → IsLowAt self.new b slot }
+    {
+        if !noted {
+            self.ask(now);
+        }
+        self.take_in(bit);
+    }
+
     /// The moment from which on a place of the block may be due by the rule: none is due before it.
     pub fn due_from(&self, rule: AskRule) -> Option<u64>
-        ensures { (slot : Option Slot) (now : ℕ) → now < 2 ^ 64 → IsLow self.now slot → is_due now rule.delay rule.retry rule.asks slot ≡ true → has_come result now ≡ true }
+        ensures { (slot : Option Slot) (bit now : ℕ) → bit < 64 → now < 2 ^ 64 → IsLowAt self.now bit slot → is_due now rule.delay rule.retry rule.asks slot ≡ true → has_come result now ≡ true }
     {
-        if rule.asks > self.asks {
+        if rule.asks > self.asks || self.without != 0 {
             return Some(0);
         }
         sooner(first_from(self.noticed, rule), again_from(self.last, rule))
@@ -103,7 +142,8 @@ pub fn has_come(moment: Option<u64>, now: u64) -> bool
 
 /// Whether one moment comes no sooner than another.
 pub fn is_no_sooner(one: Option<u64>, other: Option<u64>) -> bool
-    ensures { IsTrue result → (now : ℕ) → has_come one now ≡ true → has_come other now ≡ true }
+    ensures later { IsTrue result → (now : ℕ) → has_come one now ≡ true → has_come other now ≡ true }
+    ensures sooner { result ≡ false → (now : ℕ) → has_come other now ≡ true → has_come one now ≡ true }
 {
     match (one, other) {
         (None, _) => true,

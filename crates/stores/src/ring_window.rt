@@ -1,5 +1,8 @@
-ghost use Rattle.std.specs.Prelude.{◌≡◌, ◌+◌, ◌/◌, ◌^◌, ◌<◌, ◌≤◌, ◌++◌, length, drop, replicate};
+ghost use Rattle.std.specs.Prelude.{◌≡◌, ◌+◌, ◌/◌, ◌^◌, ◌<◌, ◌≤◌, ◌++◌, true, [], length, drop, take, replicate, slice_get, IfSome, IsSome, IsSomeAnd};
 ghost use Rattle.std.specs.Option.{ForSome, ForNone};
+ghost use Rattle.stores.specs.Span.{span_of};
+ghost use Rattle.stores.specs.ByPlace.{slot_at};
+ghost use Rattle.stores.specs.Asking.{longest_ask, due_places, has_come, CanBeAsked, asked};
 ghost use Rattle.stores.specs.Put.{noticed_at};
 ghost use Rattle.stores.specs.Bits.{bits_of};
 ghost use Rattle.stores.specs.Index.{IsIndex};
@@ -9,14 +12,14 @@ ghost use Rattle.stores.specs.Low.{AreLow};
 use crate::answer::{Answer, Soonest, moment_of};
 use crate::ask_rule::AskRule;
 use crate::bits::Bits;
-use crate::kept::{beside, note_change, with_change, with_jump, without_front};
+use crate::kept::{beside, with_change, with_jump, without_front};
 use crate::low::{Low, has_come};
 use crate::lows::{note_ask, note_missing};
 use crate::memory::OutOfMemory;
 use crate::slot::{PutFault, Slot, SlotRef};
 use crate::slots::Slots;
 use crate::spot::{Spot, spot_of};
-use crate::walks::{due_among, next_among, next_unless_due};
+use crate::walks::{due_among, find_due, next_among};
 use crate::window::{LONGEST_ASK, Window};
 use arrayvec::ArrayVec;
 use places::Place;
@@ -64,10 +67,37 @@ impl RingWindow {
         }
     }
 
+    /// Counts one more ask for this place of a window with this cursor, which keeps nothing. `noted` is the number of a word whose bounds
+    /// know of an ask at this moment, or that of no word; the answer is that of this place's word.
+    fn count_one(&mut self, cursor: u64, noted: usize, place: Place, now: u64) -> usize
+        requires cursor { self.old.cursor ≡ Some cursor }
+        requires kept { self.old.kept ≡ None }
+        requires askable { IsSomeAnd (slot_at (span_of self.old.cursor self.old.slots) place) CanBeAsked }
+        requires noted { IfSome (slice_get self.old.lows.items noted) (λ low. has_come low.last now ≡ true) }
+        ensures asked { span_of self.new.cursor self.new.slots ≡ asked (span_of self.old.cursor self.old.slots) place now }
+        ensures cursor { self.new.cursor ≡ self.old.cursor }
+        ensures kept { self.new.kept ≡ None }
+        ensures noted { IfSome (slice_get self.new.lows.items result) (λ low. has_come low.last now ≡ true) }
+    {
+        let index = (place.value() - cursor) as usize;
+        self.slots.count_ask(index, now);
+        note_ask(
+            &self.slots,
+            &self.missing,
+            &mut self.lows,
+            noted,
+            index,
+            now,
+        )
+    }
+
     /// The least moment from which on a slot is due by this rule, and such a slot.
     fn soonest(&self, rule: AskRule) -> Option<Soonest>
         ensures { IsSoonest rule result self.now.slots.items (length self.now.slots.items) }
     {
+        if self.missing.count() == 0 {
+            return None;
+        }
         match self.kept_by(rule) {
             Some(answer) => answer.soonest,
             None => next_among(&self.slots, &self.missing, &self.lows, rule),
@@ -187,42 +217,71 @@ impl Window for RingWindow {
     fn due_into(&self, due: &mut ArrayVec<Place, LONGEST_ASK>, now: u64, rule: AskRule) {
         match self.cursor {
             None => due.clear(),
-            Some(cursor) => due_among(
-                due,
-                cursor,
-                &self.slots,
-                &self.missing,
-                &self.lows,
-                now,
-                rule,
-            ),
+            Some(cursor) => due_among(due, cursor, &self.slots, &self.missing, now, rule),
         }
+    }
+
+    fn find_due(
+        &mut self,
+        due: &mut ArrayVec<Place, LONGEST_ASK>,
+        most: usize,
+        now: u64,
+        rule: AskRule,
+    )
+        ensures due { due.new.items ≡ take most (take longest_ask (due_places (span_of self.old.cursor self.old.slots) now rule.delay rule.retry rule.asks)) }
+        ensures same { span_of self.new.cursor self.new.slots ≡ span_of self.old.cursor self.old.slots }
+        // What is found where none is due is kept, so that nothing is looked for until that changes.
+        ensures kept { 0 < most → IsSome self.old.cursor → due.new.items ≡ [] → IsSomeAnd self.new.kept (λ answer. answer.rule ≡ rule) }
+    {
+        let Some(cursor) = self.cursor else {
+            due.clear();
+            return;
+        };
+        let found = find_due(
+            due,
+            most.min(LONGEST_ASK),
+            cursor,
+            &self.slots,
+            &self.missing,
+            &mut self.lows,
+            now,
+            rule,
+        );
+        self.kept = match found {
+            Some(soonest) => Some(Answer { rule, soonest }),
+            None => None,
+        };
     }
 
     fn next_due(&self, rule: AskRule) -> Option<u64> {
         moment_of(self.soonest(rule))
     }
 
-    fn has_none_due(&mut self, now: u64, rule: AskRule) -> bool {
-        if let Some(answer) = self.kept_by(rule) {
-            return !has_come(moment_of(answer.soonest), now);
+    fn has_none_due(&self, now: u64, rule: AskRule) -> bool {
+        match self.kept_by(rule) {
+            Some(answer) => !has_come(moment_of(answer.soonest), now),
+            None => false,
         }
-        let found = next_unless_due(&self.slots, &self.missing, &mut self.lows, now, rule);
-        let Some(soonest) = found else {
-            return false;
-        };
-        self.kept = Some(Answer { rule, soonest });
-        !has_come(moment_of(soonest), now)
     }
 
     fn count_ask(&mut self, place: Place, now: u64) {
         let Some(cursor) = self.cursor else {
             return;
         };
-        let index = (place.value() - cursor) as usize;
-        self.slots.count_ask(index, now);
-        note_change(&mut self.kept, &self.slots, index);
-        note_ask(&self.slots, &self.missing, &mut self.lows, index, now);
+        self.kept = None;
+        let none = self.lows.len();
+        self.count_one(cursor, none, place, now);
+    }
+
+    fn count_asks(&mut self, places: &[Place], now: u64) {
+        let Some(cursor) = self.cursor else {
+            return;
+        };
+        self.kept = None;
+        let mut noted = self.lows.len();
+        for place in places {
+            noted = self.count_one(cursor, noted, *place, now);
+        }
     }
 
     fn missing(&self) -> usize {

@@ -4,7 +4,7 @@ ghost use Rattle.stores.specs.Lent.{slot_of};
 ghost use Rattle.stores.specs.Span.{Span, IsSpan, empty_span, begun_span, highest_of, front_of, without_front};
 ghost use Rattle.stores.specs.Put.{put_answer, after_put};
 ghost use Rattle.stores.specs.ByPlace.{slot_at};
-ghost use Rattle.stores.specs.Asking.{longest_ask, due_places, missing_places, IsNextDue, CanBeAsked, asked};
+ghost use Rattle.stores.specs.Asking.{longest_ask, due_places, missing_places, IsNextDue, CanBeAsked, CanEachBeAsked, asked, asked_each};
 
 use crate::ask_rule::AskRule;
 use crate::memory::OutOfMemory;
@@ -132,11 +132,26 @@ pub trait Window: Drop {
     fn next_due(&self, rule: AskRule) -> Option<u64>
         ensures { IsNextDue (meaning self.now) rule.delay rule.retry rule.asks result };
 
-    /// Whether it is plain that no place is due at the moment `now` by the rule; false tells nothing. It is for a caller that asks by one
-    /// rule again and again, before it calls [`due_into`](Window::due_into): a window may keep what it found, for as long as that holds.
-    fn has_none_due(&mut self, now: u64, rule: AskRule) -> bool
-        ensures none { IsTrue result → due_places (meaning self.old) now rule.delay rule.retry rule.asks ≡ [] }
+    /// The same places as [`due_into`](Window::due_into), at most so many. It is for a caller that asks by one rule again and again: a window
+    /// may keep what it finds, so that later calls need not look for it.
+    fn find_due(
+        &mut self,
+        due: &mut ArrayVec<Place, LONGEST_ASK>,
+        most: usize,
+        now: u64,
+        rule: AskRule,
+    )
+        ensures due { due.new.items ≡ take most (take longest_ask (due_places (meaning self.old) now rule.delay rule.retry rule.asks)) }
         ensures same { meaning self.new ≡ meaning self.old }
+    {
+        self.due_into(due, now, rule);
+        due.truncate(most);
+    }
+
+    /// Whether it is plain that no place is due at the moment `now` by the rule, by what a window kept; false tells nothing. A caller that
+    /// asks by one rule again and again asks this before it calls [`find_due`](Window::find_due).
+    fn has_none_due(&self, now: u64, rule: AskRule) -> bool
+        ensures { IsTrue result → due_places (meaning self.now) now rule.delay rule.retry rule.asks ≡ [] }
     {
         false
     }
@@ -146,6 +161,16 @@ pub trait Window: Drop {
     fn count_ask(&mut self, place: Place, now: u64)
         requires { IsSomeAnd (slot_at (meaning self.old) place) CanBeAsked }
         ensures { meaning self.new ≡ asked (meaning self.old) place now };
+
+    /// Counts one more ask for each of these places, one after the other, as [`count_ask`](Window::count_ask) does.
+    fn count_asks(&mut self, places: &[Place], now: u64)
+        requires { CanEachBeAsked (meaning self.old) places.now now }
+        ensures { meaning self.new ≡ asked_each (meaning self.old) places.now now }
+    {
+        for place in places {
+            self.count_ask(*place, now);
+        }
+    }
 
     /// How many places are missing.
     fn missing(&self) -> usize

@@ -2,6 +2,7 @@ use Rattle.std.proofs.Common.{◌≡◌, ℕ, subst, ap, take, ◌∙◌, List}
 use Rattle.rtpwire.specs.Session.{Streams}
 use Rattle.fbwire.specs.Nack.{Nack, NackSpells}
 use Rattle.fbwire.specs.Packing.{IsPacking, IsNarrow}
+use Rattle.stores.specs.Span.{Span}
 use Rattle.receiver.specs.Counted.{CountsAsks}
 use Rattle.receiver.proofs.Asking.{asks_some}
 use Rattle.receiver.proofs.asks.ask_due.Goals as goal
@@ -19,4 +20,5 @@ returns-clause-asks g c = λ learnt.
     found.covers
     (subst (λ (places : List ℕ). IsPacking places c.in-Some.pairs.items c.in-Some.count) found.due found.packing)
     (subst (λ (n : Nack). NackSpells n c.write_nack.result.items) (λ i. record { reporter = reporter i; media = media i; pairs = c.as_slice-2.ensures.value i }) c.write_nack.ensures)
-    (subst (λ (places : List ℕ). CountsAsks s (g.W.Window.meaning c.count_asks.new.window) (take c.in-Some.count places) c.args.now) (c.as_slice.ensures.value ∙ found.due) c.count_asks.ensures)
+    (subst (λ (places : List ℕ). CountsAsks s (g.W.Window.meaning c.count_asks.new.window) (take c.in-Some.count places) c.args.now) (c.as_slice.ensures.value ∙ found.due)
+    (subst (λ (t : Span). CountsAsks t (g.W.Window.meaning c.count_asks.new.window) (take c.in-Some.count c.as_slice.result.now) c.args.now) c.pairs_due.ensures.same c.count_asks.ensures))

@@ -3,6 +3,7 @@ use Rattle.rtpwire.specs.Buffer.{in_front}
 use Rattle.rtpwire.specs.Session.{Streams}
 use Rattle.fbwire.specs.Nack.{Nack, NackSpells}
 use Rattle.fbwire.specs.Packing.{IsPacking, IsNarrow}
+use Rattle.stores.specs.Span.{Span}
 use Rattle.receiver.specs.Counted.{CountsAsks}
 use Rattle.receiver.specs.Asks.{AnyNeedsRoom}
 use Rattle.receiver.specs.Window.{window_of}
@@ -17,7 +18,7 @@ returns-then-out-needed-clause-asks g c = λ learnt.
     c.in-Some.ensures.lists
     (λ none. found.some (found.due ∙ none))
     (subst (λ (places : List ℕ). IsPacking places c.in-Some.pairs.items c.in-Some.count) found.due found.packing) in
-    (subst (λ n. AnyNeedsRoom c.args.config.now (window_of learnt s) c.args.now c.args.most (12 + 4 * n)) (sym c.len.ensures.value) room, c.if-out-needed.true, refl, refl)
+    (subst (λ n. AnyNeedsRoom c.args.config.now (window_of learnt s) c.args.now c.args.most (12 + 4 * n)) (sym c.len.ensures.value) room, c.if-out-needed.true, refl, ap (λ (t : Span). window_of learnt t) c.pairs_due.ensures.same)
 
 pub returns-clause-asks : goal.returns-clause-asks
 returns-clause-asks g c = λ learnt.
@@ -38,7 +39,8 @@ returns-clause-asks g c = λ learnt.
           found.covers
           (subst (λ (places : List ℕ). IsPacking places c.in-Some.pairs.items c.in-Some.count) found.due found.packing)
           (subst (λ (n : Nack). NackSpells n (take writes.result writes.new.out)) (λ i. record { reporter = reporter i; media = media i; pairs = c.as_slice-2.ensures.value i }) writes.ensures.spells)
-          (subst (λ (places : List ℕ). CountsAsks s (g.W.Window.meaning c.count_asks.new.window) (take c.in-Some.count places) c.args.now) (c.as_slice.ensures.value ∙ found.due) c.count_asks.ensures),
+          (subst (λ (places : List ℕ). CountsAsks s (g.W.Window.meaning c.count_asks.new.window) (take c.in-Some.count places) c.args.now) (c.as_slice.ensures.value ∙ found.due)
+          (subst (λ (t : Span). CountsAsks t (g.W.Window.meaning c.count_asks.new.window) (take c.in-Some.count c.as_slice.result.now) c.args.now) c.pairs_due.ensures.same c.count_asks.ensures)),
       record {
         within = omega (arith, as_long, counted, not, same, many);
         behind = writes.ensures.written ∙ ap (λ (front : List ℕ). in_front front c.args.out.now) (sym writes.ensures.spells.spelled);

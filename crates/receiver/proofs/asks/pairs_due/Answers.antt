@@ -4,7 +4,8 @@ use Rattle.stores.specs.declared.ask_rule.AskRule.{AskRule}
 use Rattle.stores.specs.Asking.{due_places, longest_ask}
 use Rattle.receiver.specs.Asks.{looked_at}
 use Rattle.receiver.proofs.Rising.{rising_take}
-use Rattle.receiver.proofs.Asking.{due_narrow, due_askable, none_due, some_due, positive, take_lesser}
+use Rattle.stores.proofs.DueSlots.{take_lesser}
+use Rattle.receiver.proofs.Asking.{due_narrow, due_askable, none_due, some_due, positive}
 use Rattle.receiver.proofs.asks.pairs_due.Goals as goal
 
 pub pack-requires : goal.pack-requires
@@ -14,7 +15,7 @@ pack-requires g c =
     let law = c.window_by_place.ensures in
     let rule = c.rule.result in
     let lists = law.due s c.args.now rule.delay rule.retry rule.asks in
-    let items = c.as_slice.ensures.value ∙ c.truncate.ensures.items ∙ ap (take c.args.most) c.due_into.ensures in
+    let items = c.as_slice.ensures.value ∙ c.find_due.ensures.due in
     record {
       rising = rw items (rising_take c.args.most _ (rising_take longest_ask (due_places s c.args.now rule.delay rule.retry rule.asks) lists.rises));
       narrow = rw items (due_narrow s is (λ q some. (law.inside s q is).0 some) c.args.now rule.delay rule.retry rule.asks lists longest_ask c.args.most);
@@ -25,8 +26,8 @@ returns-then-is_empty-clause-found g c =
     let s = g.W.Window.meaning c.args.window.now in
     let config = c.args.config.now in
     let due = due_places s c.args.now config.delay config.retry config.asks in
-    let is = c.truncate.ensures.items ∙ ap (take c.args.most) (c.due_into.ensures ∙ ap (λ (r : AskRule). take longest_ask (due_places s c.args.now r.delay r.retry r.asks)) c.rule.ensures.value) ∙ take_lesser c.args.most longest_ask (looked_at c.args.most) due refl in
-    none_due c.truncate.new.self.items (take (looked_at c.args.most) due) is (sym c.is_empty.ensures ∙ c.if-is_empty.true)
+    let is = c.find_due.ensures.due ∙ ap (λ (r : AskRule). take c.args.most (take longest_ask (due_places s c.args.now r.delay r.retry r.asks))) c.rule.ensures.value ∙ take_lesser c.args.most longest_ask (looked_at c.args.most) due refl in
+    none_due c.find_due.new.due.items (take (looked_at c.args.most) due) is (sym c.is_empty.ensures ∙ c.if-is_empty.true)
 
 pub returns-clause-found : goal.returns-clause-found
 returns-clause-found g c =
@@ -36,9 +37,9 @@ returns-clause-found g c =
     let config = c.args.config.now in
     let lists = law.due s c.args.now config.delay config.retry config.asks in
     let all = due_places s c.args.now config.delay config.retry config.asks in
-    let first = c.truncate.new.self.items in
+    let first = c.find_due.new.due.items in
     let swapped : first ≡ take c.args.most (take longest_ask all) =
-    c.truncate.ensures.items ∙ ap (take c.args.most) (c.due_into.ensures ∙ ap (λ (r : AskRule). take longest_ask (due_places s c.args.now r.delay r.retry r.asks)) c.rule.ensures.value) in
+    c.find_due.ensures.due ∙ ap (λ (r : AskRule). take c.args.most (take longest_ask (due_places s c.args.now r.delay r.retry r.asks))) c.rule.ensures.value in
     let some = some_due first _ refl (sym c.is_empty.ensures ∙ c.if-is_empty.false) in
     let packed = c.pack.ensures.some (subst (λ (places : List ℕ). 0 < length places) (sym c.as_slice.ensures.value) (positive first some)) in
     record {

@@ -1,19 +1,9 @@
-use Rattle.std.proofs.Common.{◌≡◌, slice_get, Some, rules, ap, sym, ◌∙◌, arith}
+use Rattle.std.proofs.Common.{◌≡◌, length, slice_get, Some, rules, ap, sym, ◌∙◌, arith}
 use Rattle.stores.specs.Asking.{is_due}
-use Rattle.stores.specs.Kept.{due_by}
 use Rattle.stores.specs.Lent.{slot_of}
 use Rattle.stores.proofs.SlotPlaces.{missing_within}
-use Rattle.stores.proofs.Soonest.{soonest_first, soonest_skip, soonest_meet}
+use Rattle.stores.proofs.Soonest.{soonest_skip, soonest_meet}
 use Rattle.stores.proofs.walks.next_of_few.Goals as goal
-
-pub returns-then-has_come-clause-serves : goal.returns-then-has_come-clause-serves
-returns-then-has_come-clause-serves c =
-    let next = c.in-Some.next in
-    let slots = c.args.slots.now.items in
-    let rule = c.args.rule in
-    let got : slice_get slots next ≡ Some (slot_of c.unwrap.result) = search rules in
-    c.or.ensures.serves (due_by rule slots) (soonest_first rule slots).serves
-    (λ now fits. ap (is_due now rule.delay rule.retry rule.asks) got ∙ c.due_from-moment.ensures now fits)
 
 pub loop-next-preserved : goal.loop-next-preserved
 loop-next-preserved c =
@@ -32,3 +22,10 @@ loop-next-preserved c =
           (λ now fits. ap (is_due now rule.delay rule.retry rule.asks) got ∙ c.due_from-moment.ensures now fits) skip;
       within = omega arith;
     }
+
+pub returns : goal.returns
+returns c =
+    let slots = c.args.slots.now.items in
+    let room = c.requires.room in
+    let none = c.in_default.ensures in
+    soonest_skip c.args.rule c.loop-next.least slots c.loop-next.index (length slots) (λ p l u. sym (c.requires.index p (omega arith)) ∙ none p l (omega arith)) c.loop-next.invariant.so_far

@@ -4,7 +4,7 @@ use Rattle.stores.specs.Bits.{is_member}
 use Rattle.stores.specs.Kept.{IsSoonest}
 use Rattle.stores.specs.Lent.{slot_of}
 use Rattle.stores.proofs.DueSlots.{lent_within}
-use Rattle.stores.proofs.Soonest.{soonest_skip, soonest_meet}
+use Rattle.stores.proofs.Soonest.{soonest_skip, soonest_meet, soonest_reached}
 use Rattle.stores.proofs.walks.next_within.Goals as goal
 
 pub loop-found-init : goal.loop-found-init
@@ -66,3 +66,14 @@ returns c =
     let missing = c.args.missing.now in
     let none = c.in_default.ensures.none (is_member missing.words.items missing.front) c.args.end c.loop-found.invariant.covers in
     soonest_skip c.args.rule c.loop-found.least slots c.loop-found.left.position c.args.end (λ p l u. sym (c.requires.index p (omega arith)) ∙ none p (omega arith) u) c.loop-found.invariant.so_far
+
+-- none is due sooner
+pub returns-then-eq : goal.returns-then-eq
+returns-then-eq c =
+    let slots = c.args.slots.now.items in
+    let rule = c.args.rule in
+    let found = c.in-Some.found in
+    let got : slice_get slots found ≡ Some (slot_of c.unwrap.result) = search rules in
+    let same : c.due_from-moment.result ≡ c.args.soonest = search rules in
+    soonest_reached rule c.args.before c.or.result c.args.soonest c.due_from-moment.result slots c.args.start c.args.end found same c.or.ensures.sooner c.or.ensures.serves
+    (λ now fits. ap (is_due now rule.delay rule.retry rule.asks) got ∙ c.due_from-moment.ensures now fits) c.requires.sooner c.requires.none c.requires.before

@@ -22,19 +22,10 @@ not_true : (b : Bool) → IsTrue (not b) → b ≡ false
 not_true true is = absurd cc
 not_true false is = refl
 
--- what is kept
-pub returns-in-Some-clause-none : goal.returns-in-Some-clause-none
-returns-in-Some-clause-none c = λ none.
+pub returns-in-Some : goal.returns-in-Some
+returns-in-Some c = λ none.
     let w = c.args.self.now in
     let answer = c.in-Some.answer in
     let told = subst (λ (r : AskRule). IsSoonest r answer.soonest w.slots.items (length w.slots.items)) (c.in-Some.ensures.rule answer refl) (c.in-Some.ensures.told answer refl) in
     let later = ap (λ m. has_come m c.args.now) (sym c.moment_of.ensures) ∙ sym c.has_come.ensures ∙ not_true c.has_come.result none in
     none_yet w.cursor w.slots.items w.slots.capacity c.args.now c.args.rule answer.soonest w.unstarted c.ranges.now.fits told later
-
--- what was found
-pub returns-clause-none : goal.returns-clause-none
-returns-clause-none c = λ none.
-    let w = c.args.self.now in
-    let soonest = c.in-Some-found.soonest in
-    let later = ap (λ m. has_come m c.args.now) (sym c.moment_of-2.ensures) ∙ sym c.has_come-2.ensures ∙ not_true c.has_come-2.result none in
-    none_yet w.cursor w.slots.items w.slots.capacity c.args.now c.args.rule soonest w.unstarted c.ranges.now.fits c.in-Some-found.ensures.found later
