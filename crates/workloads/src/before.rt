@@ -1,14 +1,17 @@
 //! A relay before a network, whose far side is a receiving endpoint in memory.
 use crate::behind::local;
+use crate::packets::packet_of;
 use crate::path::{Batch, Path};
 use crate::receiving::hear_all;
 use crate::scene::Scene;
 use crate::shape::Shape;
+use crate::telling::{add_received, add_sent};
+use crate::turns::{add_address, add_turn};
 use endpoint::AskingEndpoint;
 use relays::{
     Bounds, Meeting, Octets, Outside, OutsideFault, Pace, Rate, SendRelay, Side, Stream, Turn, run,
 };
-use rtpwire::{Carried, MAX_DATAGRAM, Words, media_len, write_media_into};
+use rtpwire::{Carried, MAX_DATAGRAM, media_len, write_media_into};
 use std::alloc::Global;
 use std::net::SocketAddr;
 use stores::{OutOfMemory, RingHistory, RingWindow};
@@ -55,23 +58,21 @@ impl Before {
 
     /// Writes the next packet of the application, and answers how many octets it has.
     fn packet(&self, out: &mut [u8]) -> usize {
-        let (timestamp, is_last) = self.shape.timestamp_of(self.sent);
-        let payload = self.scene.payloads.of(self.shape.content_of(self.sent));
         let number = (self.sent % 65536) as u16;
         let number = number.wrapping_add(self.shape.first);
-        match Carried::of_fields(payload, timestamp, is_last, Words::Numbers(&[]), None) {
-            Ok(carried) => write(&carried, number, out),
+        match packet_of(&self.scene.payloads, &self.shape, self.sent) {
+            Ok((carried, padding)) => write(&carried, padding, number, out),
             Err(_) => 0,
         }
     }
 }
 
-/// Writes a packet of the application with this number, and answers how many octets it has: none where there is no room.
-fn write(carried: &Carried<'_>, number: u16, out: &mut [u8]) -> usize {
-    if media_len(carried, 0) > out.len() {
+/// Writes a packet of the application with this number, and answers how many octets it has: none where there is no payload or no room.
+fn write(carried: &Carried<'_>, padding: u8, number: u16, out: &mut [u8]) -> usize {
+    if carried.payload().is_empty() || media_len(carried, padding) > out.len() {
         return 0;
     }
-    write_media_into(out, carried, 0, number, 96, 0x1111_1111)
+    write_media_into(out, carried, padding, number, 96, 0x1111_1111)
 }
 
 impl Outside for Before {
@@ -115,40 +116,46 @@ impl Outside for Before {
         })
     }
 
-    fn send(&mut self, _side: Side, _to: SocketAddr, octets: &[u8]) {
-        let header = octets.get(..16).unwrap_or(&[]);
-        self.scene.digest.add_octets(header);
+    fn send(&mut self, side: Side, to: SocketAddr, octets: &[u8]) {
+        add_address(&mut self.scene.digest, side, to);
+        self.scene.digest.add_datagram(octets);
         let carried = self.there.carry(&mut self.scene.draws, self.turn, octets);
         self.failed = self.failed || carried.is_err();
     }
 
-    fn tell(&mut self, _turn: &Turn, _octets: &[u8], _now: u64) {}
+    fn tell(&mut self, turn: &Turn, octets: &[u8], now: u64) {
+        add_turn(&mut self.scene.digest, turn, now);
+        self.scene.digest.add(octets.len() as u64);
+    }
+}
+
+/// Such a relay, for so many turns.
+fn relay(alloc: Global, shape: &Shape, turns: u64) -> Result<SendRelay<RingHistory>, OutOfMemory> {
+    let Ok(sending) = shape.sender() else {
+        return Err(OutOfMemory);
+    };
+    SendRelay::new(
+        alloc,
+        sending,
+        shape.rule(),
+        shape.capacity.clamp(1, 8192),
+        local(6004),
+        Stream::new(0x1111_1111),
+        Pace::new(Rate::Percent(100)),
+        Bounds {
+            packets: None,
+            until: Some(turns.saturating_mul(shape.turn)),
+        },
+    )
 }
 
 /// Runs such a relay over this session until so many turns are over, and answers what is outside.
 pub fn send(alloc: Global, scene: Scene, shape: Shape, turns: u64) -> Result<Scene, OutOfMemory> {
-    let capacity = shape.capacity.clamp(1, 8192);
-    let (Ok(sending), Ok(receiving)) = (shape.sender(), shape.receiver()) else {
-        return Err(OutOfMemory);
-    };
-    let bounds = Bounds {
-        packets: None,
-        until: Some(turns.saturating_mul(shape.turn)),
-    };
-    let mut relay = SendRelay::<RingHistory>::new(
-        alloc,
-        sending,
-        shape.rule(),
-        capacity,
-        local(6004),
-        Stream::new(0x1111_1111),
-        Pace::new(Rate::Percent(100)),
-        bounds,
-    )?;
+    let mut relay = relay(alloc, &shape, turns)?;
     let mut outside = Before {
         scene,
         shape,
-        receiver: AskingEndpoint::new(alloc, receiving, shape.probation(), capacity)?,
+        receiver: shape.receiving_end(alloc)?,
         there: Path::new(alloc, shape.there)?,
         back: Path::new(alloc, shape.back)?,
         turn: 0,
@@ -160,7 +167,11 @@ pub fn send(alloc: Global, scene: Scene, shape: Shape, turns: u64) -> Result<Sce
         failed: false,
     };
     let ended = run(&mut outside, &mut relay);
-    outside.scene.digest.add(u64::from(ended.is_ok()));
-    outside.scene.digest.add(relay.counts().sent);
+    let digest = &mut outside.scene.digest;
+    digest.add(u64::from(ended.is_ok()));
+    add_sent(digest, &relay.counts(), &relay.passed());
+    let receiver = &outside.receiver;
+    let counts = receiver.endpoint().counts();
+    add_received(&mut outside.scene.digest, &counts, &receiver.kinds());
     Ok(outside.scene)
 }

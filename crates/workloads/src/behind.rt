@@ -3,6 +3,8 @@ use crate::path::{Batch, Path};
 use crate::scene::Scene;
 use crate::sending::{hear_feedback, retransmit_all, send_media};
 use crate::shape::Shape;
+use crate::telling::{add_received, add_sent};
+use crate::turns::{add_address, add_turn};
 use endpoint::TimelyEndpoint;
 use relays::{
     Bounds, Meeting, Numbering, Octets, Outside, OutsideFault, ReceiveRelay, Side, Turn, run,
@@ -90,22 +92,43 @@ impl Outside for Behind {
         })
     }
 
-    fn send(&mut self, side: Side, _to: SocketAddr, octets: &[u8]) {
-        match side {
-            Side::Near => {
-                self.scene.digest.add(octets.len() as u64);
-                let header = octets.get(..12).unwrap_or(&[]);
-                self.scene.digest.add_octets(header);
-            }
-            Side::Far => {
-                self.scene.digest.add_octets(octets);
-                let carried = self.back.carry(&mut self.scene.draws, self.turn, octets);
-                self.failed = self.failed || carried.is_err();
-            }
+    fn send(&mut self, side: Side, to: SocketAddr, octets: &[u8]) {
+        add_address(&mut self.scene.digest, side, to);
+        self.scene.digest.add_octets(octets);
+        if side == Side::Far {
+            let carried = self.back.carry(&mut self.scene.draws, self.turn, octets);
+            self.failed = self.failed || carried.is_err();
         }
     }
 
-    fn tell(&mut self, _turn: &Turn, _octets: &[u8], _now: u64) {}
+    fn tell(&mut self, turn: &Turn, octets: &[u8], now: u64) {
+        add_turn(&mut self.scene.digest, turn, now);
+        self.scene.digest.add(octets.len() as u64);
+    }
+}
+
+/// Such a relay, for so many turns.
+fn relay(
+    alloc: Global,
+    shape: &Shape,
+    turns: u64,
+) -> Result<ReceiveRelay<RingWindow>, OutOfMemory> {
+    let Ok(receiving) = shape.receiver() else {
+        return Err(OutOfMemory);
+    };
+    ReceiveRelay::new(
+        alloc,
+        receiving,
+        shape.capacity.clamp(1, 8192),
+        local(6004),
+        local(5004),
+        Numbering::new(0x4444_4444),
+        None,
+        Bounds {
+            packets: None,
+            until: Some(turns.saturating_mul(shape.turn)),
+        },
+    )
 }
 
 /// Runs such a relay over this session until so many turns are over, and answers what is outside.
@@ -115,28 +138,11 @@ pub fn receive(
     shape: Shape,
     turns: u64,
 ) -> Result<Scene, OutOfMemory> {
-    let capacity = shape.capacity.clamp(1, 8192);
-    let (Ok(sending), Ok(receiving)) = (shape.sender(), shape.receiver()) else {
-        return Err(OutOfMemory);
-    };
-    let bounds = Bounds {
-        packets: None,
-        until: Some(turns.saturating_mul(shape.turn)),
-    };
-    let mut relay = ReceiveRelay::<RingWindow>::new(
-        alloc,
-        receiving,
-        capacity,
-        local(6004),
-        local(5004),
-        Numbering::new(0x4444_4444),
-        None,
-        bounds,
-    )?;
+    let mut relay = relay(alloc, &shape, turns)?;
     let mut outside = Behind {
         scene,
         shape,
-        sender: TimelyEndpoint::new(alloc, sending, shape.rule(), capacity)?,
+        sender: shape.sending_end(alloc)?,
         there: Path::new(alloc, shape.there)?,
         back: Path::new(alloc, shape.back)?,
         turn: 0,
@@ -146,9 +152,11 @@ pub fn receive(
         failed: false,
     };
     let ended = run(&mut outside, &mut relay);
-    outside.scene.digest.add(u64::from(ended.is_ok()));
-    let counts = relay.counts();
-    outside.scene.digest.add(counts.played);
-    outside.scene.digest.add(counts.gaps);
+    let digest = &mut outside.scene.digest;
+    digest.add(u64::from(ended.is_ok()));
+    add_received(digest, &relay.counts(), &relay.kinds());
+    let sender = &outside.sender;
+    let counts = sender.endpoint().counts();
+    add_sent(&mut outside.scene.digest, &counts, &sender.passed());
     Ok(outside.scene)
 }

@@ -7,6 +7,7 @@ use crate::receiving::hear_all;
 use crate::scene::Scene;
 use crate::sending::{hear_feedback, retransmit_all, send_media};
 use crate::shape::Shape;
+use crate::telling::{add_received, add_sent};
 use endpoint::{AskingEndpoint, TimelyEndpoint};
 use std::alloc::Global;
 use stores::{OutOfMemory, RingHistory, RingWindow};
@@ -24,14 +25,10 @@ pub struct Call {
 impl Call {
     /// A session of this shape that did nothing so far.
     pub fn new(alloc: Global, shape: Shape) -> Result<Call, OutOfMemory> {
-        let capacity = shape.capacity.clamp(1, 8192);
-        let (Ok(sending), Ok(receiving)) = (shape.sender(), shape.receiver()) else {
-            return Err(OutOfMemory);
-        };
         Ok(Call {
             shape,
-            sender: TimelyEndpoint::new(alloc, sending, shape.rule(), capacity)?,
-            receiver: AskingEndpoint::new(alloc, receiving, shape.probation(), capacity)?,
+            sender: shape.sending_end(alloc)?,
+            receiver: shape.receiving_end(alloc)?,
             there: Path::new(alloc, shape.there)?,
             back: Path::new(alloc, shape.back)?,
         })
@@ -57,10 +54,9 @@ impl Call {
     /// Adds what its ends counted.
     fn tell(&self, digest: &mut Digest) {
         let counts = self.receiver.endpoint().counts();
-        digest.add(counts.played);
-        digest.add(counts.gaps);
-        digest.add(self.sender.passed().early);
-        digest.add(self.sender.passed().expired);
+        add_received(digest, &counts, &self.receiver.kinds());
+        let counts = self.sender.endpoint().counts();
+        add_sent(digest, &counts, &self.sender.passed());
     }
 }
 

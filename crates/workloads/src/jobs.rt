@@ -4,18 +4,29 @@ use crate::behind::receive;
 use crate::calls::hold;
 use crate::digest::Digest;
 use crate::path::Weather;
+use crate::payloads::Lengths;
 use crate::scene::Scene;
 use crate::shape::{CLEAR, Shape};
 use crate::tool::{sim, soak};
 use std::alloc::Global;
 use stores::OutOfMemory;
 
+/// Video: most packets are as long as they may be, and one of eight is shorter, as the last of a frame.
+const FULL: Lengths = Lengths {
+    least: 100,
+    most: 1200,
+    odd: 1,
+};
+
 /// Video over a fair network: 10,000 packets a second of up to 1200 octets, 2 % lost, some late, some twice.
 pub const VIDEO: Shape = Shape {
     capacity: 1024,
     turn: 1,
     packets: 10,
+    every: 1,
     frame: 30,
+    lengths: FULL,
+    is_called: false,
     there: Weather {
         losses: 20,
         late: 20,
@@ -38,10 +49,14 @@ pub const OUTAGE: Shape = Shape {
     capacity: 8192,
     turn: 1,
     packets: 4,
+    every: 1,
     frame: 60,
+    lengths: FULL,
+    is_called: false,
     there: Weather {
         losses: 17,
         burst: 20,
+        twice: 5,
         period: 5000,
         outage: 1000,
         ..CLEAR
@@ -61,12 +76,20 @@ pub const VOICE: Shape = Shape {
     capacity: 64,
     turn: 20,
     packets: 1,
+    every: 1,
     frame: 1,
+    lengths: Lengths {
+        least: 80,
+        most: 160,
+        odd: 1,
+    },
+    is_called: false,
     there: Weather {
         delay: 2,
         losses: 20,
         late: 20,
         jitter: 2,
+        twice: 5,
         ..CLEAR
     },
     back: Weather { delay: 2, ..CLEAR },
@@ -76,6 +99,52 @@ pub const VOICE: Shape = Shape {
     content: 0,
 };
 
+/// The pictures of a call: 400 packets a second, over a network of which an answer takes 50 milliseconds.
+pub const PICTURES: Shape = Shape {
+    capacity: 1024,
+    turn: 5,
+    packets: 2,
+    every: 1,
+    frame: 14,
+    lengths: Lengths {
+        least: 200,
+        most: 1200,
+        odd: 8,
+    },
+    is_called: true,
+    there: Weather {
+        delay: 5,
+        losses: 20,
+        late: 20,
+        jitter: 3,
+        twice: 10,
+        ..CLEAR
+    },
+    back: Weather {
+        delay: 5,
+        losses: 20,
+        ..CLEAR
+    },
+    patience: 250,
+    retry: 70,
+    first: 0,
+    content: 0,
+};
+
+/// Its sound: 50 packets a second.
+pub const SOUND: Shape = Shape {
+    capacity: 256,
+    packets: 1,
+    every: 4,
+    frame: 1,
+    lengths: Lengths {
+        least: 40,
+        most: 160,
+        odd: 8,
+    },
+    ..PICTURES
+};
+
 /// A session with a window of 1024 places and one with 8192, for so many turns of a millisecond.
 pub fn stream(alloc: Global, seed: u32, turns: u64) -> Result<Digest, OutOfMemory> {
     let wide = Shape {
@@ -83,25 +152,36 @@ pub fn stream(alloc: Global, seed: u32, turns: u64) -> Result<Digest, OutOfMemor
         patience: 400,
         ..VIDEO
     };
-    let scene = Scene::new(alloc, seed, 100, 1200)?;
+    let scene = Scene::new(alloc, seed)?;
     hold(alloc, scene, &[VIDEO, wide], turns)
 }
 
 /// A session that is cut off again and again, for so many turns of a millisecond.
 pub fn outage(alloc: Global, seed: u32, turns: u64) -> Result<Digest, OutOfMemory> {
-    let scene = Scene::new(alloc, seed, 100, 1200)?;
+    let scene = Scene::new(alloc, seed)?;
     hold(alloc, scene, &[OUTAGE], turns)
 }
 
 /// A thousand voices, for so many turns of 20 milliseconds.
 pub fn audio(alloc: Global, seed: u32, turns: u64) -> Result<Digest, OutOfMemory> {
-    let scene = Scene::new(alloc, seed, 80, 160)?;
+    let scene = Scene::new(alloc, seed)?;
     let mut shapes = Vec::new(alloc);
     for number in 0..1000usize {
         shapes.push(Shape {
             capacity: 64 << (number % 4),
             ..VOICE
         })?;
+    }
+    hold(alloc, scene, shapes.as_slice(), turns)
+}
+
+/// A call of thirty: pictures and sound by turns, for so many turns of five milliseconds.
+pub fn call(alloc: Global, seed: u32, turns: u64) -> Result<Digest, OutOfMemory> {
+    let scene = Scene::new(alloc, seed)?;
+    let mut shapes = Vec::new(alloc);
+    for _ in 0..15usize {
+        shapes.push(PICTURES)?;
+        shapes.push(SOUND)?;
     }
     hold(alloc, scene, shapes.as_slice(), turns)
 }
@@ -113,7 +193,7 @@ pub fn relay(alloc: Global, seed: u32, turns: u64) -> Result<Digest, OutOfMemory
         patience: 200,
         ..VIDEO
     };
-    let scene = Scene::new(alloc, seed, 100, 1200)?;
+    let scene = Scene::new(alloc, seed)?;
     let scene = receive(alloc, scene, shape, turns)?;
     let scene = send(alloc, scene, shape, turns)?;
     Ok(scene.digest)
@@ -125,6 +205,7 @@ fn all(alloc: Global, seed: u32, size: u64) -> Result<Digest, OutOfMemory> {
     digest.add(stream(alloc, seed, size)?.value());
     digest.add(outage(alloc, seed, size)?.value());
     digest.add(audio(alloc, seed, size)?.value());
+    digest.add(call(alloc, seed, size)?.value());
     digest.add(relay(alloc, seed, size)?.value());
     digest.add(sim(alloc, seed, size)?.value());
     digest.add(soak(alloc, seed, 1)?.value());
@@ -137,6 +218,7 @@ pub fn does(alloc: Global, job: &str, seed: u32, size: u64) -> Result<Option<u64
         "stream" => stream(alloc, seed, size)?,
         "outage" => outage(alloc, seed, size)?,
         "audio" => audio(alloc, seed, size)?,
+        "call" => call(alloc, seed, size)?,
         "relay" => relay(alloc, seed, size)?,
         "sim" => sim(alloc, seed, size)?,
         "soak" => soak(alloc, seed, size)?,

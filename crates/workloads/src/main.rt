@@ -9,6 +9,7 @@ mod calls;
 mod digest;
 mod draws;
 mod jobs;
+mod packets;
 mod path;
 mod payloads;
 mod receiving;
@@ -16,7 +17,10 @@ mod scene;
 mod script;
 mod sending;
 mod shape;
+mod telling;
 mod tool;
+mod turns;
+mod worlds;
 
 use std::env;
 use std::process::ExitCode;
@@ -29,7 +33,9 @@ fn main(rt: HostRuntime) -> ExitCode {
         return ExitCode::from(4);
     };
     let [_, job, seed, size] = words.as_slice() else {
-        let _ = eprintln!(rt; "usage: workloads stream|outage|audio|relay|sim|soak|all SEED SIZE");
+        let _ = eprintln!(rt;
+            "usage: workloads stream|outage|audio|call|relay|sim|soak|all SEED SIZE"
+        );
         return ExitCode::from(2);
     };
     let (Ok(seed), Ok(size)) = (seed.parse::<u32>(), size.parse::<u64>()) else {

@@ -2,11 +2,11 @@
 //! asks for what is due, and sees when to wake again.
 use crate::digest::Digest;
 use crate::path::{Batch, Path};
-use crate::payloads::Payloads;
 use crate::scene::Scene;
 use crate::shape::Shape;
-use endpoint::{AskingEndpoint, Heard, Kind};
-use receiver::{Peeked, ReceiveFault};
+use crate::telling::{add_content, add_heard};
+use endpoint::AskingEndpoint;
+use receiver::Peeked;
 use stores::{OutOfMemory, RingWindow};
 
 /// Hears the datagrams of a turn, and has the time of that turn pass.
@@ -24,7 +24,7 @@ pub fn hear_all(
         let datagram = batch.get(number, from);
         from = from.saturating_add(datagram.len());
         let (answer, kind) = receiver.on_datagram(datagram, now);
-        scene.digest.add(told(&answer, kind));
+        add_heard(&mut scene.digest, &answer, kind);
         go_on(receiver, back, scene, shape, turn)?;
     }
     if batch.len() == 0 {
@@ -33,7 +33,7 @@ pub fn hear_all(
     Ok(())
 }
 
-/// Plays, asks, and sees when to wake.
+/// Plays, asks, and sees when to wake. In a call it asks only where the moment to wake has come.
 fn go_on(
     receiver: &mut AskingEndpoint<RingWindow>,
     back: &mut Path,
@@ -42,51 +42,45 @@ fn go_on(
     turn: u64,
 ) -> Result<(), OutOfMemory> {
     let now = turn.saturating_mul(shape.turn);
-    play_all(receiver, &scene.payloads, &mut scene.digest, shape, now);
+    play_all(receiver, &mut scene.digest, now);
+    if shape.is_called {
+        let next = receiver.endpoint().core().next_moment();
+        if !has_come(next, now) {
+            scene.digest.add_some(next);
+            return Ok(());
+        }
+    }
     ask_all(receiver, back, scene, now, turn)?;
     let next = receiver.endpoint().core().next_moment();
     scene.digest.add_some(next);
     Ok(())
 }
 
+/// Whether a moment that is told has come.
+fn has_come(moment: Option<u64>, now: u64) -> bool {
+    match moment {
+        Some(moment) => moment <= now,
+        None => false,
+    }
+}
+
 /// Plays all that can be played.
-fn play_all(
-    receiver: &mut AskingEndpoint<RingWindow>,
-    payloads: &Payloads,
-    digest: &mut Digest,
-    shape: &Shape,
-    now: u64,
-) {
-    let first = 65536 + u64::from(shape.first);
+fn play_all(receiver: &mut AskingEndpoint<RingWindow>, digest: &mut Digest, now: u64) {
     for _ in 0..8192 {
         match receiver.endpoint().core().peek(now) {
             Peeked::Wait => return,
-            Peeked::Gap(place) => digest.add(place.value()),
+            Peeked::Gap(place) => {
+                digest.add(1);
+                digest.add(place.value());
+            }
             Peeked::Packet(place, content) => {
-                let number = place.value().saturating_sub(first);
-                let sent = payloads.of(shape.content_of(number));
-                let is_right = are_like(content.payload.as_slice(), sent, number);
-                digest.add(2 * (place.value() % (1 << 60)) + u64::from(is_right));
-                digest.add(u64::from(content.timestamp));
+                digest.add(2);
+                digest.add(place.value());
+                add_content(digest, content);
             }
         }
         receiver.pass(now);
     }
-}
-
-/// Whether payloads are as long, and have the same 32 octets somewhere, elsewhere for each number.
-fn are_like(payload: &[u8], other: &[u8], number: u64) -> bool {
-    if payload.len() != other.len() {
-        return false;
-    }
-    let room = payload.len().saturating_sub(32) as u64;
-    let from = if room > 0 {
-        (number % room) as usize
-    } else {
-        0
-    };
-    let end = from.saturating_add(32).min(payload.len());
-    payload.get(from..end) == other.get(from..end)
 }
 
 /// Asks for all that is due.
@@ -108,21 +102,4 @@ fn ask_all(
         }
     }
     Ok(())
-}
-
-/// What a datagram was, as a number.
-fn told(answer: &Result<Heard, ReceiveFault>, kind: Kind) -> u64 {
-    let kind: u64 = match kind {
-        Kind::Padding => 1 << 56,
-        Kind::Unasked => 2 << 56,
-        Kind::Usual => 0,
-    };
-    let answer = match answer {
-        Ok(Heard::Control) => 1,
-        Ok(Heard::Media(taken)) | Ok(Heard::Repair(taken)) => taken.place.value(),
-        Ok(Heard::HeldBack(held)) => 2 + u64::from(*held),
-        Ok(Heard::Restarted(restart)) => restart.taken.place.value(),
-        Err(fault) => 1000 + u64::from(fault.number()),
-    };
-    kind | answer
 }

@@ -14,10 +14,10 @@ pub struct Scene {
 }
 
 impl Scene {
-    /// That of a seed, with payloads of at least so many octets and at most so many.
-    pub fn new(alloc: Global, seed: u32, least: usize, most: usize) -> Result<Scene, OutOfMemory> {
+    /// That of a seed.
+    pub fn new(alloc: Global, seed: u32) -> Result<Scene, OutOfMemory> {
         let mut draws = Draws::new(seed);
-        let payloads = Payloads::new(alloc, &mut draws, least, most)?;
+        let payloads = Payloads::new(alloc, &mut draws)?;
         Ok(Scene {
             draws,
             payloads,

@@ -124,7 +124,7 @@ impl Script {
         }
     }
 
-    /// The packet of this number is delivered, or if it is lost the first one once more.
+    /// The packet of this number is delivered, or if it is lost the last one of its block, which never is.
     fn deliver(&mut self, packet: u64, now: u64) -> Line {
         let is_lost = packet < 10 && self.lost >> (packet % 32) & 1 == 1;
         let which = if is_lost { BLOCK - 1 } else { packet };

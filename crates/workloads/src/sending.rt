@@ -1,10 +1,12 @@
 //! What a sending endpoint does in a turn.
 use crate::digest::Digest;
+use crate::packets::packet_of;
 use crate::path::{Batch, Path};
 use crate::scene::Scene;
 use crate::shape::Shape;
-use endpoint::{TimelyEndpoint, Told};
-use rtpwire::{Carried, MAX_DATAGRAM, Words};
+use crate::telling::add_told;
+use endpoint::TimelyEndpoint;
+use rtpwire::MAX_DATAGRAM;
 use stores::{OutOfMemory, RingHistory};
 
 /// Sends the packets of a turn.
@@ -16,10 +18,12 @@ pub fn send_media(
     turn: u64,
 ) -> Result<(), OutOfMemory> {
     let mut out = [0; MAX_DATAGRAM];
-    for packet in 0..shape.packets {
-        let number = turn.saturating_mul(shape.packets).saturating_add(packet);
+    let first = shape.first_of(turn);
+    for packet in 0..shape.packets_of(turn) {
+        let number = first.saturating_add(packet);
         let len = send_one(sender, scene, shape, number, turn, &mut out);
         if let Some(datagram) = out.get(..len) {
+            scene.digest.add_datagram(datagram);
             path.carry(&mut scene.draws, turn, datagram)?;
         }
     }
@@ -35,14 +39,11 @@ fn send_one(
     turn: u64,
     out: &mut [u8],
 ) -> usize {
-    let (timestamp, is_last) = shape.timestamp_of(number);
-    let payload = scene.payloads.of(shape.content_of(number));
-    let Ok(carried) = Carried::of_fields(payload, timestamp, is_last, Words::Numbers(&[]), None)
-    else {
+    let Ok((carried, padding)) = packet_of(&scene.payloads, shape, number) else {
         return 0;
     };
     let now = turn.saturating_mul(shape.turn);
-    match sender.send_into(out, &carried, 0, now) {
+    match sender.send_into(out, &carried, padding, now) {
         Ok(Ok((place, len))) => {
             scene.digest.add(place.value());
             len
@@ -57,12 +58,7 @@ pub fn hear_feedback(sender: &mut TimelyEndpoint<RingHistory>, batch: &Batch, di
     for number in 0..batch.len() {
         let datagram = batch.get(number, from);
         from = from.saturating_add(datagram.len());
-        match sender.on_datagram(datagram) {
-            Ok(Told::Feedback(shared)) => digest.add(u64::from(shared.places)),
-            Ok(Told::Media) => digest.add(1 << 32),
-            Ok(Told::Reports) => digest.add(2 << 32),
-            Err(fault) => digest.add((3 << 32) | u64::from(fault.number())),
-        }
+        add_told(digest, &sender.on_datagram(datagram));
     }
 }
 
@@ -82,6 +78,7 @@ pub fn retransmit_all(
         };
         scene.digest.add(place.value());
         if let Some(datagram) = out.get(..len) {
+            scene.digest.add_datagram(datagram);
             path.carry(&mut scene.draws, turn, datagram)?;
         }
     }

@@ -2,10 +2,13 @@
 ghost use Rattle.std.specs.Prelude.{◌≡◌, ◌<◌, ◌≤◌, ℕ};
 
 use crate::path::Weather;
-use endpoint::{Probation, ResendRule};
+use crate::payloads::Lengths;
+use endpoint::{AskingEndpoint, Probation, ResendRule, TimelyEndpoint};
 use receiver::ReceiverConfig;
 use rtpwire::{ConfigFault, Session};
 use sender::SenderConfig;
+use std::alloc::Global;
+use stores::{OutOfMemory, RingHistory, RingWindow};
 
 /// The network, the media and the buffers of a session.
 #[derive(Clone, Copy)]
@@ -14,10 +17,14 @@ pub struct Shape {
     pub capacity: usize,
     /// The milliseconds of a turn.
     pub turn: u64,
-    /// How many packets are sent in a turn.
+    /// How many packets are sent in a turn, and in one of how many turns.
     pub packets: u64,
+    pub every: u64,
     /// How many packets have one timestamp, at most.
     pub frame: u64,
+    pub lengths: Lengths,
+    /// Whether it is a call of a browser's: each packet has an extension, some have sources or padding, and asks wait for their moment.
+    pub is_called: bool,
     pub there: Weather,
     pub back: Weather,
     pub patience: u64,
@@ -53,6 +60,21 @@ impl Shape {
         }
     }
 
+    /// The number of the first packet that is sent in this turn or later.
+    pub fn first_of(&self, turn: u64) -> u64 {
+        let before = turn.saturating_add(self.every.saturating_sub(1)) / self.every.max(1);
+        before.saturating_mul(self.packets)
+    }
+
+    /// How many packets are sent in this turn.
+    pub fn packets_of(&self, turn: u64) -> u64 {
+        if turn % self.every.max(1) == 0 {
+            self.packets
+        } else {
+            0
+        }
+    }
+
     /// What the payload of the packet of this number is the payload of.
     pub fn content_of(&self, number: u64) -> u64 {
         self.content.wrapping_add(number)
@@ -73,18 +95,26 @@ impl Shape {
         }
     }
 
-    /// A gap that a window bridges is no restart.
-    pub fn probation(&self) -> Probation {
+    /// A gap that a window bridges is no restart. The other limits are those of today, and stay so, for digests to stay comparable.
+    pub fn probation(&self) -> Result<Probation, ConfigFault> {
         let ahead = self.capacity.clamp(3000, 8192) as u16;
-        match Probation::new(
-            ahead,
-            Probation::MISORDER,
-            Probation::AHEAD,
-            Probation::BEHIND,
-        ) {
-            Ok(made) => made.with_silence(Probation::SILENCE),
-            Err(_) => Probation::usual(),
-        }
+        Ok(Probation::new(ahead, 100, 2, 256)?.with_silence(200))
+    }
+
+    /// A sending end that did nothing so far.
+    pub fn sending_end(&self, alloc: Global) -> Result<TimelyEndpoint<RingHistory>, OutOfMemory> {
+        let Ok(config) = self.sender() else {
+            return Err(OutOfMemory);
+        };
+        TimelyEndpoint::new(alloc, config, self.rule(), self.capacity.clamp(1, 8192))
+    }
+
+    /// A receiving end that did nothing so far.
+    pub fn receiving_end(&self, alloc: Global) -> Result<AskingEndpoint<RingWindow>, OutOfMemory> {
+        let (Ok(config), Ok(probation)) = (self.receiver(), self.probation()) else {
+            return Err(OutOfMemory);
+        };
+        AskingEndpoint::new(alloc, config, probation, self.capacity.clamp(1, 8192))
     }
 }
 
