@@ -1,7 +1,9 @@
 # shellcheck shell=bash
-# What each script of checks begins with: it counts checks, and ends with `N passed, M failed`. To be sourced.
+# What each script of checks begins with: it counts checks, and ends with `N passed, M failed`, or with `N passed, M failed, K busy` where
+# the machine was too busy for K checks to tell anything. To be sourced.
 passed=0
 failed=0
+busy=0
 room=$(mktemp -d) || exit 1
 trap 'rm -rf "$room"' EXIT
 
@@ -32,9 +34,10 @@ add() {
   "$@" | tee "$room/said"
   status=${PIPESTATUS[0]}
   told=$(tail -n 1 "$room/said")
-  if [[ $told =~ ^([0-9]+)\ passed,\ ([0-9]+)\ failed$ ]]; then
+  if [[ $told =~ ^([0-9]+)\ passed,\ ([0-9]+)\ failed(,\ ([0-9]+)\ busy)?$ ]]; then
     passed=$((passed + BASH_REMATCH[1]))
     failed=$((failed + BASH_REMATCH[2]))
+    busy=$((busy + ${BASH_REMATCH[4]:-0}))
     [ "$status" = 0 ] || [ "${BASH_REMATCH[2]}" != 0 ]
     count $? "$name ended with status $status"
   else
@@ -43,8 +46,17 @@ add() {
   echo "== $name: $told, $((SECONDS - began)) seconds"
 }
 
-# The last line of a script of checks, and its status.
+# The counts so far, as the last line of a script of checks has them.
+counts() {
+  if [ "$busy" = 0 ]; then
+    echo "$passed passed, $failed failed"
+  else
+    echo "$passed passed, $failed failed, $busy busy"
+  fi
+}
+
+# The last line of a script of checks, and its status. What was busy neither passed nor failed.
 tell_counts() {
-  echo "$passed passed, $failed failed"
+  counts
   [ "$failed" = 0 ]
 }

@@ -5,16 +5,8 @@
 import socket
 
 from base import ends, part
-from net import App, End, settled, udp
+from net import App, End, free_port, settled, udp
 from rtp import index, nack, plain
-
-
-def free(host="127.0.0.1"):
-    """A port that nobody has."""
-    one = udp(host)
-    port = one.getsockname()[1]
-    one.close()
-    return port
 
 
 def through(checks, stage, name, far, source, *words, listen, heard="127.0.0.1"):
@@ -33,7 +25,7 @@ def through(checks, stage, name, far, source, *words, listen, heard="127.0.0.1")
 
 def given(checks, stage):
     """The ports that it was given."""
-    far, listen, source = End(stage), free(), free()
+    far, listen, source = End(stage), free_port(), free_port()
     sender = through(checks, stage, "given ports", far.at, far, "--from", f"127.0.0.1:{source}", listen=f"127.0.0.1:{listen}")
     checks.same((sender.at[1], sender.source), (listen, ("127.0.0.1", source)), "given ports: what it tells")
     checks.same({one[1] for one in far.came}, {("127.0.0.1", source)}, "given ports: where it sends from")
@@ -67,7 +59,7 @@ def names(checks, stage):
 
 def behind(checks, stage):
     """What the receiving relay plays leaves from the place that it was given, and NACKs from where it listens."""
-    player, far, source = End(stage), End(stage), free()
+    player, far, source = End(stage), End(stage), free_port()
     receiver = stage.receive(player.at, "--packets", 3, "--from", f"127.0.0.1:{source}")
     for number in (0, 2):
         app = App(stage, receiver.at, number=number)

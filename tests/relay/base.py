@@ -1,7 +1,9 @@
 """What the parts share: checks that are counted, ports, and relays as programs that are started, read and ended.
 
-A part is run as `PART PROGRAM`. Its last line is `N passed, M failed`."""
+A part is run as `PART PROGRAM`. Its last line is `N passed, M failed`, or `N passed, M failed, K busy` where K scenes told nothing, since
+the machine woke who slept later than they can bear, each time that they were tried."""
 import concurrent.futures
+import os
 import pathlib
 import re
 import shutil
@@ -9,9 +11,12 @@ import signal
 import subprocess
 import sys
 import tempfile
+import threading
 import time
 
 LONG = 40  # seconds that anything may take: the machine may be busy with proofs
+NAP = 0.01  # seconds that the watch sleeps at a time
+TRIES = 3  # how often a scene is played that rests on moments, on a busy machine
 FIRST_LINE = re.compile(r"^listening at (\S+):(\d+),? sending to (\S+):(\d+) from (\S+):(\d+)$")
 COUNTS = {
     "send": "sent unsent marked retransmitted early expired refused stray lost".split(),
@@ -23,22 +28,83 @@ class Checks:
     """Counts checks, and names those that fail."""
 
     def __init__(self):
-        self.passed = self.failed = 0
+        self.passed = self.failed = self.busy = 0
+        self.faults = []
 
     def count(self, good, name):
         if good:
             self.passed += 1
         else:
             self.failed += 1
-            print("FAILED:", str(name)[:600], flush=True)
+            self.faults.append(f"FAILED: {str(name)[:600]}")
         return good
 
     def same(self, came, wanted, name):
         return self.count(came == wanted, f"{name}: {came!r}, where {wanted!r} is right")
 
+    def add(self, other):
+        """Takes over what another one counted, and names what failed there."""
+        self.passed, self.failed, self.busy = self.passed + other.passed, self.failed + other.failed, self.busy + other.busy
+        for fault in other.faults:
+            print(fault, flush=True)
+
     def tell(self):
-        print(f"{self.passed} passed, {self.failed} failed")
+        busy = f", {self.busy} busy" if self.busy else ""
+        print(f"{self.passed} passed, {self.failed} failed{busy}")
         sys.exit(1 if self.failed else 0)
+
+
+class Watch:
+    """How late the machine wakes who sleeps. A thread naps, and keeps how much longer each nap took than it was to, and how long each
+    relay that runs waited meanwhile for a processor."""
+
+    def __init__(self):
+        self.late, self.waits = [], {}
+        threading.Thread(target=self.nap, daemon=True).start()
+
+    def follow(self, process):
+        """From now on a process is looked at until it ends."""
+        self.waits[os.open(f"/proc/{process}/schedstat", os.O_RDONLY)] = 0
+
+    def nap(self):
+        while True:
+            due = time.monotonic() + NAP
+            time.sleep(NAP)
+            self.tell(due)
+            for stat, before in list(self.waits.items()):
+                self.look(stat, before, due)
+
+    def look(self, stat, before, due):
+        """How long a process waited so far, in nanoseconds, is the second word that the system has of it."""
+        try:
+            self.waits[stat] = int(os.pread(stat, 100, 0).split()[1])
+            self.keep(due, (self.waits[stat] - before) / 1e9)
+        except (OSError, IndexError):
+            del self.waits[stat]
+            os.close(stat)
+
+    def tell(self, due):
+        """Something was to be done at this moment, and is done now."""
+        self.keep(due, time.monotonic() - due)
+
+    def keep(self, due, late):
+        if late > 0.001:
+            self.late.append((due, late))
+
+    def since(self, began):
+        """The most seconds by which anyone woke too late since a moment."""
+        return max((late for due, late in list(self.late) if due >= began), default=0)
+
+
+WATCH = Watch()
+
+
+def on_time(bound):
+    """A scene that rests on moments, and bears no waking later than by so many seconds."""
+    def marked(play):
+        play.bound = bound
+        return play
+    return marked
 
 
 def soon(holds, seconds=LONG):
@@ -76,6 +142,7 @@ class Relay:
         words = [stage.program, side, *map(str, words), *(["--log", self.log] if log else [])]
         self.said, self.printed = (open(self.base.with_suffix(end), "w") for end in (".err", ".out"))
         self.run = subprocess.Popen(words, stdin=subprocess.DEVNULL, stdout=self.printed, stderr=self.said)
+        WATCH.follow(self.run.pid)
         stage.relays.append(self)
         soon(lambda: "\n" in self.errors() or self.run.poll() is not None)
         found = FIRST_LINE.match(self.errors().partition("\n")[0])
@@ -171,9 +238,9 @@ def ends(checks, name, *relays, seconds=LONG):
         checks.same(one.output(), "", f"{name}: the output of {one.side}")
 
 
-def scene(checks, play):
-    """Runs a scene of a part with a stage of its own. One that breaks is a check that fails."""
-    began = time.monotonic()
+def played(play):
+    """Plays a scene of a part with a stage of its own, and gives its checks. One that breaks is a check that fails."""
+    checks = Checks()
     try:
         with Stage(sys.argv[1]) as stage:
             play(checks, stage)
@@ -183,8 +250,27 @@ def scene(checks, play):
             where = where.tb_next
         place = f"{pathlib.Path(where.tb_frame.f_code.co_filename).name} line {where.tb_lineno}"
         checks.count(False, f"{play.__name__} broke in {place}: {type(error).__name__} {error}")
+    return checks
+
+
+def scene(play):
+    """The checks of a scene. One that rests on moments says nothing by failing where the machine woke a sleeper too late for it: it is
+    played again then, and if that is so each time, it is neither passed nor failed."""
+    began, bound = time.monotonic(), getattr(play, "bound", None)
+    for _ in range(TRIES):
+        start = time.monotonic()
+        checks = played(play)
+        late = WATCH.since(start)
+        if not checks.failed or bound is None or late <= bound:
+            break
+        print(f"{play.__name__}: woken {1000 * late:.0f} milliseconds late, with {checks.failed} that fail", flush=True)
+    else:
+        print(f"BUSY: {play.__name__}: {checks.faults[0]}", flush=True)
+        checks = Checks()
+        checks.busy = 1
     if "-v" in sys.argv:
         print(f"{play.__name__}: {time.monotonic() - began:.1f} seconds", flush=True)
+    return checks
 
 
 def part(*plays, beside=True):
@@ -192,7 +278,7 @@ def part(*plays, beside=True):
     signal.signal(signal.SIGTERM, lambda *_: sys.exit(1))
     checks, began = Checks(), time.monotonic()
     with concurrent.futures.ThreadPoolExecutor(len(plays) if beside else 1) as pool:
-        for one in [pool.submit(scene, checks, play) for play in plays]:
-            one.result()
+        for one in [pool.submit(scene, play) for play in plays]:
+            checks.add(one.result())
     print(f"{pathlib.Path(sys.argv[0]).stem}: {time.monotonic() - began:.0f} seconds")
     checks.tell()

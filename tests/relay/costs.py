@@ -11,7 +11,7 @@ import subprocess
 import time
 
 from base import part, soon
-from net import App, End, queued, udp
+from net import App, End, free_port, queued, udp
 from rtp import packet, plain
 
 MANY, RATE, TRIES = 10000, 5000, 3
@@ -38,9 +38,7 @@ def each(stage, pid, to, far):
 
 def socat(stage):
     """What socat costs."""
-    far, port = End(stage), udp()
-    at = port.getsockname()
-    port.close()
+    far, at = End(stage), ("127.0.0.1", free_port())
     words = ["socat", "-u", "-b", "2000", f"UDP4-RECV:{at[1]},bind=127.0.0.1", f"UDP4-SENDTO:127.0.0.1:{far.at[1]}"]
     program = subprocess.Popen(words)
     try:

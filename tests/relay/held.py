@@ -5,7 +5,7 @@
 import statistics
 import time
 
-from base import ends, part
+from base import WATCH, ends, on_time, part
 from net import App, End
 from rtp import index, plain
 
@@ -18,6 +18,7 @@ def bursts(app):
     contents, due = plain(MANY, step=900), time.monotonic()
     for at in range(0, MANY, BURST):
         time.sleep(max(0, due - time.monotonic()))
+        WATCH.tell(due)
         for one in contents[at:at + BURST]:
             app.send(one)
         due += BURST * STEP
@@ -39,14 +40,11 @@ def spread(times):
     return parts[-1] - parts[0]
 
 
+@on_time(0.005)
 def evenly(checks, stage):
-    """Held, nine in ten leave within a few milliseconds of their times; else they lie as far apart as they came. A machine that is busy
-    lets them leave late, so it has three tries."""
+    """Held, nine in ten leave within a few milliseconds of their times; else they lie as far apart as they came."""
     name = "--hold 90000"
-    for _ in range(3):
-        sender, receiver, held, numbers = through(stage, "--hold", 90000)
-        if spread(held) < 20:
-            break
+    sender, receiver, held, numbers = through(stage, "--hold", 90000)
     checks.same(numbers, list(range(MANY)), f"{name}: what came to the player")
     checks.count(spread(held) < 20, f"{name}: nine in ten lie {spread(held):.1f} milliseconds apart")
     ends(checks, name, sender, receiver)
@@ -56,6 +54,7 @@ def evenly(checks, stage):
     ends(checks, "without --hold", sender, receiver)
 
 
+@on_time(0.05)
 def latency(checks, stage):
     """A packet that comes alone leaves as much later as the latency says."""
     name, player = "one packet", End(stage)

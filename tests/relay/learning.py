@@ -4,7 +4,7 @@
     learning.py PROGRAM"""
 import time
 
-from base import ends, part, soon
+from base import ends, on_time, part, soon
 from net import App, End, Path, settled
 from rtp import Content, index, nack, nacked, original, packet, parse, plain, repair
 
@@ -137,6 +137,7 @@ def retransmissions(checks, stage):
         checks.same([one.number for one in player.packets()], [1, 2, 3] if taken else [1, 3], f"{name}: what is played")
 
 
+@on_time(0.2)
 def fitting(checks, stage):
     """A NACK that comes twice is answered once, and one for what is past its deadline not at all."""
     far = End(stage)
@@ -183,6 +184,7 @@ def window(checks, stage):
     checks.same(overrun, [["65546", "1"]], "a window of 8: the place that overruns")
 
 
+@on_time(0.05)
 def round_trip(checks, stage):
     """A round-trip time is measured where there is one."""
     player = End(stage)

@@ -14,8 +14,8 @@ import subprocess
 import threading
 import time
 
-from base import part
-from net import App, End, Path, udp
+from base import on_time, part
+from net import App, End, Path, free_port, udp
 from rtp import index, plain
 
 RATE, SECONDS, DELAY, LATENCY, SLACK = 208, 14, 0.025, 0.2, 0.05
@@ -80,12 +80,6 @@ def by_nothing(stage, rule):
     return in_time(sent, came)
 
 
-def free_port():
-    """A port that nobody has."""
-    with udp() as one:
-        return one.getsockname()[1]
-
-
 def by_librist(stage, rule):
     """How much comes in time by librist."""
     player, near, far = End(stage), free_port(), free_port()
@@ -130,30 +124,30 @@ def faults(came, floor):
 
 
 def row(checks, stage, name, floor, **rule):
-    """One path. A machine that halts for some milliseconds loses more than the path, so it has three tries, each with other draws."""
-    for seed in (7, 8, 9):
-        came = beside(stage, seed, **rule)
-        print(f"{name}: in time of {MANY}: " + ", ".join(f"{way} {many}" for way, many in came.items()), flush=True)
-        wrong = faults(came, floor * MANY)
-        if not wrong:
-            break
-    checks.same(wrong, [], f"{name}: {came}")
+    """One path. A machine that halts for some milliseconds loses more than the path does."""
+    came = beside(stage, 7, **rule)
+    print(f"{name}: in time of {MANY}: " + ", ".join(f"{way} {many}" for way, many in came.items()), flush=True)
+    checks.same(faults(came, floor * MANY), [], f"{name}: {came}")
     if not all(RIST):
         print(f"{name}: librist is not installed: not beside it", flush=True)
 
 
+@on_time(0.01)
 def one_in_ten(checks, stage):
     row(checks, stage, "10 % lost", 0.995, loss=0.1)
 
 
+@on_time(0.01)
 def two_in_ten(checks, stage):
     row(checks, stage, "20 % lost", 0.985, loss=0.2)
 
 
+@on_time(0.01)
 def bursts(checks, stage):
     row(checks, stage, "5 % lost in bursts of 20", 0.97, loss=0.05, burst=20)
 
 
+@on_time(0.01)
 def outage(checks, stage):
     """What was sent in all but the last 200 milliseconds of it can't be in time."""
     row(checks, stage, "2 % lost and a second's outage", 1 - 0.92 / SECONDS, loss=0.02, out=OUT)

@@ -5,7 +5,7 @@
 import time
 
 import ledger
-from base import ends, part
+from base import ends, on_time, part
 from net import App, End, queued
 from rtp import drawn, index, nacked, parse, plain
 
@@ -43,6 +43,7 @@ def agree(checks, name, sender, receiver):
     checks.count(len(media - asked) <= TRAIL, f"{name}: lost and not asked for: {sorted(media - asked)[:5]}")
 
 
+@on_time(0.1)
 def long_run(checks, stage):
     """Ten thousand packets with a pause, at 2,500 a second."""
     name, contents = "ten thousand packets", drawn(1, MANY + TRAIL)
@@ -72,6 +73,7 @@ def long_run(checks, stage):
     agree(checks, name, sender, receiver)
 
 
+@on_time(0.1)
 def version6(checks, stage):
     """The same over IPv6, with fewer."""
     name, contents = "IPv6", drawn(2, 520)

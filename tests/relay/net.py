@@ -2,12 +2,13 @@
 import heapq
 import itertools
 import pathlib
+import random
 import select
 import socket
 import threading
 import time
 
-from base import soon
+from base import WATCH, soon
 from rtp import original, packet, parse
 
 ROOM = 4000000  # octets that the system may keep for a socket of a test
@@ -20,6 +21,18 @@ def udp(host="127.0.0.1", port=0):
     made.setsockopt(socket.SOL_SOCKET, socket.SO_RCVBUF, ROOM)
     made.bind((host, port))
     return made
+
+
+def free_port(host="127.0.0.1"):
+    """A port that nobody has, and that the system gives nobody who asks for any: it lies below all of those."""
+    least = int(pathlib.Path("/proc/sys/net/ipv4/ip_local_port_range").read_text().split()[0])
+    while True:
+        port = random.randrange(least // 2, least)
+        try:
+            udp(host, port).close()
+            return port
+        except OSError:
+            pass  # somebody has it
 
 
 def queued(ports):
@@ -56,6 +69,7 @@ class App:
             if i % 16 == 0:
                 soon(lambda: queued(self.heed)[0] < MUCH)
             time.sleep(max(0, due - time.monotonic()))
+            WATCH.tell(due)
             self.send(content, i % 255 + 1 if padded and content.payload and i % padded == 0 else 0)
 
 

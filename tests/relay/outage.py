@@ -6,7 +6,7 @@ import re
 import time
 
 import ledger
-from base import ends, part, soon
+from base import ends, on_time, part, soon
 from net import App, End, Path, settled, udp
 from restarts import PAUSE, goes_on
 from rtp import nack, original, packet, parse, plain
@@ -36,16 +36,13 @@ def through(stage, player, *words):
     return app, path, sender, receiver
 
 
+@on_time(0.05)
 def bridged(checks, stage):
     """More packets in a row are lost than a window of 2048 holds, and all of them are played. On a machine that is too busy to pass
-    them on, some are asked for in vain as often as they may be: so it is tried three times."""
-    for name in ("an outage", "an outage again", "an outage once more"):
-        player = End(stage)
-        app, path, sender, receiver = through(stage, player, "--latency", 20000)
-        ends(checks, name, receiver)
-        if receiver.counts().get("gaps") == 0:
-            break
-        sender.stop()
+    them on, some are asked for in vain as often as they may be."""
+    name, player = "an outage", End(stage)
+    app, path, sender, receiver = through(stage, player, "--latency", 20000)
+    ends(checks, name, receiver)
     lost = {parse(octets).number for way, octets in path.passed if way == "forth" and parse(octets).ssrc == MEDIA} & set(OUT)
     checks.same(len(lost), len(OUT), f"{name}: packets that were lost")
     checks.count([one.content for one in player.packets()] == plain(MANY), f"{name}: {len(player.came)} of {MANY} packets came")
@@ -102,16 +99,14 @@ def streams(checks, stage, latency, *words, seconds=3.6):
     player, lines = End(stage), []
     receiver = stage.receive(player.at, "--latency", latency, *words)
     for ssrc in (1, 5):
-        began = time.monotonic()
         App(stage, receiver.at, ssrc=ssrc, number=0).stream(plain(int(100 * seconds)), 100)
-        slow = time.monotonic() - began > 1.5 * seconds
-        checks.count(not slow, f"{words}: the machine is too busy for a hundred packets a second")
         soon(lambda: len(receiver.logged("play")) >= int(100 * seconds) * (1 + (ssrc > 1)))
         lines.append(told(receiver, WINDOW))
         time.sleep(PAUSE)
     return lines
 
 
+@on_time(0.05)
 def too_fast(checks, stage):
     """The rate is more than a window of fifty holds for a second: told once in each session, with the window that is wanted."""
     first, both = streams(checks, stage, 1000, "--window", 50)
@@ -121,6 +116,7 @@ def too_fast(checks, stage):
         checks.count(50 < int(rate) <= 110, f"the rate that is told: {rate}")
 
 
+@on_time(0.05)
 def too_long(checks, stage):
     """The latency is more than any window holds at this rate: the latency that it can have is told."""
     _, both = streams(checks, stage, 200000)
@@ -130,6 +126,7 @@ def too_long(checks, stage):
         checks.same(came, ("8192", "200000", "--window 8192 and --latency", longest, "less"), "what is told of the latency")
 
 
+@on_time(0.05)
 def enough(checks, stage):
     """A window that is long enough is told by nothing."""
     checks.same(streams(checks, stage, 1000, "--window", 130), [[], []], "a window that is long enough")

@@ -4,7 +4,7 @@
     rate.py PROGRAM"""
 import time
 
-from base import ends, part, soon
+from base import ends, on_time, part, soon
 from net import App, End, settled
 from rtp import index, nack, original, plain
 
@@ -46,6 +46,7 @@ def paced(checks, stage):
     checks.same((len(times), early[:2]), (50, []), f"{name}: retransmissions in the log, and those that left too early")
 
 
+@on_time(0.05)
 def at_once(checks, stage):
     """With a rate of 0 they leave as fast as they are asked for. What was asked for just before is asked for again at once, so nothing is
     too early here."""
@@ -59,6 +60,7 @@ def at_once(checks, stage):
     ends(checks, name, sender)
 
 
+@on_time(0.02)
 def shared(checks, stage, *words, share=200, many=400):
     """By a share of the media's rate 32 KiB leave at once, and the others at that share. The media's rate is at most all that was sent
     and the two megabits that are taken for granted."""
@@ -75,10 +77,12 @@ def shared(checks, stage, *words, share=200, many=400):
     checks.same((len(times), early[:2]), (many, []), f"{name}: retransmissions in the log, and those that left too early")
 
 
+@on_time(0.02)
 def halved(checks, stage):
     shared(checks, stage, "--rate", "50%", share=50, many=150)
 
 
+@on_time(0.05)
 def media_first(checks, stage):
     """At 8 kilobits a second a retransmission takes a second. Media that comes meanwhile leaves at once."""
     name = "8 kilobits"

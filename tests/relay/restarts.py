@@ -5,7 +5,7 @@
 import threading
 import time
 
-from base import ends, part, soon
+from base import ends, on_time, part, soon
 from net import App, End, Path
 from rtp import index, parse, plain
 
@@ -36,6 +36,7 @@ def application(checks, stage):
     checks.same(len(sender.logged("session")), 1, f"{name}: sessions of the sending relay")
 
 
+@on_time(0.1)
 def foreign(checks, stage):
     """Packets of another SSRC are not sent until the stream was silent for a second; then they are."""
     name, far = "another SSRC", End(stage)
@@ -83,6 +84,7 @@ def sending(checks, stage):
     checks.count(receiver.errors().count("\nsession ") == 2, f"{name}: sessions that it tells: {receiver.errors()!r}")
 
 
+@on_time(0.05)
 def running(checks, stage):
     """The sending relay is killed and started anew at once, at another port, while the application goes on: so does the session, and
     what nobody sent is given up."""
@@ -157,6 +159,7 @@ def receiving(checks, stage):
     checks.count([(one.number, index(one)) for one in came] == wanted, f"{name}: all but what nobody heard came, with its number")
 
 
+@on_time(0.1)
 def silence(checks, stage):
     """The last packet before a silence of seconds is lost, and so is the retransmission that would show it: it is asked for once the
     stream goes on, and the session stays."""

@@ -9,7 +9,7 @@ import signal
 import subprocess
 
 from base import ends, part, soon
-from net import ROOM, Path, queued, udp
+from net import ROOM, Path, free_port, queued
 
 FRAMES, RATE = 150, 15
 TAIL = 15  # frames behind those that are compared: a decoder keeps the last ones back until more comes
@@ -54,9 +54,7 @@ def run(stage, *words, log="errors", **more):
 def port_pair():
     """An even port that nobody has, and its neighbour, which FFmpeg takes for RTCP."""
     while True:
-        one = udp()
-        port = one.getsockname()[1]
-        one.close()
+        port = free_port()
         if port % 2 == 0 and queued({port, port + 1}) == (0, 0):
             return port
 
