@@ -35,3 +35,5 @@ mod OneAsk
 mod Refusals
 mod Recent
 mod Packed
+mod PackedSteps
+pub mod CountSteps

@@ -1,7 +1,6 @@
 -- A run goes on by one event.
 use Rattle.std.proofs.Common.{◌≡◌, ℕ, ◌+◌, ◌<◌, Bool, ◌-◌, List, [], ◌∷◌, ◌++◌, length, get_or, slice_get, take, reverse, Option, Some, sym, ap, subst, ◌∙◌, refl, arith}
 use Rattle.std.proofs.lemmas.List.{take_more, reverse-append, length-append}
-use Rattle.std.proofs.lemmas.Option.{same_Some}
 use Rattle.world.specs.declared.event.Event.{Event}
 use Rattle.world.specs.declared.event.Entry.{Entry}
 use Rattle.world.specs.Config.{Config}
@@ -31,14 +30,12 @@ last_of : (before : List Entry) (entry : Entry) → slice_get (before ++ entry �
 last_of [] entry = refl
 last_of (x ∷ before) entry = last_of before entry
 
--- what is read as a log's last entry is the one that was pushed
-pub last_pushed : (before log seen : List Entry) (entry told : Entry) → log ≡ before ++ entry ∷ [] → seen ≡ log → slice_get seen (length seen - 1) ≡ Some told → told ≡ entry
-last_pushed before log seen entry told is same read =
-    let all = same ∙ is in
+-- the entry that was pushed is the log's last one
+pub last_is : (before log : List Entry) (entry : Entry) → log ≡ before ++ entry ∷ [] → Some entry ≡ slice_get log (length log - 1)
+last_is before log entry is =
     let long = length-append before (entry ∷ []) in
     let last : length (before ++ entry ∷ []) - 1 ≡ length before = omega (arith, long) in
-    let at = ap (slice_get (before ++ entry ∷ [])) last ∙ last_of before entry in
-    same_Some told entry (sym (subst (λ (x : List Entry). slice_get x (length x - 1) ≡ Some told) all read) ∙ at)
+    sym (subst (λ (x : List Entry). slice_get x (length x - 1) ≡ Some entry) (sym is) (ap (slice_get (before ++ entry ∷ [])) last ∙ last_of before entry))
 
 -- a log that answers some events goes on to do so
 pub logged_more : (c : Config) (log log' : List Entry) (entry : Entry) (event : Event) (old new : WorldState) →

@@ -1,5 +1,5 @@
 -- An ask spells the pairs that are read back from it.
-use Rattle.std.proofs.Common.{◌≡◌, ℕ, ◌≤◌, [], ◌∷◌, ◌++◌, length, List, Option, Some, None, sym, subst}
+use Rattle.std.proofs.Common.{◌≡◌, ℕ, ◌≤◌, [], ◌∷◌, ◌++◌, length, List, Option, Some, None, refl, sym, subst}
 use Rattle.arrayvec.specs.ArrayVec.{ArrayVec}
 use Rattle.fbwire.specs.declared.nack.Pair.{Pair}
 use Rattle.fbwire.specs.Nack.{Nack, NackSpells}
@@ -9,6 +9,7 @@ use Rattle.receiver.specs.Asks.{AsksAny}
 use Rattle.world.specs.declared.event.Label.TheVariants.{Feedback}
 use Rattle.world.specs.Config.{Config as Setup}
 use Rattle.world.specs.Answers.{WorldState, AsksTo, nack_of}
+use Rattle.world.specs.Pairs.{SpellsPairs}
 
 pub spelled_by : (c : Config) (now : ℕ) (old new : Option ReceiverState) (datagram : ArrayVec ℕ) (pairs : ArrayVec Pair) → AsksAny c old now (Some datagram) new →
     ((nack : Nack) → NackSpells nack datagram.items → length nack.pairs ≤ 64 → pairs.items ≡ nack.pairs) → NackSpells (nack_of c.session pairs.items) datagram.items
@@ -16,6 +17,20 @@ spelled_by c now None new datagram pairs (none, is) reads = absurd cc
 spelled_by c now (Some w) new datagram pairs asks reads =
     let asked = asks.answers.1 in
     subst (λ (ps : List Pair). NackSpells (nack_of c.session ps) datagram.items) (sym (reads (nack_of c.session asked.pairs) asked.spells asked.asked.packing.few)) asked.spells
+
+few_pairs : (c : Config) (now : ℕ) (old new : Option ReceiverState) (datagram : ArrayVec ℕ) (pairs : ArrayVec Pair) → AsksAny c old now (Some datagram) new →
+    ((nack : Nack) → NackSpells nack datagram.items → length nack.pairs ≤ 64 → pairs.items ≡ nack.pairs) → length pairs.items ≤ 64
+few_pairs c now None new datagram pairs (none, is) reads = absurd cc
+few_pairs c now (Some w) new datagram pairs asks reads =
+    let asked = asks.answers.1 in
+    subst (λ (ps : List Pair). length ps ≤ 64) (sym (reads (nack_of c.session asked.pairs) asked.spells asked.asked.packing.few)) asked.asked.packing.few
+
+-- octets of an ask spell the pairs that are read back from it
+pub pairs_spelled : (c : Config) (now : ℕ) (old new : Option ReceiverState) (datagram : ArrayVec ℕ) (pairs : ArrayVec Pair) (octets put : List ℕ) → AsksAny c old now (Some datagram) new →
+    octets ≡ datagram.items → put ≡ datagram.items → ((nack : Nack) → NackSpells nack octets → length nack.pairs ≤ 64 → pairs.items ≡ nack.pairs) → SpellsPairs (Feedback pairs) put
+pairs_spelled c now old new datagram pairs octets put asks is same reads =
+    let reads_it = subst (λ (x : List ℕ). (nack : Nack) → NackSpells nack x → length nack.pairs ≤ 64 → pairs.items ≡ nack.pairs) is reads in
+    (nack_of c.session pairs.items, subst (NackSpells (nack_of c.session pairs.items)) (sym same) (spelled_by c now old new datagram pairs asks reads_it), refl, few_pairs c now old new datagram pairs asks reads_it)
 
 -- an ask that lies on the wire under the pairs that are read back from it
 pub asked_to : (c : Setup) (config : Config) (now index : ℕ) (old new : WorldState) (datagram : ArrayVec ℕ) (pairs : ArrayVec Pair) (octets : List ℕ) → c.receiver ≡ config →

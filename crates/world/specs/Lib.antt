@@ -15,3 +15,7 @@ pub mod World
 pub mod Round
 pub mod Schedule
 pub mod Session
+pub mod Counts
+pub mod Pairs
+pub mod Kinds
+pub mod Packed

@@ -25,6 +25,8 @@ ghost use Rattle.world.specs.World.{IsLogged, stand_of};
 ghost use Rattle.world.specs.Round.{Adds, IsRound, IsMarkedUpTo, IsAwaited, IsMendable, IsMended};
 
 use crate::event::{Answer, Entry, Label};
+use crate::log::Log;
+use crate::wire::Wire;
 use crate::world::World;
 use fbwire::{compound_is_determined, nack_is_determined, packing_is_determined};
 use receiver::{asking_is_determined, hearing_is_determined, playing_is_determined};
@@ -161,6 +163,25 @@ pub fn stores_make_no_difference<H: History, W: Window, I: History, V: Window>(
 )
     ensures { one.now.config ≡ other.now.config → (events : List Event) → Answers one.now.config events (reverse one.now.log) (stand_of one.now)
         → Answers other.now.config events (reverse other.now.log) (stand_of other.now) → (one.now.log ≡ other.now.log) × (one.now.wire ≡ other.now.wire) }
+{
+    answers_are_determined();
+}
+
+/// Whatever two worlds keep of their wires and their logs, and over whatever stores: with one configuration and the same
+/// events they have one log, one wire and one state of both ends. So a lean world answers as one that keeps lists.
+pub fn keeping_makes_no_difference<
+    H: History,
+    W: Window,
+    N: Wire,
+    L: Log,
+    I: History,
+    V: Window,
+    M: Wire,
+    K: Log,
+>(one: &World<H, W, N, L>, other: &World<I, V, M, K>)
+    ensures { one.now.config ≡ other.now.config → (events : List Event) → Answers one.now.config events (reverse one.now.log) (stand_of one.now)
+        → Answers other.now.config events (reverse other.now.log) (stand_of other.now)
+        → (one.now.log ≡ other.now.log) × (one.now.wire ≡ other.now.wire) × (stand_of one.now ≡ stand_of other.now) }
 {
     answers_are_determined();
 }

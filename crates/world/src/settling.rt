@@ -9,14 +9,16 @@ ghost use Rattle.world.specs.World.{IsLogged, stand_of};
 
 use crate::event::{Entry, Event};
 use crate::laws::{logs_keep_promises, rounds_mend};
+use crate::log::Log;
 use crate::marks::is_marked_up_to;
+use crate::wire::Wire;
 use crate::world::World;
 use fbwire::{compound_is_determined, nack_is_determined};
 use receiver::hearing_is_determined;
 use sender::feedback_is_determined;
 use stores::{History, OutOfMemory, Window};
 
-impl<H: History, W: Window> World<H, W> {
+impl<H: History, W: Window, N: Wire, L: Log> World<H, W, N, L> {
     /// One round at the moment `now`, in which nothing is lost: the receiver asks until no place is due, and each ask
     /// reaches the sender at once; then the sender retransmits until no place is marked, and each retransmission reaches
     /// the receiver at once. The answer is how many events that were. They are in the log as any others.

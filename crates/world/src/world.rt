@@ -1,10 +1,11 @@
 //! The world: two ends, the wire and the log.
-ghost use Rattle.std.specs.Prelude.{◌≡◌, ◌↔◌, ◌≤◌, ℕ, ◌++◌, [], ◌∷◌, reverse, List, IsTrue, IsSomeAnd, IsNone, IfOk, OnOk, OnErr};
+ghost use Rattle.std.specs.Prelude.{◌≡◌, ◌↔◌, ◌<◌, ◌≤◌, ◌^◌, ℕ, ◌++◌, [], ◌∷◌, length, reverse, slice_get, List, IsTrue, Some, IsSomeAnd, IsNone, MatchOption, IfOk, OnOk, OnErr};
 ghost use Rattle.sender.specs.Sender.{RepeatsWithin};
 ghost use Rattle.receiver.specs.Asks.{AsksWithin};
 ghost use Rattle.receiver.specs.Receiver.{state_of};
 ghost use Rattle.world.specs.declared.event.Entry.{Entry};
 ghost use Rattle.world.specs.Config.{IsConfig};
+ghost use Rattle.world.specs.Counts.{counts_of};
 ghost use Rattle.world.specs.Answers.{Step, Answers};
 ghost use Rattle.world.specs.Close.{IsClose, IsUninjected, TellsCloseness};
 ghost use Rattle.world.specs.Good.{IsGood, KeepsPromises};
@@ -12,9 +13,14 @@ ghost use Rattle.world.specs.World.{IsLogged, stand_of, empty};
 
 use crate::closeness::Closeness;
 use crate::config::Config;
+use crate::counts::Counts;
 use crate::ends::answered;
 use crate::event::{Entry, Event, Label};
+use crate::last_entry::LastEntry;
 use crate::laws::{logs_are_good, logs_keep_promises};
+use crate::log::Log;
+use crate::packed_wire::PackedWire;
+use crate::wire::Wire;
 use receiver::Receiver;
 use rtpwire::Datagram;
 use sender::Sender;
@@ -23,17 +29,22 @@ use std::marker::Model;
 use stores::{History, OutOfMemory, Window};
 
 /// Both ends, what lies between them, and what happened.
+///
+/// Its wire and its log are lists that it lends, where nothing else is said. A [`LeanWorld`](crate::LeanWorld) keeps less of them.
 #[derive(Drop)]
-pub struct World<H: History, W: Window> {
+pub struct World<H: History, W: Window, N: Wire = Vec<(Label, Datagram)>, L: Log = Vec<Entry>> {
     config: Config,
     sender: Sender<H>,
-    wire: Vec<(Label, Datagram)>,
+    wire: N,
     receiver: Receiver<W>,
-    log: Vec<Entry>,
+    log: L,
     closeness: Closeness,
 }
 
-impl<H: History, W: Window> Model for World<H, W> {
+/// A world that keeps of its log the last entry alone, and of its wire no more than the datagrams are long. It answers as any other.
+pub type LeanWorld<H, W> = World<H, W, PackedWire, LastEntry>;
+
+impl<H: History, W: Window, N: Wire, L: Log> Model for World<H, W, N, L> {
     ghost use Rattle.std.specs.Prelude.{◌≡◌, reverse};
     ghost use Rattle.world.specs.Config.{sending};
     ghost use Rattle.world.specs.Close.{TellsCloseness};
@@ -41,12 +52,12 @@ impl<H: History, W: Window> Model for World<H, W> {
 
     ghost Value = { Recorded };
 
-    ghost view = { λ w. record { config = w.config; sender = w.sender; wire = w.wire.items; receiver = w.receiver; log = w.log.items } };
+    ghost view = { λ w. record { config = w.config; sender = w.sender; wire = N.items w.wire; receiver = w.receiver; log = L.entries w.log } };
 
     ghost invariant = { λ w. (w.sender.config ≡ sending w.config) × (w.sender.past.capacity ≡ w.config.history)
         × (w.receiver.config ≡ w.config.receiver) × (w.receiver.span.capacity ≡ w.config.window)
-        × IsLogged w.config w.log.items (stand_at w.sender w.wire.items w.receiver)
-        × TellsCloseness w.closeness.highest w.closeness.holds (reverse w.log.items) };
+        × IsLogged w.config (L.entries w.log) (stand_at w.sender (N.items w.wire) w.receiver)
+        × TellsCloseness w.closeness.highest w.closeness.holds (reverse (L.entries w.log)) };
 }
 
 impl<H: History, W: Window> World<H, W> {
@@ -56,14 +67,39 @@ impl<H: History, W: Window> World<H, W> {
     pub fn new(alloc: Global, config: &Config) -> Result<World<H, W>, OutOfMemory>
         ensures { IfOk result (λ world. world ≡ empty config.now) }
     {
+        World::empty(alloc, config)
+    }
+
+    /// The wire: each datagram that was put on it, under its label.
+    pub fn wire(&self) -> &[(Label, Datagram)]
+        ensures { result.now ≡ self.now.wire }
+    {
+        self.wire.as_slice()
+    }
+
+    /// The log: one entry for each event.
+    pub fn log(&self) -> &[Entry]
+        ensures { result.now ≡ self.now.log }
+    {
+        self.log.as_slice()
+    }
+}
+
+impl<H: History, W: Window, N: Wire, L: Log> World<H, W, N, L> {
+    /// A world in which nothing happened, whatever it keeps of its wire and its log.
+    ///
+    /// `OutOfMemory`: the allocator refused the sender's history or the receiver's window.
+    pub fn empty(alloc: Global, config: &Config) -> Result<World<H, W, N, L>, OutOfMemory>
+        ensures { IfOk result (λ world. world ≡ empty config.now) }
+    {
         let history = H::new(alloc, config.history())?;
         let window = W::new(alloc, config.window())?;
         Ok(World {
             config: *config,
             sender: Sender::new(config.sender(), history),
-            wire: Vec::new(alloc),
+            wire: N::empty(alloc),
             receiver: Receiver::new(config.receiver(), window),
-            log: Vec::new(alloc),
+            log: L::empty(alloc),
             closeness: Closeness::new(),
         })
     }
@@ -104,8 +140,8 @@ impl<H: History, W: Window> World<H, W> {
     {
         logs_keep_promises();
         self.config.limits();
-        self.log.reserve(1)?;
-        self.wire.reserve(1)?;
+        self.log.make_room()?;
+        self.wire.make_room()?;
         answered(
             &self.config,
             &mut self.sender,
@@ -114,7 +150,7 @@ impl<H: History, W: Window> World<H, W> {
             &mut self.log,
             event,
         );
-        if let Some(entry) = self.log.last() {
+        if let Some(entry) = self.log.last_entry() {
             self.closeness = self.closeness.after(entry);
         }
         Ok(())
@@ -125,7 +161,7 @@ impl<H: History, W: Window> World<H, W> {
         ensures some { (before : List Entry) (entry : Entry) → self.now.log ≡ before ++ entry ∷ [] → IsSomeAnd result (λ last. last.now ≡ entry) }
         ensures none { self.now.log ≡ [] → IsNone result }
     {
-        self.log().last()
+        self.log.last_entry()
     }
 
     /// Its configuration is within the limits, its stores have the room that this says, and its log answers some events.
@@ -139,18 +175,27 @@ impl<H: History, W: Window> World<H, W> {
         self.config.limits();
     }
 
-    /// The wire: each datagram that was put on it, under its label.
-    pub fn wire(&self) -> &[(Label, Datagram)]
-        ensures { result.now ≡ self.now.wire }
+    /// The label and the octets of the wire's datagram at an index, counted from 0, if there is one.
+    pub fn datagram(&self, index: u64) -> Option<(Label, &[u8])>
+        ensures { MatchOption result (length self.now.wire ≤ index)
+            (λ found. slice_get self.now.wire index ≡ Some (found.0, record { items = found.1.now })) }
     {
-        self.wire.as_slice()
+        self.wire.get(index)
     }
 
-    /// The log: one entry for each event.
-    pub fn log(&self) -> &[Entry]
-        ensures { result.now ≡ self.now.log }
+    /// How many datagrams were put on the wire. No memory holds 2^63 of them.
+    pub fn datagrams(&self) -> u64
+        ensures count { result ≡ length self.now.wire }
+        ensures few { result < 2 ^ 63 }
     {
-        self.log.as_slice()
+        self.wire.count()
+    }
+
+    /// How many entries of its log are of the kinds that are counted.
+    pub fn counts(&self) -> Counts
+        ensures { result ≡ counts_of self.now.log }
+    {
+        self.log.counts()
     }
 
     /// Whether the log is close and nothing was injected: each packet that was delivered lay less than 49153 from

@@ -10,4 +10,4 @@ returns-clause-good g c = λ holds.
     let logged = c.self.invariant.4 in
     let tells = (c.self.invariant.5.holds_if).0 (subst IsTrue c.holds.ensures holds) in
     subst (λ (x : Recorded). IsGood x.config (reverse x.log) (stand_of x)) c.self.view_is
-    (c.logs_are_good.ensures.good w.config c.limits.ensures (reverse logged.events) (reverse w.log.items) (stand_at w.sender w.wire.items w.receiver) logged.answers tells.0 (honest (reverse w.log.items) tells.1))
+    (c.logs_are_good.ensures.good w.config c.limits.ensures (reverse logged.events) (reverse (g.L.Log.entries w.log)) (stand_at w.sender (g.N.Wire.items w.wire) w.receiver) logged.answers tells.0 (honest (reverse (g.L.Log.entries w.log)) tells.1))
