@@ -54,6 +54,13 @@ played_line Wait = line_of (codes "wait" ∷ [])
 abbrev pub datagram_words : List Item → (index : ℕ) → List (List ℕ)
 datagram_words wire index = decimal index ∷ octets_text (octets_at wire index) ∷ []
 
+-- the octets of the datagram that an entry tells was put on this wire; none where it tells of none
+abbrev pub written_octets : List Item → Entry → List ℕ
+written_octets wire (Sent place index content) = octets_at wire index
+written_octets wire (Repaired place index) = octets_at wire index
+written_octets wire (Asked index now) = octets_at wire index
+written_octets wire _ = []
+
 -- the line of an entry, where this is the wire
 abbrev pub entry_line : List Item → Entry → List ℕ
 entry_line wire (Sent place index content) = line_of (codes "sent" ∷ decimal place ∷ datagram_words wire index)

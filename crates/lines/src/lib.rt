@@ -23,7 +23,7 @@ pub use config_line::parse_config;
 pub use event_line::parse_event;
 pub use laws::{packings_are_determined, traces_are_determined};
 pub use line::push_line;
-pub use log_text::push_entry;
+pub use log_text::{push_entry, push_entry_octets};
 pub use numbers::parse_between;
 pub use pack_text::push_packing;
 pub use show_text::push_datagram;

@@ -1,7 +1,9 @@
 //! The text of a log: one line for each entry.
-ghost use Rattle.std.specs.Prelude.{◌≡◌, ◌∷◌, [], ◌++◌, OnOk, codes};
+ghost use Rattle.std.specs.Prelude.{◌≡◌, ◌∷◌, [], ◌++◌, List, OnOk, codes};
 ghost use Rattle.std.specs.Fmt.{decimal};
-ghost use Rattle.lines.specs.LogText.{line_of, answer_line, content_words, played_line, datagram_words, entry_line, octets_at};
+ghost use Rattle.world.specs.Answers.{Item};
+ghost use Rattle.lines.specs.ContentText.{octets_text};
+ghost use Rattle.lines.specs.LogText.{line_of, answer_line, content_words, played_line, entry_line, octets_at, written_octets};
 
 use crate::content_text::{extension_octets, source_octets};
 use crate::line::{push_line, push_refused};
@@ -22,12 +24,32 @@ pub fn push_entry(
 ) -> Result<(), OutOfMemory>
     ensures { OnOk result (line.new.items ≡ line.old.items ++ entry_line wire.now entry.now) }
 {
+    let octets = match entry {
+        Entry::Sent { index, .. } => octets_at(wire, *index),
+        Entry::Repaired { index, .. } => octets_at(wire, *index),
+        Entry::Asked { index, .. } => octets_at(wire, *index),
+        _ => &[],
+    };
+    push_entry_octets(line, entry, octets)
+}
+
+/// The same where these are the octets of the datagram that the entry tells was put on the wire, and none where it tells of none.
+///
+/// `OutOfMemory`: the text could not grow; it may have got a part of the line.
+pub fn push_entry_octets(
+    line: &mut Vec<u8>,
+    entry: &Entry,
+    octets: &[u8],
+) -> Result<(), OutOfMemory>
+    ensures { OnOk result ((wire : List Item) → octets.now ≡ written_octets wire entry.now
+        → line.new.items ≡ line.old.items ++ entry_line wire entry.now) }
+{
     match entry {
-        Entry::Sent { place, index, .. } => push_written(line, b"sent", *place, *index, wire),
+        Entry::Sent { place, index, .. } => push_written(line, b"sent", *place, *index, octets),
         Entry::SendRefused(fault) => push_refused(line, fault.number()),
-        Entry::Repaired { place, index } => push_written(line, b"repair", *place, *index, wire),
+        Entry::Repaired { place, index } => push_written(line, b"repair", *place, *index, octets),
         Entry::NoRepair => push_line(line, &[Word::Text(b"repair"), Word::Text(b"none")]),
-        Entry::Asked { index, .. } => push_asked(line, *index, wire),
+        Entry::Asked { index, .. } => push_asked(line, *index, octets),
         Entry::NoAsk { .. } => push_line(line, &[Word::Text(b"ask"), Word::Text(b"none")]),
         Entry::Nothing => push_line(line, &[Word::Text(b"nothing")]),
         Entry::Delivered { answer, .. } => push_answer(line, answer),
@@ -42,26 +64,28 @@ fn push_written<'a>(
     kind: &'a [u8],
     place: Place,
     index: u64,
-    wire: &'a [(Label, Datagram)],
+    octets: &'a [u8],
 ) -> Result<(), OutOfMemory>
-    ensures { OnOk result (line.new.items ≡ line.old.items ++ line_of (kind.now ∷ decimal place ∷ datagram_words wire.now index)) }
+    ensures { OnOk result (line.new.items ≡ line.old.items
+        ++ line_of (kind.now ∷ decimal place ∷ decimal index ∷ octets_text octets.now ∷ [])) }
 {
     let words = [
         Word::Text(kind),
         Word::Decimal(place.value()),
         Word::Decimal(index),
-        Word::Octets(octets_at(wire, index)),
+        Word::Octets(octets),
     ];
     push_line(line, &words)
 }
 
-fn push_asked(line: &mut Vec<u8>, index: u64, wire: &[(Label, Datagram)]) -> Result<(), OutOfMemory>
-    ensures { OnOk result (line.new.items ≡ line.old.items ++ line_of (codes "ask" ∷ datagram_words wire.now index)) }
+fn push_asked(line: &mut Vec<u8>, index: u64, octets: &[u8]) -> Result<(), OutOfMemory>
+    ensures { OnOk result (line.new.items ≡ line.old.items
+        ++ line_of (codes "ask" ∷ decimal index ∷ octets_text octets.now ∷ [])) }
 {
     let words = [
         Word::Text(b"ask"),
         Word::Decimal(index),
-        Word::Octets(octets_at(wire, index)),
+        Word::Octets(octets),
     ];
     push_line(line, &words)
 }
