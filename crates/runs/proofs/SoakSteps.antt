@@ -10,7 +10,6 @@ use Rattle.world.specs.declared.event.Event.{Event}
 use Rattle.world.specs.declared.event.Event.TheVariants.{Deliver}
 use Rattle.world.specs.Config.{Config}
 use Rattle.world.specs.Schedule.{schedule, delivery, after_words}
-use Rattle.world.specs.Answers.{Item}
 use Rattle.world.specs.World.{Recorded, empty}
 use Rattle.runs.specs.Scene.{Scene, Does, scene_of}
 use Rattle.runs.specs.Playing.{PlaysOut}
@@ -73,10 +72,10 @@ words_split (suc n) (suc a) b s is = words_split n a b (next_u32 s).1 (omega (ar
 -- ---- blocks
 
 -- a block, as code does it
-pub block_of : (c : Config) (loss done packets from now : ℕ) (words : List ℕ) (wire : List Item) (events start : List Event) (old sent settled new : Scene)
-    → length words ≡ packets → wire ≡ old.stand.wire → from ≡ done → start ≡ [] → events ≡ start ++ schedule loss (length wire) from words → now ≡ done + packets - 1
+pub block_of : (c : Config) (loss done packets index from now : ℕ) (words : List ℕ) (events start : List Event) (old sent settled new : Scene)
+    → length words ≡ packets → index ≡ length old.stand.wire → from ≡ done → start ≡ [] → events ≡ start ++ schedule loss index from words → now ≡ done + packets - 1
     → Does c old events sent → Settles c now sent settled → PlaysOut c now settled new → IsBlock c loss done words old new
-block_of c loss done packets from now words wire events start old sent settled new size same first none are last sends settles plays =
+block_of c loss done packets index from now words events start old sent settled new size same first none are last sends settles plays =
     let moment : now ≡ done + length words - 1 = omega (arith, size, last) in
     let whole : events ≡ schedule loss (length old.stand.wire) done words = rw (are, none, same, first) refl in
     record {

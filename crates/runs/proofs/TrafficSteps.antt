@@ -1,8 +1,8 @@
 -- What a link tells, transfer by transfer, and what of a hand-over was done.
-use Rattle.std.proofs.Common.{◌≡◌, ℕ, ◌<◌, Bool, List, [], ◌∷◌, ◌++◌, length, get_or, Option, Some, None, Result, Ok, Err, OnOk, OnErr, ⊎_elim, slice_get, refl, sym, ap, subst, ◌∙◌, append-nil, append_assoc}
-use Rattle.std.proofs.lemmas.Option.{slice_get-get_or}
+use Rattle.std.proofs.Common.{◌≡◌, ℕ, ◌<◌, ◌≤◌, Bool, Bor, List, [], ◌∷◌, ◌++◌, Option, Some, None, IsSome, MatchOption, Result, Ok, Err, OnOk, OnErr, ⊎_elim, slice_get, refl, sym, ap, subst, ◌∙◌, append-nil, append_assoc, arith, rules}
 use Rattle.arrayvec.specs.ArrayVec.{ArrayVec}
 use Rattle.world.specs.declared.event.End.{End}
+use Rattle.world.specs.declared.event.Label.{Label}
 use Rattle.world.specs.Answers.{Item}
 use Rattle.runs.specs.declared.link.Transfer.{Transfer}
 use Rattle.runs.specs.declared.link.Transfer.TheVariants.{Put}
@@ -33,10 +33,14 @@ grows_then (Some told) b c xs ys first more =
 
 -- ---- a hand-over
 
-pub on_wire_at : (wire wire' : List Item) (index : ℕ) (item : Item) → wire ≡ wire' → index < length wire' → item ≡ get_or wire index item → IsOnWire wire' index item.1
-on_wire_at wire wire' index item same within is =
-    let there : slice_get wire index ≡ Some item = slice_get-get_or wire index item (subst (λ (w : List Item). index < length w) (sym same) within) ∙ ap (λ (x : Item). Some x) (sym is) in
-    (item.0, subst (λ (w : List Item). slice_get w index ≡ Some item) same there)
+-- a datagram that is read lies on the wire
+pub on_wire_at : (wire : List Item) (index : ℕ) (found : Label × Bor (List ℕ)) → slice_get wire index ≡ Some (found.0, record { items = found.1.now }) → IsOnWire wire index (record { items = found.1.now })
+on_wire_at wire index found is = (found.0, is)
+
+-- within the wire one is read
+pub is_read : (count index : ℕ) (read : Option (Label × Bor (List ℕ))) (P : Label × Bor (List ℕ) → Type 0) → index < count → MatchOption read (count ≤ index) P → IsSome read
+is_read count index None P within past = absurd (omega (arith, past))
+is_read count index (Some found) P within is = search rules
 
 abbrev pub put : End → List ℕ → Transfer
 put to octets = Put to (record { items = octets })

@@ -1,29 +1,8 @@
 -- What a log comes to.
-use Rattle.std.specs.Prelude.{ℕ, Bool, true, false, List, count_by}
-use Rattle.receiver.specs.declared.answer.Played.TheVariants.{Packet, Gap}
+use Rattle.std.specs.Prelude.{ℕ, List, count_by}
 use Rattle.world.specs.declared.event.Entry.{Entry}
-use Rattle.world.specs.declared.event.Entry.TheVariants.{Sent, Repaired, Played}
+pub use Rattle.world.specs.Counts.{is_sent, is_repaired, is_played, is_gap}
 use Rattle.runs.specs.declared.tally.Tally.{Tally}
-
--- a packet was sent
-abbrev pub is_sent : Entry → Bool
-is_sent (Sent place index content) = true
-is_sent _ = false
-
--- a packet was retransmitted
-abbrev pub is_repaired : Entry → Bool
-is_repaired (Repaired place index) = true
-is_repaired _ = false
-
--- a packet was played
-abbrev pub is_played : Entry → Bool
-is_played (Played now (Packet place content)) = true
-is_played _ = false
-
--- a place was given up
-abbrev pub is_gap : Entry → Bool
-is_gap (Played now (Gap place)) = true
-is_gap _ = false
 
 -- what a log comes to, where so many packets were dropped
 abbrev pub tally_of : (dropped : ℕ) → List Entry → Tally

@@ -15,7 +15,7 @@ use crate::playing::play_all;
 use crate::stepping::happen;
 use crate::tally::Tally;
 use stores::{History, Window, history_by_place};
-use world::{End, Event, World, numbered_content};
+use world::{End, Event, Log, Wire, World, numbered_content};
 
 /// How often the receiver asks, and the sender retransmits.
 const ROUNDS: u64 = 3;
@@ -33,9 +33,9 @@ const ROUNDS: u64 = 3;
 ///
 /// `Link`: the link failed. `OutOfMemory`: the allocator refused a growth. The world then stands after a beginning of
 /// its events, each of them whole; a datagram whose sending failed may be out or not.
-pub fn drive<L: Link, H: History, W: Window>(
+pub fn drive<L: Link, H: History, W: Window, N: Wire, K: Log>(
     link: &mut L,
-    world: &mut World<H, W>,
+    world: &mut World<H, W, N, K>,
     packets: u32,
     drop: &[u32],
 ) -> Result<Tally, DriveFault>
@@ -56,13 +56,13 @@ pub fn drive<L: Link, H: History, W: Window>(
 {
     send_and_mend(link, world, packets, drop)?;
     play_all(world, u64::from(packets) + 2)?;
-    Ok(Tally::of(world.log(), drop.len() as u64))
+    Ok(Tally::of(world.counts(), drop.len() as u64))
 }
 
 /// Does all that goes over the link.
-fn send_and_mend<L: Link, H: History, W: Window>(
+fn send_and_mend<L: Link, H: History, W: Window, N: Wire, K: Log>(
     link: &mut L,
-    world: &mut World<H, W>,
+    world: &mut World<H, W, N, K>,
     packets: u32,
     drop: &[u32],
 ) -> Result<(), DriveFault>
@@ -79,9 +79,9 @@ fn send_and_mend<L: Link, H: History, W: Window>(
 }
 
 /// Sends the packets.
-fn send_all<L: Link, H: History, W: Window>(
+fn send_all<L: Link, H: History, W: Window, N: Wire, K: Log>(
     link: &mut L,
-    world: &mut World<H, W>,
+    world: &mut World<H, W, N, K>,
     packets: u32,
     drop: &[u32],
 ) -> Result<(), DriveFault>
@@ -100,9 +100,9 @@ fn send_all<L: Link, H: History, W: Window>(
 }
 
 /// Sends the packet of this number.
-fn send_one<L: Link, H: History, W: Window>(
+fn send_one<L: Link, H: History, W: Window, N: Wire, K: Log>(
     link: &mut L,
-    world: &mut World<H, W>,
+    world: &mut World<H, W, N, K>,
     number: u32,
     drop: &[u32],
 ) -> Result<(), DriveFault>
@@ -125,9 +125,9 @@ fn send_one<L: Link, H: History, W: Window>(
 }
 
 /// Does the rounds after so many packets.
-fn mend<L: Link, H: History, W: Window>(
+fn mend<L: Link, H: History, W: Window, N: Wire, K: Log>(
     link: &mut L,
-    world: &mut World<H, W>,
+    world: &mut World<H, W, N, K>,
     packets: u32,
 ) -> Result<(), DriveFault>
     requires working { L.failed link.old < 2 ^ 64 - 1 }
@@ -145,9 +145,9 @@ fn mend<L: Link, H: History, W: Window>(
 }
 
 /// Does the round of this moment.
-fn mend_once<L: Link, H: History, W: Window>(
+fn mend_once<L: Link, H: History, W: Window, N: Wire, K: Log>(
     link: &mut L,
-    world: &mut World<H, W>,
+    world: &mut World<H, W, N, K>,
     now: u64,
 ) -> Result<(), DriveFault>
     requires working { L.failed link.old < 2 ^ 64 - 1 }
@@ -163,9 +163,9 @@ fn mend_once<L: Link, H: History, W: Window>(
 }
 
 /// Retransmits until there is nothing left to.
-fn repair_all<L: Link, H: History, W: Window>(
+fn repair_all<L: Link, H: History, W: Window, N: Wire, K: Log>(
     link: &mut L,
-    world: &mut World<H, W>,
+    world: &mut World<H, W, N, K>,
     now: u64,
 ) -> Result<(), DriveFault>
     requires working { L.failed link.old < 2 ^ 64 - 1 }
@@ -182,7 +182,7 @@ fn repair_all<L: Link, H: History, W: Window>(
 }
 
 /// The places that the sender keeps are some in a row, and no more than its history has room for. This computes nothing.
-fn keeps_places<H: History, W: Window>(world: &World<H, W>)
+fn keeps_places<H: History, W: Window, N: Wire, K: Log>(world: &World<H, W, N, K>)
     ensures { Covers (first_kept world.now.sender.past) world.now.sender.past.capacity (stand_of world.now).sender }
 {
     history_by_place();

@@ -13,10 +13,10 @@ use crate::link::{Link, Transfer};
 use crate::stepping::happen;
 use rtpwire::Datagram;
 use stores::{History, Window};
-use world::{End, Entry, Event, World};
+use world::{End, Entry, Event, Log, Wire, World};
 
 /// The index of the datagram that the last event wrote on the wire, if it wrote one.
-fn written_last<H: History, W: Window>(world: &World<H, W>) -> Option<u64>
+fn written_last<H: History, W: Window, N: Wire, K: Log>(world: &World<H, W, N, K>) -> Option<u64>
     ensures { (before : List Logged) (entry : Logged) → world.now.log ≡ before ++ entry ∷ [] → result ≡ written_at entry }
 {
     match world.last() {
@@ -38,9 +38,9 @@ fn written_at(entry: &Entry) -> Option<u64>
 }
 
 /// Does an event, and hands what it wrote to an end at the moment `now`. The answer is whether it wrote something.
-pub(crate) fn exchange<L: Link, H: History, W: Window>(
+pub(crate) fn exchange<L: Link, H: History, W: Window, N: Wire, K: Log>(
     link: &mut L,
-    world: &mut World<H, W>,
+    world: &mut World<H, W, N, K>,
     event: &Event,
     to: End,
     now: u64,
@@ -62,9 +62,9 @@ pub(crate) fn exchange<L: Link, H: History, W: Window>(
 }
 
 /// Hands the wire's datagram at an index to an end, and injects there what comes.
-fn hand<L: Link, H: History, W: Window>(
+fn hand<L: Link, H: History, W: Window, N: Wire, K: Log>(
     link: &mut L,
-    world: &mut World<H, W>,
+    world: &mut World<H, W, N, K>,
     to: End,
     index: u64,
     now: u64,
@@ -87,9 +87,9 @@ fn hand<L: Link, H: History, W: Window>(
 }
 
 /// Puts the wire's datagram at an index into the link.
-fn put<L: Link, H: History, W: Window>(
+fn put<L: Link, H: History, W: Window, N: Wire, K: Log>(
     link: &mut L,
-    world: &World<H, W>,
+    world: &World<H, W, N, K>,
     to: End,
     index: u64,
 ) -> Result<(), DriveFault>
@@ -100,7 +100,7 @@ fn put<L: Link, H: History, W: Window>(
     ensures err { OnErr result ((begun : List Transfer) × IsHandOverBegun to index world.now.wire begun × Grows (L.traffic link.old) begun (L.traffic link.new)) }
     ensures blame { L.failed link.new ≡ L.failed link.old + blame result }
 {
-    let datagram = &world.wire()[index as usize].1;
-    link.send(to, datagram.as_slice())?;
+    let (_, octets) = world.datagram(index).unwrap();
+    link.send(to, octets)?;
     Ok(())
 }

@@ -7,13 +7,13 @@ ghost use Rattle.runs.specs.Playing.{goes, Plays, PlaysOut};
 use crate::stepping::happen;
 use receiver::Played;
 use stores::{History, OutOfMemory, Window};
-use world::{Entry, Event, World};
+use world::{Entry, Event, Log, Wire, World};
 
 /// The receiver plays at the moment `now` until it waits.
 ///
 /// `OutOfMemory`: the log could not grow. The receiver has then played so far.
-pub(crate) fn play_all<H: History, W: Window>(
-    world: &mut World<H, W>,
+pub(crate) fn play_all<H: History, W: Window, N: Wire, K: Log>(
+    world: &mut World<H, W, N, K>,
     now: u64,
 ) -> Result<(), OutOfMemory>
     ensures plays { OnOk result (PlaysOut world.old.config now (scene_of world.old) (scene_of world.new)) }
@@ -27,8 +27,8 @@ pub(crate) fn play_all<H: History, W: Window>(
 }
 
 /// The receiver plays once, by this event, and answers whether it did not wait.
-fn play_once<H: History, W: Window>(
-    world: &mut World<H, W>,
+fn play_once<H: History, W: Window, N: Wire, K: Log>(
+    world: &mut World<H, W, N, K>,
     event: &Event,
     now: u64,
 ) -> Result<bool, OutOfMemory>

@@ -15,7 +15,7 @@ use rand_core::{Rng, SeedableRng};
 use rand_pcg::Lcg64Xsh32;
 use std::alloc::Global;
 use stores::{History, OutOfMemory, Window};
-use world::{World, schedule};
+use world::{LeanWorld, Log, Wire, World, schedule};
 
 /// How many packets are sent before a world is settled.
 const BLOCK: u32 = 256;
@@ -41,16 +41,16 @@ pub fn soak<R: Rng, H: History, W: Window>(
     ensures drawn { OnOk result (R.stream rng.new ≡ after_words packets (R.stream rng.old)) }
     ensures err { OnErr result ((count : ℕ) × (count ≤ packets) × (R.stream rng.new ≡ after_words count (R.stream rng.old))) }
 {
-    let mut world = World::<H, W>::new(alloc, &soak_config())?;
+    let mut world = LeanWorld::<H, W>::empty(alloc, &soak_config())?;
     soak_world(alloc, &mut world, rng, packets, loss)
 }
 
 /// The same in a world that is given, from where that stands: its packets are sent at the moments from 0 on.
 ///
 /// `OutOfMemory`: the allocator refused a growth. The world then stands after a beginning of its events.
-pub fn soak_world<R: Rng, H: History, W: Window>(
+pub fn soak_world<R: Rng, H: History, W: Window, N: Wire, K: Log>(
     alloc: Global,
-    world: &mut World<H, W>,
+    world: &mut World<H, W, N, K>,
     rng: &mut R,
     packets: u32,
     loss: u32,
@@ -69,13 +69,13 @@ pub fn soak_world<R: Rng, H: History, W: Window>(
         dropped += soak_block(alloc, world, rng, done, size, loss)?;
         done += size;
     }
-    Ok(Tally::of(world.log(), dropped))
+    Ok(Tally::of(world.counts(), dropped))
 }
 
 /// Does one block of packets after `done` others, and answers how many of them were lost.
-fn soak_block<R: Rng, H: History, W: Window>(
+fn soak_block<R: Rng, H: History, W: Window, N: Wire, K: Log>(
     alloc: Global,
-    world: &mut World<H, W>,
+    world: &mut World<H, W, N, K>,
     rng: &mut R,
     done: u32,
     packets: u32,
@@ -92,7 +92,7 @@ fn soak_block<R: Rng, H: History, W: Window>(
     ensures err { OnErr result ((count : ℕ) × (count ≤ packets) × (R.stream rng.new ≡ after_words count (R.stream rng.old))) }
     ensures config { world.new.config ≡ world.old.config }
 {
-    let first = world.wire().len() as u64;
+    let first = world.datagrams();
     let mut events = Vec::new(alloc);
     schedule(rng, first, u64::from(done), packets, loss, &mut events)?;
     happen_all(world, &events)?;

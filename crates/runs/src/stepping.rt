@@ -4,11 +4,11 @@ ghost use Rattle.world.specs.declared.event.Entry.{Entry};
 ghost use Rattle.runs.specs.Scene.{Happens, Does, scene_of};
 
 use stores::{History, OutOfMemory, Window};
-use world::{Event, World};
+use world::{Event, Log, Wire, World};
 
 /// Does one event.
-pub(crate) fn happen<H: History, W: Window>(
-    world: &mut World<H, W>,
+pub(crate) fn happen<H: History, W: Window, N: Wire, K: Log>(
+    world: &mut World<H, W, N, K>,
     event: &Event,
 ) -> Result<(), OutOfMemory>
     ensures happens { OnOk result ((entry : Entry) × Happens world.old.config (scene_of world.old) event.now entry (scene_of world.new)) }
@@ -19,8 +19,8 @@ pub(crate) fn happen<H: History, W: Window>(
 }
 
 /// Does these events, one after the other.
-pub(crate) fn happen_all<H: History, W: Window>(
-    world: &mut World<H, W>,
+pub(crate) fn happen_all<H: History, W: Window, N: Wire, K: Log>(
+    world: &mut World<H, W, N, K>,
     events: &[Event],
 ) -> Result<(), OutOfMemory>
     ensures does { OnOk result (Does world.old.config (scene_of world.old) events.now (scene_of world.new)) }

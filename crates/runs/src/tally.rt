@@ -1,9 +1,10 @@
 //! What a whole run came to.
-ghost use Rattle.std.specs.Prelude.{◌≡◌};
-ghost use Rattle.runs.specs.Tally.{is_sent, is_repaired, is_played, is_gap, tally_of};
+ghost use Rattle.std.specs.Prelude.{◌≡◌, List};
+ghost use Rattle.world.specs.declared.event.Entry.{Entry};
+ghost use Rattle.world.specs.Counts.{counts_of};
+ghost use Rattle.runs.specs.Tally.{tally_of};
 
-use receiver::Played;
-use world::Entry;
+use world::Counts;
 
 /// What a run came to.
 #[derive(Clone, Copy, Debug, PartialEq, Eq)]
@@ -21,57 +22,16 @@ pub struct Tally {
 }
 
 impl Tally {
-    /// What a log comes to, where so many packets were dropped.
-    pub(crate) fn of(log: &[Entry], dropped: u64) -> Tally
-        ensures { result ≡ tally_of dropped log.now }
+    /// What a log comes to of which these are the counts, where so many packets were dropped.
+    pub(crate) fn of(counts: Counts, dropped: u64) -> Tally
+        ensures { (log : List Entry) → counts ≡ counts_of log → result ≡ tally_of dropped log }
     {
-        let mut tally = Tally {
-            sent: 0,
+        Tally {
+            sent: counts.sent,
             dropped,
-            repaired: 0,
-            played: 0,
-            gaps: 0,
-        };
-        for entry in log {
-            tally.sent += u64::from(is_sent(entry));
-            tally.repaired += u64::from(is_repaired(entry));
-            tally.played += u64::from(is_played(entry));
-            tally.gaps += u64::from(is_gap(entry));
+            repaired: counts.repaired,
+            played: counts.played,
+            gaps: counts.gaps,
         }
-        tally
-    }
-}
-
-/// A packet was sent.
-fn is_sent(entry: &Entry) -> bool
-    ensures { result ≡ is_sent entry.now }
-{
-    matches!(entry, Entry::Sent { .. })
-}
-
-/// A packet was retransmitted.
-fn is_repaired(entry: &Entry) -> bool
-    ensures { result ≡ is_repaired entry.now }
-{
-    matches!(entry, Entry::Repaired { .. })
-}
-
-/// A packet was played.
-fn is_played(entry: &Entry) -> bool
-    ensures { result ≡ is_played entry.now }
-{
-    match entry {
-        Entry::Played { played, .. } => matches!(played, Played::Packet(..)),
-        _ => false,
-    }
-}
-
-/// A place was given up.
-fn is_gap(entry: &Entry) -> bool
-    ensures { result ≡ is_gap entry.now }
-{
-    match entry {
-        Entry::Played { played, .. } => matches!(played, Played::Gap(_)),
-        _ => false,
     }
 }

@@ -1,7 +1,6 @@
-use Rattle.std.proofs.Common.{◌≡◌, ◌+◌, ◌-◌, List, refl, sym, ap, subst, ◌∙◌, arith}
+use Rattle.std.proofs.Common.{◌≡◌, ◌+◌, ◌-◌, refl, sym, ap, subst, ◌∙◌, arith}
 use Rattle.rand_core.specs.Stream.{Stream, next_u32}
 use Rattle.rand_core.specs.Steps.{first_words}
-use Rattle.world.specs.declared.event.Entry.{Entry}
 use Rattle.world.specs.Config.{Config}
 use Rattle.world.specs.Schedule.{after_words}
 use Rattle.runs.specs.Tally.{tally_of}
@@ -50,7 +49,7 @@ returns-clause-tally g c =
     let none : c.args.packets - c.loop-done.done ≡ 0 = omega (arith, c.loop-done-test.false) in
     let nothing : lost c.args.loss (first_words next_u32 (c.args.packets - c.loop-done.done) stream) ≡ 0 = omega (arith, lost_most c.args.loss (c.args.packets - c.loop-done.done) stream, none) in
     let dropped : c.loop-done.dropped ≡ lost c.args.loss (first_words next_u32 c.args.packets (g.R.Rng.stream c.args.rng.now)) = omega (arith, nothing, was.dropped) in
-    c.of.ensures ∙ ap (λ (log : List Entry). tally_of c.loop-done.dropped log) c.log.ensures ∙ ap (λ n. tally_of n c.loop-done.world.log) dropped
+    c.of.ensures c.loop-done.world.log c.counts.ensures ∙ ap (λ n. tally_of n c.loop-done.world.log) dropped
 
 pub returns-clause-drawn : goal.returns-clause-drawn
 returns-clause-drawn g c =
