@@ -7,7 +7,7 @@ ghost use Rattle.commands.specs.Loopback.{StopsOverLink, RunsOverLink, loopback_
 use runs::{DriveFault, Link, Tally, drive, run_config};
 use std::alloc::Global;
 use stores::{RingHistory, RingWindow};
-use world::{Config, World};
+use world::{Config, LeanWorld};
 
 /// The configuration of the run.
 fn loopback_config() -> Config
@@ -36,6 +36,6 @@ pub fn loopback<L: Link>(
     // The link is blamed exactly where it failed.
     ensures blame { L.failed link.new ≡ L.failed link.old + blame result }
 {
-    let mut world = World::<RingHistory, RingWindow>::new(alloc, &loopback_config())?;
+    let mut world = LeanWorld::<RingHistory, RingWindow>::empty(alloc, &loopback_config())?;
     drive(link, &mut world, packets, drop)
 }

@@ -4,15 +4,16 @@ ghost use Rattle.std.specs.Io.KnownBytes.{IsAtEnd, Keeps, prepend_known};
 ghost use Rattle.commands.specs.Found.{Found};
 ghost use Rattle.commands.specs.Reading.{Continues, EndsAt, FailsAt, FailsFirst, IfBoth, IsNoLine, Leaves, TakesConfig};
 ghost use Rattle.commands.specs.Sim.{Advances, AnswersRead, IsDone, IsStopped, WroteOfRead};
+ghost use Rattle.lines.specs.LogText.{octets_at, written_octets};
 
 use crate::fault::SimFault;
 use crate::output::{flush, write_text};
 use crate::pending::Pending;
-use lines::{LONGEST_LINE, find_byte, parse_config, parse_event, push_entry};
+use lines::{LONGEST_LINE, find_byte, parse_config, parse_event, push_entry_octets};
 use std::alloc::Global;
 use std::io::{Read, Write};
 use stores::{OutOfMemory, RingHistory, RingWindow};
-use world::{Config, Event, World};
+use world::{Config, Entry, Event, LeanWorld};
 
 /// What stands at the front of the octets that are pending.
 #[derive(Clone, Copy)]
@@ -115,18 +116,39 @@ fn read_event<R: Read, W: Write>(
     }
 }
 
+/// The world of a script. It keeps no more of the log than the line that is written next needs.
+type ScriptWorld = LeanWorld<RingHistory, RingWindow>;
+
+/// The octets of the datagram at an index of the wire.
+fn octets_at(world: &ScriptWorld, index: u64) -> &[u8]
+    ensures { result.now ≡ octets_at world.now.wire index }
+{
+    match world.datagram(index) {
+        Some((_, octets)) => octets,
+        None => &[],
+    }
+}
+
+/// The octets of the datagram that an entry tells was put on the wire; none where it tells of none.
+fn written_octets<'a>(world: &'a ScriptWorld, entry: &Entry) -> &'a [u8]
+    ensures { result.now ≡ written_octets world.now.wire entry.now }
+{
+    match entry {
+        Entry::Sent { index, .. } => octets_at(world, *index),
+        Entry::Repaired { index, .. } => octets_at(world, *index),
+        Entry::Asked { index, .. } => octets_at(world, *index),
+        _ => &[],
+    }
+}
+
 /// Does an event, and puts the line of its entry in the place of `line`.
-fn advance(
-    world: &mut World<RingHistory, RingWindow>,
-    event: &Event,
-    line: &mut Vec<u8>,
-) -> Result<(), OutOfMemory>
+fn advance(world: &mut ScriptWorld, event: &Event, line: &mut Vec<u8>) -> Result<(), OutOfMemory>
     ensures { OnOk result (Advances world.old event.now world.new line.new.items) }
 {
     world.happen(event)?;
     line.clear();
     match world.last() {
-        Some(entry) => push_entry(line, entry, world.wire()),
+        Some(entry) => push_entry_octets(line, entry, written_octets(world, entry)),
         // An event has always its entry.
         None => Ok(()),
     }
@@ -154,7 +176,7 @@ pub fn sim_text<R: Read, W: Write>(
     let mut pending = Pending::new(alloc)?;
     let mut line = Vec::new(alloc);
     let config = read_config(&mut pending, input, output)?;
-    let mut world = World::<RingHistory, RingWindow>::new(alloc, &config)?;
+    let mut world = ScriptWorld::empty(alloc, &config)?;
     let mut event = None;
     // A log of 2^64 entries has no room in any memory, so the loop ends before its range does.
     for count in 0..u64::MAX - 2 {
