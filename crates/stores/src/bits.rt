@@ -167,9 +167,10 @@ impl Bits {
         self.words[word] == 0
     }
 
-    /// Whether the set has no more than three positions for each word, for a choice between two walks.
-    pub fn is_sparse(&self) -> bool {
-        self.count <= 3 * self.words.len()
+    /// Whether the set has no more than three positions for each word that has the bits of the first positions, of so many, for a choice
+    /// between two walks.
+    pub fn is_sparse(&self, len: usize) -> bool {
+        self.count <= 3 * (len / 64 + 1)
     }
 
     /// The end of the positions from this one on whose bits are in its word.

@@ -69,7 +69,7 @@ pub fn find_due(
     ensures low { AreLow lows.new.items missing.now.front slots.now.items }
 {
     due.clear();
-    if missing.is_sparse() {
+    if missing.is_sparse(slots.len()) {
         find_few(due, most, first, slots, missing, now, rule)
     } else {
         find_by_blocks(due, most, first, slots, missing, lows, now, rule)
@@ -304,7 +304,7 @@ pub fn next_among(slots: &Slots, missing: &Bits, lows: &Vec<Low>, rule: AskRule)
     requires low { AreLow lows.now.items missing.now.front slots.now.items }
     ensures { IsSoonest rule result slots.now.items (length slots.now.items) }
 {
-    if missing.is_sparse() {
+    if missing.is_sparse(slots.len()) {
         return next_of_few(slots, missing, rule);
     }
     next_by_blocks(slots, missing, lows, rule)
