@@ -40,7 +40,7 @@ def spread(times):
     return parts[-1] - parts[0]
 
 
-@on_time(0.005)
+@on_time(0.01)
 def evenly(checks, stage):
     """Held, nine in ten leave within a few milliseconds of their times; else they lie as far apart as they came."""
     name = "--hold 90000"

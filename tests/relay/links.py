@@ -132,22 +132,22 @@ def row(checks, stage, name, floor, **rule):
         print(f"{name}: librist is not installed: not beside it", flush=True)
 
 
-@on_time(0.01)
+@on_time(0.02)
 def one_in_ten(checks, stage):
     row(checks, stage, "10 % lost", 0.995, loss=0.1)
 
 
-@on_time(0.01)
+@on_time(0.02)
 def two_in_ten(checks, stage):
     row(checks, stage, "20 % lost", 0.985, loss=0.2)
 
 
-@on_time(0.01)
+@on_time(0.02)
 def bursts(checks, stage):
     row(checks, stage, "5 % lost in bursts of 20", 0.97, loss=0.05, burst=20)
 
 
-@on_time(0.01)
+@on_time(0.02)
 def outage(checks, stage):
     """What was sent in all but the last 200 milliseconds of it can't be in time."""
     row(checks, stage, "2 % lost and a second's outage", 1 - 0.92 / SECONDS, loss=0.02, out=OUT)
