@@ -36,6 +36,8 @@ pub const VIDEO: Shape = Shape {
     },
     back: Weather {
         losses: 20,
+        late: 20,
+        jitter: 10,
         ..CLEAR
     },
     patience: 80,
