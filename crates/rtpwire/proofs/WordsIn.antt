@@ -1,7 +1,7 @@
 -- Words of 32 bits, read from octets and spelled in them.
 use Rattle.std.proofs.Common.{◌≡◌, ℕ, zero, suc, ◌+◌, ◌-◌, ◌*◌, ◌/◌, ◌^◌, ◌<◌, ◌≤◌, List, [], ◌∷◌, ◌++◌, length, take, drop, slice_get, Some, All, arith, ap, sym, ◌∙◌, refl, append-nil}
 use Rattle.std.proofs.Math.Seq.{take-add}
-use Rattle.std.proofs.lemmas.List.{length-drop, drop-drop}
+use Rattle.std.proofs.lemmas.List.{length-drop, length-take-le, drop-drop}
 use Rattle.std.proofs.lemmas.List.Elements.{All-nil, All-cons, All-head, All-tail}
 use Rattle.byteorder.specs.Endian.{big_bytes, big_number}
 use Rattle.rtpwire.specs.Rtp.{word_octets}
@@ -45,6 +45,10 @@ word_octets-words_at (suc n) octets long all =
     ∙ ap (λ (x : List ℕ). take 4 octets ++ x) rest
     ∙ sym (take-add 4 (4 * n) octets)
     ∙ ap (λ (k : ℕ). take k octets) (sym size)
+
+-- all words of octets, as octets
+pub whole_words : (octets : List ℕ) → length (take (length octets / 4 * 4) octets) ≡ 4 * length (words_at (length octets / 4) octets)
+whole_words octets = length-take-le (length octets / 4 * 4) octets (omega arith) ∙ omega (arith, length_words_at (length octets / 4) octets)
 
 -- the word at a place
 pub slice_get-words_at : (n : ℕ) (octets : List ℕ) (i : ℕ) → i < n → slice_get (words_at n octets) i ≡ Some (big_number 4 (drop (4 * i) octets))

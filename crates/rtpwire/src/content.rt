@@ -157,7 +157,11 @@ fn refill_other<T: Copy + Default + Drop, const N: usize>(to: &mut ArrayVec<T, N
     requires { length items.now ≤ N }
     ensures { to.new.items ≡ items.now }
 {
-    to.truncate(items.len());
+    if to.len() > items.len() {
+        to.truncate(items.len());
+        to.as_mut_slice().copy_from_slice(items);
+        return;
+    }
     let (over, behind) = items.split_at(to.len());
     to.as_mut_slice().copy_from_slice(over);
     to.try_extend_from_slice(behind).unwrap();

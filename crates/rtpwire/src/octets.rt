@@ -68,7 +68,7 @@ pub(crate) fn push_words<const N: usize>(out: &mut ArrayVec<u8, N>, words: Words
     }
 }
 
-fn push_numbers<const N: usize>(out: &mut ArrayVec<u8, N>, numbers: &[u32])
+pub(crate) fn push_numbers<const N: usize>(out: &mut ArrayVec<u8, N>, numbers: &[u32])
     requires { length out.old.items + 4 * length numbers.now ≤ N }
     ensures items { out.new.items ≡ out.old.items ++ word_octets numbers.now }
     ensures len { length out.new.items ≡ length out.old.items + 4 * length numbers.now }

@@ -1,15 +1,16 @@
 //! Writing an RTP packet.
 ghost use Rattle.std.specs.Prelude.{◌≡◌, ◌↔◌, ◌⊎◌, ℕ, ◌+◌, ◌*◌, ◌^◌, ◌<◌, ◌≤◌, ◌++◌, [], length, take, IfSome, IsSome, IsNone};
 ghost use Rattle.rtpwire.specs.Buffer.{in_front};
-ghost use Rattle.rtpwire.specs.Carried.{words_of};
+ghost use Rattle.std.specs.Option.{option_map};
+ghost use Rattle.rtpwire.specs.Carried.{words_of, extension_with};
 ghost use Rattle.rtpwire.specs.Rtp.{RtpSpells, IsPacket, written, written_padding, fixed_header, header, extension_octets};
-ghost use Rattle.rtpwire.specs.Content.{packet_of};
+ghost use Rattle.rtpwire.specs.Content.{packet_of, extension_of};
 
 use crate::carried::{Carried, Words};
 use crate::content::{Content, Datagram};
-use crate::fill::fill_packet;
+use crate::fill::{fill_packet, fill_words};
 use crate::first_octet::FirstOctet;
-use crate::limits::{MAX_DATAGRAM, MAX_HEADER, MAX_PAYLOAD};
+use crate::limits::{MAX_DATAGRAM, MAX_HEADER, MAX_PAYLOAD, MAX_WORDS};
 use crate::octets::{push_octets, push_u16, push_words};
 use crate::rtp::FIXED_HEADER;
 use arrayvec::ArrayVec;
@@ -88,8 +89,7 @@ pub fn write_media_into(
     write_longer_into(out, content, padding, sequence, payload_type, ssrc)
 }
 
-/// The same for any content. It stands apart since it blanks room for the longest header, which a plain one, as most
-/// are, has no use for.
+/// The same for any content, in place: no header is built elsewhere and moved. It stands apart, as most packets have no use for it.
 #[inline(never)]
 fn write_longer_into(
     out: &mut [u8],
@@ -106,9 +106,45 @@ fn write_longer_into(
     ensures fits { result ≤ MAX_HEADER + MAX_PAYLOAD + 255 }
 {
     content.is_bounded();
-    let mut header = ArrayVec::<u8, MAX_HEADER>::new();
-    push_header(&mut header, content, padding, sequence, payload_type, ssrc);
-    fill_packet(out, &header, content.payload(), padding)
+    let (front, behind) = out.split_at_mut(header_len(content));
+    fill_header(front, content, padding, sequence, payload_type, ssrc);
+    front.len() + fill_packet(behind, &[], content.payload(), padding)
+}
+
+/// Writes all that stands before a payload to a slice that is as long.
+pub(crate) fn fill_header(
+    out: &mut [u8],
+    content: &Carried<'_>,
+    padding: u8,
+    sequence: u16,
+    payload_type: u8,
+    ssrc: u32,
+)
+    requires payload_type { payload_type < 128 }
+    requires len { length out.old ≡ length (header (packet_of content.now padding sequence payload_type ssrc)) }
+    ensures { out.new ≡ header (packet_of content.now padding sequence payload_type ssrc) }
+{
+    content.is_bounded();
+    let fixed = fixed_octets(content, padding, sequence, payload_type, ssrc);
+    let (front, behind) = out.split_at_mut(FIXED_HEADER);
+    front.copy_from_slice(&fixed);
+    let (sources, behind) = behind.split_at_mut(4 * content.sources().len());
+    fill_words(sources, content.sources());
+    fill_extension(behind, content.extension());
+}
+
+/// Writes an extension, if there is one, to a slice that is as long.
+fn fill_extension(out: &mut [u8], extension: Option<(u16, Words<'_>)>)
+    requires few { IfSome extension (λ e. length (words_of e.1) ≤ MAX_WORDS) }
+    requires len { length out.old ≡ length (extension_octets (option_map extension_of (option_map extension_with extension))) }
+    ensures { out.new ≡ extension_octets (option_map extension_of (option_map extension_with extension.entry)) }
+{
+    if let Some((profile, words)) = extension {
+        let (front, behind) = out.split_at_mut(4);
+        NetworkEndian::write_u16(front, profile);
+        NetworkEndian::write_u16(&mut front[2..], words.len() as u16);
+        fill_words(behind, words);
+    }
 }
 
 /// All that stands before a payload where that is the fixed header alone: where there are neither sources nor a header

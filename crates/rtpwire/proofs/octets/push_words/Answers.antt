@@ -1,20 +1,14 @@
 use Rattle.std.proofs.Common.{◌≡◌, ℕ, ◌*◌, ◌/◌, ◌++◌, List, length, take, ap, sym, ◌∙◌, arith, rules, length-append}
-use Rattle.std.proofs.lemmas.List.{length-take-le}
 use Rattle.rtpwire.specs.declared.carried.Words.{Words}
 use Rattle.rtpwire.specs.Carried.{words_of}
 use Rattle.rtpwire.specs.Rtp.{word_octets}
-use Rattle.rtpwire.specs.RtpReading.{words_at}
 use Rattle.rtpwire.proofs.OctetsIn.{each_of}
-use Rattle.rtpwire.proofs.WordsIn.{length_words_at, word_octets-words_at}
+use Rattle.rtpwire.proofs.WordsIn.{whole_words, word_octets-words_at}
 use Rattle.rtpwire.proofs.octets.push_words.Goals as goal
-
--- all words of octets, as octets
-whole : (octets : List ℕ) → length (take (length octets / 4 * 4) octets) ≡ 4 * length (words_at (length octets / 4) octets)
-whole octets = length-take-le (length octets / 4 * 4) octets (omega arith) ∙ omega (arith, length_words_at (length octets / 4) octets)
 
 pub push_octets-requires : goal.push_octets-requires
 push_octets-requires g c =
-    let size = whole c.in-Octets.octets.now in
+    let size = whole_words c.in-Octets.octets.now in
     let words = ap (λ (w : Words). length (words_of w)) c.in-Octets.is in
     (search rules, omega (arith, size, words))
 
@@ -29,7 +23,7 @@ returns-in-Octets-clause-items g c =
 
 pub returns-in-Octets-clause-len : goal.returns-in-Octets-clause-len
 returns-in-Octets-clause-len g c =
-    let size = whole c.in-Octets.octets.now in
+    let size = whole_words c.in-Octets.octets.now in
     let words = ap (λ (w : Words). length (words_of w)) c.in-Octets.is in
     let written = ap length c.push_octets.ensures in
     omega (arith, size, words, written, length-append {A = ℕ})
