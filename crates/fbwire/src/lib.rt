@@ -14,4 +14,4 @@ pub use compound::{Compound, Nacks, compound_is_determined};
 pub use fault::FeedbackFault;
 pub use nack::{NackView, Pair, nack_is_determined, write_nack, write_nack_into};
 pub use numbers::{Numbers, Pairs};
-pub use packing::{can_pack, pack, packing_is_determined};
+pub use packing::{can_pack, pack, pack_into, packing_is_determined};

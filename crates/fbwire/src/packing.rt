@@ -34,13 +34,27 @@ pub fn pack(places: &[Place]) -> (ArrayVec<Pair, 64>, usize)
         → result.1 ≡ length places.now }
 {
     let mut pairs = ArrayVec::new();
+    let covered = pack_into(places, &mut pairs);
+    (pairs, covered)
+}
+
+/// The same in a list that the caller lends, in the place of what it held.
+pub fn pack_into(places: &[Place], pairs: &mut ArrayVec<Pair, 64>) -> usize
+    requires rising { IsStrictlyIncreasing places.now }
+    requires narrow { IsNarrow places.now }
+    ensures packing { IsPacking places.now pairs.new.items result }
+    ensures some { 0 < length places.now → (0 < length pairs.new.items) × (0 < result) }
+    ensures full { result < length places.now → length pairs.new.items ≡ 64 }
+    ensures whole { (ps : List Pair) → length ps ≤ 64 → NamesExactly ps (map number places.now) → result ≡ length places.now }
+{
+    pairs.clear();
     let mut covered = 0;
     while covered < places.len() && !pairs.is_full() {
         let (pair, count) = first_pair(&places[covered..]);
         pairs.push(pair);
         covered += count;
     }
-    (pairs, covered)
+    covered
 }
 
 /// Whether [`pack`] takes these places: they rise, and the last is less than 8192 above the first.

@@ -1,6 +1,6 @@
 use Rattle.std.proofs.Common.{◌-◌, ◌≤◌, length}
 use Rattle.fbwire.proofs.Packings.{PacksBefore}
-use Rattle.fbwire.proofs.packing.pack.Given as goal
+use Rattle.fbwire.proofs.packing.pack_into.Given as goal
 
 -- the pairs so far are taken before whatever is taken of the rest
 abbrev pub invariant-loop-covered : goal.invariant-loop-covered
