@@ -15,3 +15,4 @@ pub mod KindsTallied
 pub mod KindsTold
 pub mod PaddingTold
 pub mod RepairsFound
+pub mod Masked
