@@ -359,9 +359,13 @@ impl<W: Window> ReceiveRelay<W> {
         ensures within { IfSome result IsWithin }
         ensures room { length out.new ≡ MAX_DATAGRAM }
     {
-        let copy = self.copy.take()?;
+        // Where there is none, as is usual, nothing is moved.
+        let Some(copy) = &self.copy else {
+            return None;
+        };
         let len = copy.len();
         out[..len].copy_from_slice(copy.as_slice());
+        self.copy = None;
         Some(Turn {
             note: Note::AskedAgain,
             leaves: Some(Departure {
