@@ -1,12 +1,12 @@
 -- One bit of words of 64: set, cleared, and found.
-use Rattle.std.proofs.Common.{◌≡◌, ◌≢◌, ℕ, ◌+◌, ◌-◌, ◌*◌, ◌/◌, ◌%◌, ◌^◌, ◌<◌, ◌≤◌, ◌==◌, Bool, true, false, List, length, get_or, slice_set, cond, ap, sym, ◌∙◌, refl, arith, w64, bit_and, bit_or, nat_le, leb-true, leb-false}
+use Rattle.std.proofs.Common.{◌≡◌, ◌≢◌, ℕ, ◌+◌, ◌-◌, ◌*◌, ◌/◌, ◌%◌, ◌^◌, ◌<◌, ◌≤◌, ◌==◌, ◌||◌, Bool, true, false, List, length, get_or, slice_set, cond, ap, sym, ◌∙◌, refl, arith, w64, bit_and, bit_or, min, nat_le, leb-true, leb-false}
 use Rattle.std.specs.Prelude.{if◌then◌else◌}
 use Rattle.std.specs.Int.{bit_at, bit_not, trailing_zeros}
 use Rattle.std.proofs.lemmas.Bool.{cond_both, eqb-true, eqb-false}
 use Rattle.std.proofs.lemmas.Bool.Decides.{nat_tests}
 use Rattle.std.proofs.lemmas.List.{get_or-set_same, get_or-set_other, get_or_read}
 use Rattle.std.proofs.lemmas.Nat.{shr-shr}
-use Rattle.std.proofs.lemmas.Nat.Bits.{bit_at-zero, bit_at_above, bit_at_set_same, bit_at_set_other, bit_at_clear_same, bit_at_clear_other, bit_at-trailing_zeros}
+use Rattle.std.proofs.lemmas.Nat.Bits.{bit_at-zero, bit_at_above, bit_at-lt, bit_at_and, bit_at_not, bit_at_set_same, bit_at_set_other, bit_at_clear_same, bit_at_clear_other, bit_at-trailing_zeros}
 use Rattle.stores.specs.Bits.{is_set}
 
 chosen : (a b : ℕ) (c d : Bool) → a ≡ b → c ≡ (if a == b then c else d)
@@ -111,10 +111,18 @@ word_bit_set word bit b small =
     (λ e. let apart : b ≢ bit = eqb-false _ _ e in
     ap (λ n. n == 1) (bit_at_set_other w64 word bit small b apart) ∙ passed b bit true (bit_at word b == 1) apart)
 
-pub word_bit_clear : (word bit b : ℕ) → bit < 64 → b < 64 → (bit_at (bit_and word (bit_not w64 (1 * 2 ^ bit % 2 ^ 64))) b == 1) ≡ (if b == bit then false else (bit_at word b == 1))
-word_bit_clear word bit b small below =
-    cond_both (b == bit) true false (λ _. (bit_at (bit_and word (bit_not w64 (1 * 2 ^ bit % 2 ^ 64))) b == 1) ≡ (if b == bit then false else (bit_at word b == 1)))
-    (λ e. let at : b ≡ bit = eqb-true _ _ e in
-    ap (λ n. bit_at (bit_and word (bit_not w64 (1 * 2 ^ bit % 2 ^ 64))) n == 1) at ∙ ap (λ n. n == 1) (bit_at_clear_same w64 word bit small) ∙ chosen b bit false (bit_at word b == 1) at)
-    (λ e. let apart : b ≢ bit = eqb-false _ _ e in
-    ap (λ n. n == 1) (bit_at_clear_other w64 word bit small b below apart) ∙ passed b bit false (bit_at word b == 1) apart)
+either_of : (b c : Bool) → (if b then true else c) ≡ (b || c)
+either_of true c = refl
+either_of false c = refl
+
+pub word_bit_or : (word bit b : ℕ) → bit < 64 → (bit_at (bit_or word (1 * 2 ^ bit % 2 ^ 64)) b == 1) ≡ (b == bit || bit_at word b == 1)
+word_bit_or word bit b small = word_bit_set word bit b small ∙ either_of (b == bit) (bit_at word b == 1)
+
+bit_left : (a b c : ℕ) → a < 2 → b < 2 → c ≡ min a (1 - b) → (c == 1) ≡ (if b == 1 then false else (a == 1))
+bit_left a b c one other e = grind (arith, nat_tests)
+
+-- a word of which the bits of another one were cleared
+pub word_bits_clear : (word bits b : ℕ) → bits < 2 ^ 64 → b < 64 → (bit_at (bit_and word (bit_not w64 bits)) b == 1) ≡ (if bit_at bits b == 1 then false else (bit_at word b == 1))
+word_bits_clear word bits b fits below =
+    bit_left (bit_at word b) (bit_at bits b) (bit_at (bit_and word (bit_not w64 bits)) b) (bit_at-lt word b) (bit_at-lt bits b)
+    (bit_at_and word (bit_not w64 bits) b ∙ ap (min (bit_at word b)) (bit_at_not w64 bits b fits below))

@@ -48,34 +48,44 @@ module _ (now delay retry limit k : ℕ) (slots : List Slot) where
       rw (first, all) refl
 
   -- the slot at an index is due, or it isn't
-  pub due_left_yes : (i : ℕ) (slot : Slot) → i < length slots → slot ≡ get_or slots i slot → is_due now delay retry limit (Some slot) ≡ true → due_left i ≡ (k + i) ∷ due_left (i + 1)
+  pub due_left_take : (i : ℕ) → i < length slots → is_due now delay retry limit (slice_get slots i) ≡ true → due_left i ≡ (k + i) ∷ due_left (i + 1)
   unfolding due_rest
-  due_left_yes i slot l e due = passing_yes due_at (k + i) (k + (i + 1)) (length slots - i) (length slots - (i + 1)) (omega arith) (omega arith) (ap (is_due now delay retry limit) (slot_of_index k slots i slot l e) ∙ due)
+  due_left_take i l due = passing_yes due_at (k + i) (k + (i + 1)) (length slots - i) (length slots - (i + 1)) (omega arith) (omega arith) (ap (is_due now delay retry limit) (slot_from_index k slots i) ∙ due)
+
+  pub due_left_leave : (i : ℕ) → i < length slots → is_due now delay retry limit (slice_get slots i) ≡ false → due_left i ≡ due_left (i + 1)
+  unfolding due_rest
+  due_left_leave i l off = passing_no due_at (k + i) (k + (i + 1)) (length slots - i) (length slots - (i + 1)) (omega arith) (omega arith) (ap (is_due now delay retry limit) (slot_from_index k slots i) ∙ off)
+
+  -- as it was read
+  pub due_left_yes : (i : ℕ) (slot : Slot) → i < length slots → slot ≡ get_or slots i slot → is_due now delay retry limit (Some slot) ≡ true → due_left i ≡ (k + i) ∷ due_left (i + 1)
+  due_left_yes i slot l e due = due_left_take i l (sym (ap (is_due now delay retry limit) (slot_from_index k slots i)) ∙ ap (is_due now delay retry limit) (slot_of_index k slots i slot l e) ∙ due)
 
   pub due_left_no : (i : ℕ) (slot : Slot) → i < length slots → slot ≡ get_or slots i slot → is_due now delay retry limit (Some slot) ≡ false → due_left i ≡ due_left (i + 1)
-  unfolding due_rest
-  due_left_no i slot l e due = passing_no due_at (k + i) (k + (i + 1)) (length slots - i) (length slots - (i + 1)) (omega arith) (omega arith) (ap (is_due now delay retry limit) (slot_of_index k slots i slot l e) ∙ due)
+  due_left_no i slot l e due = due_left_leave i l (sym (ap (is_due now delay retry limit) (slot_from_index k slots i)) ∙ ap (is_due now delay retry limit) (slot_of_index k slots i slot l e) ∙ due)
 
   -- none is left at the end
   pub due_left_end : (i : ℕ) → length slots ≤ i → due_left i ≡ []
   unfolding due_rest
   due_left_end i end = passing_none due_at (k + i) (length slots - i) (omega arith)
 
-  due_left_pass : (i : ℕ) → i < length slots → is_due now delay retry limit (slice_get slots i) ≡ false → due_left i ≡ due_left (i + 1)
-  unfolding due_rest
-  due_left_pass i l off = passing_no due_at (k + i) (k + (i + 1)) (length slots - i) (length slots - (i + 1)) (omega arith) (omega arith) (ap (is_due now delay retry limit) (slot_from_index k slots i) ∙ off)
+  -- an end above them is theirs
+  pub due_left_within : (i : ℕ) → due_left (min i (length slots)) ≡ due_left i
+  due_left_within i =
+      cond_both (nat_le i (length slots)) true false (λ _. due_left (min i (length slots)) ≡ due_left i)
+      (λ e. let within : i ≤ length slots = leb-true _ _ e in ap due_left (omega arith))
+      (λ e. let past : length slots < i = leb-false _ _ e in due_left_end (min i (length slots)) (omega arith) ∙ sym (due_left_end i (omega arith)))
 
   -- slots that are not missing are passed
   pub due_left_skip : (i n j : ℕ) → j ≡ i + n → j ≤ length slots → ((p : ℕ) → i ≤ p → p < j → is_missing (slice_get slots p) ≡ false) → due_left i ≡ due_left j
   due_left_skip i zero j at within none = ap due_left (omega arith)
   due_left_skip i (suc n) j at within none =
-      due_left_pass i (omega arith) (not_due now delay retry limit (slice_get slots i) (none i (omega arith) (omega arith))) ∙ due_left_skip (i + 1) n j (omega arith) within (λ p l u. none p (omega arith) u)
+      due_left_leave i (omega arith) (not_due now delay retry limit (slice_get slots i) (none i (omega arith) (omega arith))) ∙ due_left_skip (i + 1) n j (omega arith) within (λ p l u. none p (omega arith) u)
 
   -- slots that are not due are passed
   pub due_left_past : (i n j : ℕ) → j ≡ i + n → j ≤ length slots → ((p : ℕ) → i ≤ p → p < j → is_due now delay retry limit (slice_get slots p) ≡ false) → due_left i ≡ due_left j
   due_left_past i zero j at within none = ap due_left (omega arith)
   due_left_past i (suc n) j at within none =
-      due_left_pass i (omega arith) (none i (omega arith) (omega arith)) ∙ due_left_past (i + 1) n j (omega arith) within (λ p l u. none p (omega arith) u)
+      due_left_leave i (omega arith) (none i (omega arith) (omega arith)) ∙ due_left_past (i + 1) n j (omega arith) within (λ p l u. none p (omega arith) u)
 
   -- none is left where no slot is missing from there on
   pub due_left_none : (i : ℕ) → ((p : ℕ) → i ≤ p → p < length slots → is_missing (slice_get slots p) ≡ false) → due_left i ≡ []

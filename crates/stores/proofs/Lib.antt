@@ -6,11 +6,13 @@ pub mod ReadPlaces
 pub mod Passing
 pub mod DueSlots
 pub mod NextDue
-pub mod LeastMoments
+pub mod Bounds
+pub mod AskedBlocks
 pub mod Counting
 pub mod Listed
 pub mod AskPlaces
 pub mod Runs
+pub mod Blocks
 pub mod EntryPlaces
 pub mod EntryChanges
 pub mod EntrySearch

@@ -1,13 +1,12 @@
 -- What a window has at each place, and what is left of it when its front is taken out.
-use Rattle.std.proofs.Common.{◌≡◌, ◌≢◌, ◌↔◌, ℕ, ◌+◌, ◌^◌, ◌<◌, ◌≤◌, true, List, length, get_or, slice_get, slice_set, nat_lt, false, ap, ltb-true, ltb-false, length-set, Option, Some, None, IsSome, sym, subst, ◌∙◌, refl, arith}
+use Rattle.std.proofs.Common.{◌≡◌, ◌≢◌, ◌↔◌, ℕ, ◌+◌, ◌^◌, ◌<◌, ◌≤◌, true, List, length, get_or, slice_get, slice_set, length-set, Option, Some, None, IsSome, sym, subst, ◌∙◌, refl, arith}
 use Rattle.std.specs.Prelude.{IsSomeAnd}
 use Rattle.std.proofs.lemmas.Bool.Decides.{nat_tests}
 use Rattle.std.proofs.lemmas.Grind.{common_steps}
 use Rattle.std.proofs.lemmas.List.{nil_from_length}
-use Rattle.std.proofs.lemmas.Bool.{cond_both}
-use Rattle.std.proofs.lemmas.Option.{gets, slice_get_read, slice_get_past}
+use Rattle.std.proofs.lemmas.Option.{gets, slice_get_read}
 use Rattle.std.specs.Option.{ForSome}
-use Rattle.stores.specs.Asking.{is_missing, asked_slot, asked_at}
+use Rattle.stores.specs.Asking.{asked_slot, asked_at}
 use Rattle.stores.specs.declared.slot.Slot.{Slot}
 use Rattle.stores.specs.Span.{Span, IsSpan, highest_of, front_of, without_front}
 use Rattle.stores.specs.ByPlace.{slot_from, slot_at, slot_at_cursor, is_above, IsInside, LosesFront}
@@ -74,14 +73,3 @@ asked_others slots i now (Some slot) p apart = slice_get-set_other slots i p (as
 pub started_set : (cursor : Option ℕ) (slots : List Slot) (i : ℕ) (slot : Slot) → ForSome cursor (λ k. (0 < k + length slots) × (k + length slots ≤ 2 ^ 48)) →
     ForSome cursor (λ k. (0 < k + length (slice_set slots i slot)) × (k + length (slice_set slots i slot) ≤ 2 ^ 48))
 started_set cursor slots i slot started k e = let at = started k e in let same = length-set slots i slot in (omega arith, omega arith)
-
--- and when one is asked for
-pub started_asked : (cursor : Option ℕ) (slots : List Slot) (i now : ℕ) → ForSome cursor (λ k. (0 < k + length slots) × (k + length slots ≤ 2 ^ 48)) →
-    ForSome cursor (λ k. (0 < k + length (asked_at slots i now (slice_get slots i))) × (k + length (asked_at slots i now (slice_get slots i)) ≤ 2 ^ 48))
-started_asked cursor slots i now started k e = let at = started k e in let same = asked_long slots i now (slice_get slots i) in (omega arith, omega arith)
-
--- a missing slot is one of the slots
-pub missing_within : (slots : List Slot) (i : ℕ) → is_missing (slice_get slots i) ≡ true → i < length slots
-missing_within slots i e =
-    cond_both (nat_lt i (length slots)) true false (λ _. i < length slots) (λ t. ltb-true _ _ t)
-    (λ t. let none = ap is_missing (slice_get_past slots i (ltb-false _ _ t)) in absurd (cc))

@@ -6,11 +6,11 @@ use Rattle.std.proofs.Math.Bool.{or-true}
 use Rattle.std.proofs.lemmas.Bool.Decides.{nat_tests}
 use Rattle.std.proofs.lemmas.List.{length-replicate}
 use Rattle.std.proofs.lemmas.Option.{slice_get_past}
-use Rattle.stores.specs.declared.answer.Soonest.{Soonest}
+use Rattle.stores.specs.declared.due.foreseen.Soonest.{Soonest}
 use Rattle.stores.specs.declared.ask_rule.AskRule.{AskRule}
 use Rattle.stores.specs.declared.slot.Slot.{Slot}
 use Rattle.stores.specs.Asking.{is_due, is_missing, has_come, any_below}
-use Rattle.stores.specs.Kept.{moment_of, due_by, Serves, IsSoonest}
+use Rattle.stores.specs.Foreseen.{soonest_moment, due_by, Serves, IsSoonest}
 use Rattle.stores.proofs.DueSlots.{not_due}
 use Rattle.stores.proofs.Lookup.{slice_get-append_left, slice_get-append_right, slice_get-drop, slice_get-replicate}
 
@@ -41,14 +41,14 @@ fails false c e is = refl
 
 -- a slot is due just from the moment on
 pub soonest_any : (rule : AskRule) (soonest : Option Soonest) (slots : List Slot) → IsSoonest rule soonest slots (length slots) →
-    (now : ℕ) → now < 2 ^ 64 → has_come (moment_of soonest) now ≡ any_below (λ i. is_due now rule.delay rule.retry rule.asks (slice_get slots i)) (length slots)
+    (now : ℕ) → now < 2 ^ 64 → has_come (soonest_moment soonest) now ≡ any_below (λ i. is_due now rule.delay rule.retry rule.asks (slice_get slots i)) (length slots)
 soonest_any rule soonest slots is now fits =
     ⊎_elim
-    (λ (come : has_come (moment_of soonest) now ≡ true). come ∙ sym (some soonest is come))
-    (λ (none : has_come (moment_of soonest) now ≡ false). none ∙ sym (none_at (due_by rule slots now) (length slots) (λ i l. fails (due_by rule slots now i) (has_come (moment_of soonest) now) none (is.not_before i now l fits))))
-    (cases_Bool (has_come (moment_of soonest) now))
+    (λ (come : has_come (soonest_moment soonest) now ≡ true). come ∙ sym (some soonest is come))
+    (λ (none : has_come (soonest_moment soonest) now ≡ false). none ∙ sym (none_at (due_by rule slots now) (length slots) (λ i l. fails (due_by rule slots now i) (has_come (soonest_moment soonest) now) none (is.not_before i now l fits))))
+    (cases_Bool (has_come (soonest_moment soonest) now))
   where
-    some : (s : Option Soonest) → IsSoonest rule s slots (length slots) → has_come (moment_of s) now ≡ true → any_below (due_by rule slots now) (length slots) ≡ true
+    some : (s : Option Soonest) → IsSoonest rule s slots (length slots) → has_come (soonest_moment s) now ≡ true → any_below (due_by rule slots now) (length slots) ≡ true
     some None is come = absurd cc
     some (Some s) is come =
         let since : s.moment ≤ now = grind (arith, nat_tests, come) in
@@ -87,7 +87,7 @@ soonest_drop_some rule slots count soonest left same at is =
 
 -- slots came behind, all of them due from one moment on, as the first of them
 pub soonest_adds : (rule : AskRule) (found soonest : Option Soonest) (moment : Option ℕ) (slots : List Slot) (count : ℕ) (slot : Slot) → 0 < count →
-    ((now : ℕ) → has_come (moment_of soonest) now ≡ (has_come (moment_of found) now || has_come moment now)) →
+    ((now : ℕ) → has_come (soonest_moment soonest) now ≡ (has_come (soonest_moment found) now || has_come moment now)) →
     ((due : ℕ → ℕ → Bool) → Serves due found → ((now : ℕ) → now < 2 ^ 64 → due now (length slots) ≡ has_come moment now) → Serves due soonest) →
     ((now : ℕ) → now < 2 ^ 64 → is_due now rule.delay rule.retry rule.asks (Some slot) ≡ has_come moment now) →
     IsSoonest rule found slots (length slots) → IsSoonest rule soonest (slots ++ replicate count slot) (length (slots ++ replicate count slot))
@@ -103,7 +103,7 @@ soonest_adds rule found soonest moment slots count slot some sooner serves slot_
       not_before = λ i now l fits due. sooner now ∙
           ⊎_elim
           (λ (within : i < length slots). ap (λ b. b || has_come moment now) (is.not_before i now within fits (sym (left now i within) ∙ due)))
-          (λ above. ap (λ b. has_come (moment_of found) now || b) (sym (right now i (omega (arith, above)) (omega arith) fits) ∙ due) ∙ or-true (has_come (moment_of found) now))
+          (λ above. ap (λ b. has_come (soonest_moment found) now || b) (sym (right now i (omega (arith, above)) (omega arith) fits) ∙ due) ∙ or-true (has_come (soonest_moment found) now))
           (cases_lt i (length slots));
       serves = serves (due_by rule all)
           (λ s e now fits since. let due = is.serves s e now fits since in left now s.index (due_within rule slots now s.index due) ∙ due)
@@ -131,7 +131,7 @@ soonest_push rule soonest slots slot held is =
 
 -- the slot at an index, which is not the named one, became one that is due from a moment on
 pub soonest_change : (rule : AskRule) (found soonest : Option Soonest) (moment : Option ℕ) (old new : List Slot) (index : ℕ) →
-    ((now : ℕ) → has_come (moment_of soonest) now ≡ (has_come (moment_of found) now || has_come moment now)) →
+    ((now : ℕ) → has_come (soonest_moment soonest) now ≡ (has_come (soonest_moment found) now || has_come moment now)) →
     ((due : ℕ → ℕ → Bool) → Serves due found → ((now : ℕ) → now < 2 ^ 64 → due now index ≡ has_come moment now) → Serves due soonest) →
     ((now : ℕ) → now < 2 ^ 64 → due_by rule new now index ≡ has_come moment now) →
     ((s : Soonest) → found ≡ Some s → s.index ≢ index) →
@@ -142,7 +142,7 @@ soonest_change rule found soonest moment old new index sooner serves here apart 
     record {
       not_before = λ i now l fits due. sooner now ∙
           ⊎_elim
-          (λ (at : i ≡ index). ap (λ b. has_come (moment_of found) now || b) (sym (ap (due_by rule new now) at ∙ here now fits) ∙ due) ∙ or-true (has_come (moment_of found) now))
+          (λ (at : i ≡ index). ap (λ b. has_come (soonest_moment found) now || b) (sym (ap (due_by rule new now) at ∙ here now fits) ∙ due) ∙ or-true (has_come (soonest_moment found) now))
           (λ far. ap (λ b. b || has_come moment now) (is.not_before i now (omega arith) fits (sym (other now i far) ∙ due)))
           (cases_eq i index);
       serves = serves (due_by rule new)
@@ -168,7 +168,7 @@ soonest_first rule slots = record { not_before = λ i now l fits due. absurd (om
 
 -- slots are passed that are due only where one before them is
 pub soonest_pass : (rule : AskRule) (soonest : Option Soonest) (slots : List Slot) (i j : ℕ) →
-    ((p now : ℕ) → i ≤ p → p < j → now < 2 ^ 64 → due_by rule slots now p ≡ true → has_come (moment_of soonest) now ≡ true) →
+    ((p now : ℕ) → i ≤ p → p < j → now < 2 ^ 64 → due_by rule slots now p ≡ true → has_come (soonest_moment soonest) now ≡ true) →
     IsSoonest rule soonest slots i → IsSoonest rule soonest slots j
 soonest_pass rule soonest slots i j bounded is = record {
   not_before = λ p now l fits due.
@@ -188,14 +188,14 @@ soonest_skip rule soonest slots i j none is =
 
 -- a slot is due from the moment on before which none is
 pub soonest_reached : (rule : AskRule) (before result : Option Soonest) (soonest moment : Option ℕ) (slots : List Slot) (start end index : ℕ) → moment ≡ soonest →
-    ((now : ℕ) → has_come (moment_of result) now ≡ (false || has_come moment now)) →
+    ((now : ℕ) → has_come (soonest_moment result) now ≡ (false || has_come moment now)) →
     ((due : ℕ → ℕ → Bool) → Serves due None → ((now : ℕ) → now < 2 ^ 64 → due now index ≡ has_come moment now) → Serves due result) →
     ((now : ℕ) → now < 2 ^ 64 → due_by rule slots now index ≡ has_come moment now) →
-    ((now : ℕ) → has_come (moment_of before) now ≡ true → has_come soonest now ≡ true) →
+    ((now : ℕ) → has_come (soonest_moment before) now ≡ true → has_come soonest now ≡ true) →
     ((p now : ℕ) → start ≤ p → p < end → now < 2 ^ 64 → due_by rule slots now p ≡ true → has_come soonest now ≡ true) →
     IsSoonest rule before slots start → IsSoonest rule result slots end
 soonest_reached rule before result soonest moment slots start end index same at serves here sooner none is =
-    let reach : (now : ℕ) → has_come soonest now ≡ true → has_come (moment_of result) now ≡ true = λ now come. at now ∙ ap (λ m. has_come m now) same ∙ come in
+    let reach : (now : ℕ) → has_come soonest now ≡ true → has_come (soonest_moment result) now ≡ true = λ now come. at now ∙ ap (λ m. has_come m now) same ∙ come in
     record {
       not_before = λ i now l fits due.
           ⊎_elim
@@ -207,14 +207,14 @@ soonest_reached rule before result soonest moment slots start end index same at 
 
 -- the next slot is met, which is due from a moment on
 pub soonest_meet : (rule : AskRule) (found soonest : Option Soonest) (moment : Option ℕ) (slots : List Slot) (next : ℕ) →
-    ((now : ℕ) → has_come (moment_of soonest) now ≡ (has_come (moment_of found) now || has_come moment now)) →
+    ((now : ℕ) → has_come (soonest_moment soonest) now ≡ (has_come (soonest_moment found) now || has_come moment now)) →
     ((due : ℕ → ℕ → Bool) → Serves due found → ((now : ℕ) → now < 2 ^ 64 → due now next ≡ has_come moment now) → Serves due soonest) →
     ((now : ℕ) → now < 2 ^ 64 → due_by rule slots now next ≡ has_come moment now) →
     IsSoonest rule found slots next → IsSoonest rule soonest slots (next + 1)
 soonest_meet rule found soonest moment slots next sooner serves here is = record {
   not_before = λ i now l fits due. sooner now ∙
       ⊎_elim
-      (λ (at : i ≡ next). ap (λ b. has_come (moment_of found) now || b) (sym (ap (due_by rule slots now) at ∙ here now fits) ∙ due) ∙ or-true (has_come (moment_of found) now))
+      (λ (at : i ≡ next). ap (λ b. has_come (soonest_moment found) now || b) (sym (ap (due_by rule slots now) at ∙ here now fits) ∙ due) ∙ or-true (has_come (soonest_moment found) now))
       (λ other. ap (λ b. b || has_come moment now) (is.not_before i now (omega (arith, other)) fits due))
       (cases_eq i next);
   serves = serves (due_by rule slots) is.serves here;

@@ -9,10 +9,12 @@ pub mod RunIsPast
 pub mod PastByPlace
 pub mod Bits
 pub mod Index
-pub mod Run
-pub mod Low
+pub mod Ones
+pub mod Block
+pub mod Bound
 pub mod Due
-pub mod Kept
+pub mod DueBy
+pub mod Foreseen
 pub mod Lent
 pub mod Numbers
 pub mod Pool

@@ -1,6 +1,7 @@
 //! When a missing place is to be asked for, by the times that are known of it.
 ghost use Rattle.std.specs.Prelude.{◌≡◌, ◌^◌, ◌<◌, ℕ, ◌||◌};
 ghost use Rattle.stores.specs.Asking.{is_long_since, is_time, has_come};
+ghost use Rattle.stores.specs.DueBy.{is_due_by, IsDueBy};
 
 /// When missing places are to be asked for, and how often. Spans of time are in milliseconds.
 #[derive(Clone, Copy, Debug, PartialEq, Eq)]
@@ -43,6 +44,59 @@ pub(crate) fn time_from(rule: AskRule, noticed: u64, asks: u8, last: u64) -> Opt
         Some(0)
     } else {
         noticed.checked_add(rule.delay)
+    }
+}
+
+/// Which places are due at some moment by a rule, so that a walk over many subtracts once.
+#[derive(Clone, Copy, Debug, PartialEq, Eq)]
+pub(crate) struct DueBy {
+    // Those that were asked for fewer times,
+    asks: u8,
+    // noticed at this moment or sooner, or at none of which they may have been, where they were not asked for,
+    first: Option<u64>,
+    // and last asked for at this moment or sooner, where they were.
+    again: u64,
+}
+
+impl DueBy {
+    /// Those that are at this moment.
+    pub(crate) fn new(now: u64, rule: AskRule) -> DueBy
+        ensures { IsDueBy result now rule }
+    {
+        let first = if rule.delay == 0 {
+            Some(u64::MAX)
+        } else {
+            now.checked_sub(rule.delay)
+        };
+        match now.checked_sub(rule.retry) {
+            Some(again) => DueBy {
+                asks: rule.asks,
+                first,
+                again,
+            },
+            // No ask was made so long ago.
+            None => DueBy {
+                asks: rule.asks.min(1),
+                first,
+                again: 0,
+            },
+        }
+    }
+
+    /// Whether a place is one of them that was noticed and asked for so.
+    pub(crate) fn has(&self, noticed: u64, asks: u8, last: u64) -> bool
+        ensures { result ≡ is_due_by self.now noticed asks last }
+    {
+        if asks >= self.asks {
+            return false;
+        }
+        if asks > 0 {
+            return last <= self.again;
+        }
+        match self.first {
+            Some(first) => noticed <= first,
+            None => false,
+        }
     }
 }
 

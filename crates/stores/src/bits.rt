@@ -2,11 +2,13 @@
 ghost use Rattle.std.specs.Prelude.{◌≡◌, ℕ, ◌+◌, ◌-◌, ◌*◌, ◌/◌, ◌%◌, ◌<◌, ◌≤◌, ◌==◌, true, false, length, replicate, MatchOption, IfOk, IfSome, IsTrue, if◌then◌else◌, nat_lt};
 ghost use Rattle.std.specs.Int.{bit_at};
 ghost use Rattle.stores.specs.Bits.{is_set, bits_of, turned, is_member, size_of, is_between, set_from, members_below};
-ghost use Rattle.stores.specs.Low.{bit_in_word, word_of};
-ghost use Rattle.stores.specs.Run.{Covers};
+ghost use Rattle.stores.specs.Block.{bit_in_word, word_of};
+ghost use Rattle.stores.specs.Block.{IsBlock};
+ghost use Rattle.stores.specs.Ones.{HasEach, HasNoneFrom};
 
+use crate::block::Block;
 use crate::memory::OutOfMemory;
-use crate::run::Run;
+use crate::ones::Ones;
 use std::alloc::Global;
 
 /// A set of positions from 0 up to below a bound. [`shift`](Bits::shift) moves all of them down by one.
@@ -115,27 +117,27 @@ impl Bits {
         }
     }
 
-    /// The least position of the set that is not below this one. It passes 64 positions at a time where the set
-    /// has none of them, and all at once where it is empty.
-    pub fn first(&self, from: usize) -> Option<usize>
-        requires { from ≤ bits_of self.now.words.items }
+    /// The least position of the set from one on, below an end. It passes 64 positions at a time where the set has none of them, and all
+    /// at once where it is empty.
+    pub fn first(&self, from: usize, end: usize) -> Option<usize>
+        requires { end ≤ bits_of self.now.words.items }
         ensures { MatchOption result
-            ((p : ℕ) → from ≤ p → p < bits_of self.now.words.items → is_member self.now.words.items self.now.front p ≡ false)
-            (λ first. (from ≤ first) × (first < bits_of self.now.words.items) × (is_member self.now.words.items self.now.front first ≡ true)
+            ((p : ℕ) → from ≤ p → p < end → is_member self.now.words.items self.now.front p ≡ false)
+            (λ first. (from ≤ first) × (first < end) × (is_member self.now.words.items self.now.front first ≡ true)
             × ((p : ℕ) → from ≤ p → p < first → is_member self.now.words.items self.now.front p ≡ false)) }
     {
         if self.count == 0 {
             return None;
         }
         let words = self.words.as_slice();
-        let bound = 64 * words.len();
-        let above = bound - self.front;
+        let above = 64 * words.len() - self.front;
         if from < above {
-            if let Some(bit) = first_bit(words, self.front + from, bound) {
+            let turn = self.front + end.min(above);
+            if let Some(bit) = first_bit(words, self.front + from, turn) {
                 return Some(bit - self.front);
             }
         }
-        let bit = first_bit(words, from.saturating_sub(above), self.front)?;
+        let bit = first_bit(words, from.saturating_sub(above), end.saturating_sub(above))?;
         Some(above + bit)
     }
 
@@ -167,12 +169,6 @@ impl Bits {
         self.words[word] == 0
     }
 
-    /// Whether the set has no more than three positions for each word that has the bits of the first positions, of so many, for a choice
-    /// between two walks.
-    pub fn is_sparse(&self, len: usize) -> bool {
-        self.count <= 3 * (len / 64 + 1)
-    }
-
     /// The end of the positions from this one on whose bits are in its word.
     pub fn run_end(&self, position: usize) -> usize
         requires { position < bits_of self.now.words.items }
@@ -189,36 +185,67 @@ impl Bits {
 
     /// The positions of the set among those of a run from this one on. In the word of position 0 it may give some above the bound too,
     /// for the bits of the first positions.
-    pub fn run(&self, position: usize) -> Run
+    pub fn run(&self, position: usize) -> Ones
         requires { position < bits_of self.now.words.items }
         ensures position { result.position ≡ position }
         ensures covers { (end : ℕ) → end ≤ bits_of self.now.words.items → end + turned (bits_of self.now.words.items) self.now.front position % 64 ≤ position + 64 →
-            Covers result (is_member self.now.words.items self.now.front) end }
+            HasEach result (is_member self.now.words.items self.now.front) end }
     {
         let bit = self.bit_of(position);
-        Run::new(self.words[bit / 64] >> (bit % 64), position)
+        Ones::new(self.words[bit / 64] >> (bit % 64), position)
     }
 
-    /// The first of the positions, of so many, whose bits are in the word of this one. None where they are no run: the first position
-    /// and one of the last ones are among them.
-    pub fn run_start(&self, position: usize, len: usize) -> Option<usize>
-        requires position { position < bits_of self.now.words.items }
-        requires len { len ≤ bits_of self.now.words.items }
-        ensures start { IfSome result (λ start. start ≤ position) }
-        ensures run { IfSome result (λ start. (p : ℕ) → p < len → word_of (length self.now.words.items) self.now.front p ≡ word_of (length self.now.words.items) self.now.front position → start ≤ p) }
-        ensures end { IfSome result (λ start. (p : ℕ) → p < len → word_of (length self.now.words.items) self.now.front p ≡ word_of (length self.now.words.items) self.now.front position →
-            p + turned (bits_of self.now.words.items) self.now.front start % 64 < start + 64) }
+    /// The block of position 0.
+    pub fn first_block(&self) -> Block
+        ensures block { IsBlock (length self.now.words.items) self.now.front result }
+        ensures start { result.start ≡ 0 }
     {
-        let bit = self.bit_of(position);
+        Block {
+            word: self.front / 64,
+            start: 0,
+            bit: self.front % 64,
+        }
+    }
+
+    /// The block behind this one.
+    pub fn next_block(&self, block: Block) -> Block
+        requires block { IsBlock (length self.now.words.items) self.now.front block }
+        requires within { block.start < bits_of self.now.words.items }
+        ensures block { IsBlock (length self.now.words.items) self.now.front result }
+        ensures start { result.start + block.bit ≡ block.start + 64 }
+    {
+        let word = block.word + 1;
+        Block {
+            word: if word < self.words.len() { word } else { 0 },
+            start: block.start + (64 - block.bit),
+            bit: 0,
+        }
+    }
+
+    /// The positions of the set in this block, below an end.
+    pub fn ones(&self, block: Block, end: usize) -> Ones
+        requires block { IsBlock (length self.now.words.items) self.now.front block }
+        requires order { block.start < end }
+        requires end { end ≤ bits_of self.now.words.items }
+        requires near { end + block.bit ≤ block.start + 64 }
+        ensures position { result.position ≡ block.start }
+        ensures covers { HasEach result (is_member self.now.words.items self.now.front) end }
+        ensures below { HasNoneFrom result end }
+    {
+        let rest = self.words[block.word] >> block.bit;
+        Ones::new(rest & mask(0, end - block.start), block.start)
+    }
+
+    /// Whether all of the positions, of so many, whose bits are in this block's word are the block's. Else the first position and the last
+    /// one are among them.
+    pub fn is_whole(&self, block: Block, len: usize) -> bool
+        requires block { IsBlock (length self.now.words.items) self.now.front block }
+        requires within { block.start < len }
+        requires len { len ≤ bits_of self.now.words.items }
+        ensures { IsTrue result → (p : ℕ) → p < len → word_of (length self.now.words.items) self.now.front p ≡ block.word → (block.start ≤ p) × (p + block.bit < block.start + 64) }
+    {
         let over = self.front % 64;
-        if over == 0 || bit / 64 != self.front / 64 {
-            return position.checked_sub(bit % 64);
-        }
-        // The front's word, whose bits below the front are those of the last positions.
-        if len + over > self.bound() {
-            return None;
-        }
-        Some(0)
+        over == 0 || block.word != self.front / 64 || len + over <= self.bound()
     }
 
     /// The least position of the set among those of a run from this one on, or where that run ends. It looks at one word.

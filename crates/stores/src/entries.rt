@@ -15,6 +15,9 @@ use rtpwire::{Carried, Content};
 use std::alloc::Global;
 use std::marker::Model;
 
+/// So many entries are looked at together, before they are written over: the memory of all of them comes in the time of one.
+const AHEAD: u16 = 4;
+
 /// Entries in a ring, whose memory is reserved once. Where there are as many as there may be, a new one is written over
 /// the oldest. A contract sees them as a list, the oldest first.
 ///
@@ -25,6 +28,9 @@ pub struct Entries {
     list: Vec<HistoryEntry>,
     // The entries' numbers in the list, that of the oldest first.
     order: HeapCircularBuffer<u16>,
+    // What was last seen of the oldest entries, which are written over next. Nothing is told by it: they are looked at for their memory to be
+    // fetched, several at once, as a write would wait for that of each.
+    seen: usize,
 }
 
 impl Model for Entries {
@@ -51,7 +57,11 @@ impl Entries {
     {
         let list = Vec::with_capacity(alloc, capacity)?;
         let order = HeapCircularBuffer::with_capacity(alloc, capacity)?;
-        Ok(Entries { list, order })
+        Ok(Entries {
+            list,
+            order,
+            seen: 0,
+        })
     }
 
     /// How many entries there are.
@@ -118,7 +128,36 @@ impl Entries {
         let number = free_number(&mut self.list, &mut self.order, place);
         append(&mut self.order, number);
         renew(&mut self.list[usize::from(number)], place, carried);
+        self.seen = self.look_ahead(number);
     }
+
+    /// Looks at the oldest entries, once for so many that are written. It stands behind the write of an entry, which then need not wait.
+    fn look_ahead(&self, written: u16) -> usize {
+        if written % AHEAD == 0 {
+            self.seen_at(0) ^ self.seen_at(1) ^ self.seen_at(2) ^ self.seen_at(3)
+        } else {
+            self.seen
+        }
+    }
+
+    /// How much the entry at this index holds, if there is one.
+    fn seen_at(&self, index: usize) -> usize {
+        if index < self.order.len() {
+            lengths_of(self.get(index))
+        } else {
+            0
+        }
+    }
+}
+
+/// How much an entry holds, in no unit: it is looked at for its memory to be fetched.
+fn lengths_of(entry: &HistoryEntry) -> usize {
+    let content = &entry.content;
+    let words = match &content.extension {
+        Some(extension) => extension.words.len(),
+        None => 0,
+    };
+    content.payload.len() ^ content.sources.len() ^ words
 }
 
 /// The number of the entry at this index.

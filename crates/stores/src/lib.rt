@@ -2,30 +2,27 @@
 //! what a sender keeps to repeat, behind the trait [`History`].
 #![tactic(auto)]
 
-mod answer;
 mod ask_rule;
 mod bits;
+mod block;
 mod by_place;
 mod cell;
+mod due;
 mod entries;
 mod entry;
 mod history;
-mod kept;
 mod laws;
 mod list_history;
 mod list_window;
-mod low;
-mod lows;
 mod memory;
+mod ones;
 mod pool;
 mod ring;
 mod ring_history;
 mod ring_window;
-mod run;
 mod slot;
 mod slots;
 mod spot;
-mod walks;
 mod window;
 
 pub use ask_rule::{AskRule, sooner};

@@ -144,7 +144,7 @@ fn least(marks: &Bits, lowest: usize) -> Option<usize>
         ((p : ℕ) → p < bits_of marks.now.words.items → is_member marks.now.words.items marks.now.front p ≡ false)
         (λ first. (first < bits_of marks.now.words.items) × (is_member marks.now.words.items marks.now.front first ≡ true) × HasNoneBelow marks.now.words.items marks.now.front first) }
 {
-    marks.first(lowest)
+    marks.first(lowest, marks.bound())
 }
 
 /// Below which entry none is marked, found by a look at one word: where none is at all, below the bound; else up to the next one that is,

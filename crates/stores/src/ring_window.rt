@@ -1,25 +1,27 @@
-ghost use Rattle.std.specs.Prelude.{◌≡◌, ◌+◌, ◌/◌, ◌^◌, ◌<◌, ◌≤◌, ◌++◌, true, [], length, drop, take, replicate, slice_get, IfSome, IsSome, IsSomeAnd};
+ghost use Rattle.std.specs.Prelude.{◌≡◌, ◌+◌, ◌/◌, ◌^◌, ◌<◌, ◌≤◌, ◌++◌, [], length, drop, take, replicate, IsSome, IsSomeAnd};
 ghost use Rattle.std.specs.Option.{ForSome, ForNone};
 ghost use Rattle.stores.specs.Span.{span_of};
-ghost use Rattle.stores.specs.ByPlace.{slot_at};
-ghost use Rattle.stores.specs.Asking.{longest_ask, due_places, has_come, CanBeAsked, asked};
+ghost use Rattle.stores.specs.Asking.{longest_ask, due_places};
+ghost use Rattle.stores.specs.declared.ask_rule.AskRule.{AskRule};
 ghost use Rattle.stores.specs.Put.{noticed_at};
 ghost use Rattle.stores.specs.Bits.{bits_of};
 ghost use Rattle.stores.specs.Index.{IsIndex};
-ghost use Rattle.stores.specs.Kept.{IsSoonest, Tells};
-ghost use Rattle.stores.specs.Low.{AreLow};
+ghost use Rattle.stores.specs.Foreseen.{IsSoonest, Tells};
+ghost use Rattle.stores.specs.Bound.{AreBounds};
 
-use crate::answer::{Answer, Soonest, moment_of};
 use crate::ask_rule::AskRule;
 use crate::bits::Bits;
-use crate::kept::{beside, with_change, with_jump, without_front};
-use crate::low::{Low, has_come};
-use crate::lows::{note_ask, note_missing};
+use crate::due::blocks::{forget, note_missing};
+use crate::due::bound::{Bound, has_come};
+use crate::due::by_blocks::{Wanted, find_due, next_by_blocks};
+use crate::due::counting::count_each;
+use crate::due::foreseen::{Foreseen, Soonest, soonest_moment};
+use crate::due::keeping::{beside, with_change, with_jump, without_front};
+use crate::due::plain::{due_among, next_among};
 use crate::memory::OutOfMemory;
 use crate::slot::{PutFault, Slot, SlotRef};
 use crate::slots::Slots;
 use crate::spot::{Spot, spot_of};
-use crate::walks::{due_among, find_due, next_among};
 use crate::window::{LONGEST_ASK, Window};
 use arrayvec::ArrayVec;
 use places::Place;
@@ -36,10 +38,11 @@ pub struct RingWindow {
     slots: Slots,
     // The missing places, by how far they are from the cursor.
     missing: Bits,
-    // Bounds of the moments of the missing places of each word of those bits.
-    lows: Vec<Low>,
+    // From when on the missing places of each word of those bits may be due by the rule below.
+    bounds: Vec<Bound>,
+    rule: AskRule,
     // What was found last of when a place is due, for as long as that can be told to hold.
-    kept: Option<Answer>,
+    kept: Option<Foreseen>,
     ghost room: { length slots.items ≤ slots.capacity },
     ghost nonzero: { 0 < slots.capacity },
     ghost limit: { slots.capacity ≤ 8192 },
@@ -48,14 +51,14 @@ pub struct RingWindow {
     ghost wide: { slots.capacity < bits_of missing.words.items },
     ghost exact: { length missing.words.items ≡ slots.capacity / 64 + 1 },
     ghost index: { IsIndex missing.words.items missing.front slots.items },
-    ghost blocks: { length lows.items ≡ length missing.words.items },
-    ghost low: { AreLow lows.items missing.front slots.items },
+    ghost blocks: { length bounds.items ≡ length missing.words.items },
+    ghost bound: { AreBounds rule bounds.items missing.front slots.items },
     ghost told: { ForSome kept (λ answer. Tells answer slots.items) },
 }
 
 impl RingWindow {
     /// What is kept, if it is by this rule.
-    fn kept_by(&self, rule: AskRule) -> Option<Answer>
+    fn kept_by(&self, rule: AskRule) -> Option<Foreseen>
         ensures rule { ForSome result (λ answer. answer.rule ≡ rule) }
         ensures told { ForSome result (λ answer. Tells answer self.now.slots.items) }
     {
@@ -67,28 +70,16 @@ impl RingWindow {
         }
     }
 
-    /// Counts one more ask for this place of a window with this cursor, which keeps nothing. `noted` is the number of a word whose bounds
-    /// know of an ask at this moment, or that of no word; the answer is that of this place's word.
-    fn count_one(&mut self, cursor: u64, noted: usize, place: Place, now: u64) -> usize
-        requires cursor { self.old.cursor ≡ Some cursor }
-        requires kept { self.old.kept ≡ None }
-        requires askable { IsSomeAnd (slot_at (span_of self.old.cursor self.old.slots) place) CanBeAsked }
-        requires noted { IfSome (slice_get self.old.lows.items noted) (λ low. has_come low.last now ≡ true) }
-        ensures asked { span_of self.new.cursor self.new.slots ≡ asked (span_of self.old.cursor self.old.slots) place now }
+    /// Makes the bounds those by this rule. Where they were by another one, nothing is known of any block.
+    fn follow(&mut self, rule: AskRule)
+        ensures rule { self.new.rule ≡ rule }
         ensures cursor { self.new.cursor ≡ self.old.cursor }
-        ensures kept { self.new.kept ≡ None }
-        ensures noted { IfSome (slice_get self.new.lows.items result) (λ low. has_come low.last now ≡ true) }
+        ensures slots { self.new.slots ≡ self.old.slots }
     {
-        let index = (place.value() - cursor) as usize;
-        self.slots.count_ask(index, now);
-        note_ask(
-            &self.slots,
-            &self.missing,
-            &mut self.lows,
-            noted,
-            index,
-            now,
-        )
+        if self.rule != rule {
+            forget(&mut self.bounds);
+            self.rule = rule;
+        }
     }
 
     /// The least moment from which on a slot is due by this rule, and such a slot.
@@ -100,7 +91,13 @@ impl RingWindow {
         }
         match self.kept_by(rule) {
             Some(answer) => answer.soonest,
-            None => next_among(&self.slots, &self.missing, &self.lows, rule),
+            None if self.rule == rule => next_by_blocks(
+                &self.slots,
+                &self.missing,
+                &self.bounds,
+                rule,
+            ),
+            None => next_among(&self.slots, &self.missing, rule),
         }
     }
 }
@@ -116,12 +113,18 @@ impl Window for RingWindow {
     fn new(alloc: Global, capacity: usize) -> Result<Self, OutOfMemory> {
         let slots = Slots::new(alloc, capacity)?;
         let missing = Bits::new(alloc, capacity)?;
-        let lows = vec![in alloc; Low::NONE; capacity / 64 + 1]?;
+        let bounds = vec![in alloc; Bound::UNKNOWN; capacity / 64 + 1]?;
+        let rule = AskRule {
+            delay: 0,
+            retry: 0,
+            asks: 0,
+        };
         Ok(RingWindow {
             cursor: None,
             slots,
             missing,
-            lows,
+            bounds,
+            rule,
             kept: None,
         })
     }
@@ -171,13 +174,14 @@ impl Window for RingWindow {
             }
             Spot::Above { overrun, unseen } => {
                 self.kept = with_jump(self.kept, self.slots.len(), overrun, unseen, now);
-                drop_front(&mut self.slots, &mut self.missing, &self.lows, overrun);
+                drop_front(&mut self.slots, &mut self.missing, &self.bounds, overrun);
                 add_missing(
                     &mut self.slots,
                     &mut self.missing,
-                    &mut self.lows,
+                    &mut self.bounds,
                     unseen,
                     now,
+                    self.rule,
                 );
                 self.slots.append_held(carried);
                 self.cursor = Some(cursor + overrun);
@@ -233,44 +237,38 @@ impl Window for RingWindow {
         // What is found where none is due is kept, so that nothing is looked for until that changes.
         ensures kept { 0 < most → IsSome self.old.cursor → due.new.items ≡ [] → IsSomeAnd self.new.kept (λ answer. answer.rule ≡ rule) }
     {
+        due.clear();
         let Some(cursor) = self.cursor else {
-            due.clear();
             return;
         };
+        self.follow(rule);
         let found = find_due(
             due,
-            most.min(LONGEST_ASK),
             cursor,
             &self.slots,
             &self.missing,
-            &mut self.lows,
-            now,
-            rule,
+            &mut self.bounds,
+            Wanted::new(most.min(LONGEST_ASK), now, rule),
         );
         self.kept = match found {
-            Some(soonest) => Some(Answer { rule, soonest }),
+            Some(soonest) => Some(Foreseen { rule, soonest }),
             None => None,
         };
     }
 
     fn next_due(&self, rule: AskRule) -> Option<u64> {
-        moment_of(self.soonest(rule))
+        soonest_moment(self.soonest(rule))
     }
 
     fn has_none_due(&self, now: u64, rule: AskRule) -> bool {
         match self.kept_by(rule) {
-            Some(answer) => !has_come(moment_of(answer.soonest), now),
+            Some(answer) => !has_come(soonest_moment(answer.soonest), now),
             None => false,
         }
     }
 
     fn count_ask(&mut self, place: Place, now: u64) {
-        let Some(cursor) = self.cursor else {
-            return;
-        };
-        self.kept = None;
-        let none = self.lows.len();
-        self.count_one(cursor, none, place, now);
+        self.count_asks(&[place], now);
     }
 
     fn count_asks(&mut self, places: &[Place], now: u64) {
@@ -278,10 +276,15 @@ impl Window for RingWindow {
             return;
         };
         self.kept = None;
-        let mut noted = self.lows.len();
-        for place in places {
-            noted = self.count_one(cursor, noted, *place, now);
-        }
+        count_each(
+            cursor,
+            &mut self.slots,
+            &self.missing,
+            &mut self.bounds,
+            places,
+            now,
+            self.rule,
+        );
     }
 
     fn missing(&self) -> usize {
@@ -290,16 +293,15 @@ impl Window for RingWindow {
 }
 
 /// Drops the first slots, as many as there are of so many.
-fn drop_front(slots: &mut Slots, missing: &mut Bits, lows: &Vec<Low>, count: u64)
+fn drop_front(slots: &mut Slots, missing: &mut Bits, bounds: &Vec<Bound>, count: u64)
     requires room { length slots.old.items < bits_of missing.old.words.items }
     requires index { IsIndex missing.old.words.items missing.old.front slots.old.items }
-    requires blocks { length lows.now.items ≡ length missing.old.words.items }
-    requires low { AreLow lows.now.items missing.old.front slots.old.items }
+    requires blocks { length bounds.now.items ≡ length missing.old.words.items }
     ensures items { slots.new.items ≡ drop count slots.old.items }
     ensures capacity { slots.new.capacity ≡ slots.old.capacity }
     ensures words { length missing.new.words.items ≡ length missing.old.words.items }
     ensures index { IsIndex missing.new.words.items missing.new.front slots.new.items }
-    ensures low { AreLow lows.now.items missing.new.front slots.new.items }
+    ensures bound { (rule : AskRule) → AreBounds rule bounds.now.items missing.old.front slots.old.items → AreBounds rule bounds.now.items missing.new.front slots.new.items }
 {
     if count == 0 {
         return;
@@ -314,23 +316,30 @@ fn drop_front(slots: &mut Slots, missing: &mut Bits, lows: &Vec<Low>, count: u64
 }
 
 /// Appends so many slots of places that were noticed to be missing now.
-fn add_missing(slots: &mut Slots, missing: &mut Bits, lows: &mut Vec<Low>, count: u64, now: u64)
+fn add_missing(
+    slots: &mut Slots,
+    missing: &mut Bits,
+    bounds: &mut Vec<Bound>,
+    count: u64,
+    now: u64,
+    rule: AskRule,
+)
     requires room { length slots.old.items + count ≤ slots.old.capacity }
     requires wide { slots.old.capacity < bits_of missing.old.words.items }
     requires index { IsIndex missing.old.words.items missing.old.front slots.old.items }
-    requires blocks { length lows.old.items ≡ length missing.old.words.items }
-    requires low { AreLow lows.old.items missing.old.front slots.old.items }
+    requires blocks { length bounds.old.items ≡ length missing.old.words.items }
+    requires bound { AreBounds rule bounds.old.items missing.old.front slots.old.items }
     ensures items { slots.new.items ≡ slots.old.items ++ replicate count (noticed_at now) }
     ensures capacity { slots.new.capacity ≡ slots.old.capacity }
     ensures words { length missing.new.words.items ≡ length missing.old.words.items }
     ensures index { IsIndex missing.new.words.items missing.new.front slots.new.items }
-    ensures blocks { length lows.new.items ≡ length lows.old.items }
-    ensures low { AreLow lows.new.items missing.new.front slots.new.items }
+    ensures blocks { length bounds.new.items ≡ length bounds.old.items }
+    ensures bound { AreBounds rule bounds.new.items missing.new.front slots.new.items }
 {
     if count == 0 {
         return;
     }
-    note_missing(slots, missing, lows, count as usize, now);
+    note_missing(slots, missing, bounds, count as usize, now, rule);
     missing.set_range(slots.len(), count as usize);
     'added: for _ in 0..count {
         slots.append_missing(now);

@@ -1,5 +1,5 @@
 //! The slots of a ring window: a ring of small cells, and their contents in a pool.
-ghost use Rattle.std.specs.Prelude.{◌≡◌, ℕ, ◌+◌, ◌<◌, ◌≤◌, true, [], ◌∷◌, ◌++◌, length, take, drop, slice_get, slice_set, IfOk, Some, IsSomeAnd};
+ghost use Rattle.std.specs.Prelude.{◌≡◌, ℕ, ◌+◌, ◌^◌, ◌<◌, ◌≤◌, true, [], ◌∷◌, ◌++◌, length, take, drop, slice_get, slice_set, IfOk, Some, IsSomeAnd};
 ghost use Rattle.std.specs.Option.{option_map};
 ghost use Rattle.circular_buffer.specs.Buffer.{buffer};
 ghost use Rattle.stores.specs.declared.cell.Cell.TheVariants.{Taken};
@@ -7,9 +7,12 @@ ghost use Rattle.stores.specs.declared.slot.Slot.TheVariants.{Held};
 ghost use Rattle.stores.specs.Put.{noticed_at};
 ghost use Rattle.stores.specs.Lent.{slot_of};
 ghost use Rattle.std.specs.Vec.{vec_capacity};
-ghost use Rattle.stores.specs.Asking.{is_missing, CanBeAsked, asked_at};
+ghost use Rattle.stores.specs.declared.ask_rule.AskRule.{AskRule};
+ghost use Rattle.stores.specs.DueBy.{IsDueBy};
+ghost use Rattle.stores.specs.Asking.{is_due, is_missing, has_come, CanBeAsked, asked_at};
 ghost use Rattle.stores.specs.Pool.{freed, numbers_of, CanCellBeAsked, asked_cell};
 
+use crate::ask_rule::{AskRule, DueBy};
 use crate::cell::Cell;
 use crate::memory::OutOfMemory;
 use crate::pool::{fill_free, grow};
@@ -91,6 +94,22 @@ impl Slots {
                 last: *last,
             }),
         }
+    }
+
+    /// Whether the place of the slot at this index is one of these that are due.
+    pub fn is_due(&self, index: usize, by: DueBy) -> bool
+        requires { index < length self.now.items }
+        ensures { (now : ℕ) (rule : AskRule) → IsDueBy by now rule → result ≡ is_due now rule.delay rule.retry rule.asks (slice_get self.now.items index) }
+    {
+        self.cells.get(index).unwrap().is_due(by)
+    }
+
+    /// The moment from which on it is due by the rule, where nothing changes until then. None where there is no such moment.
+    pub fn due_from(&self, index: usize, rule: AskRule) -> Option<u64>
+        requires { index < length self.now.items }
+        ensures { (now : ℕ) → now < 2 ^ 64 → is_due now rule.delay rule.retry rule.asks (slice_get self.now.items index) ≡ has_come result now }
+    {
+        self.cells.get(index).unwrap().due_from(rule)
     }
 
     /// Appends the slot of a place that was noticed to be missing now.

@@ -1,16 +1,9 @@
-use Rattle.std.proofs.Common.{◌≡◌, ℕ, ◌≤◌, ◌+◌, ◌-◌, ◌*◌, ◌/◌, ◌%◌, ◌^◌, ◌<◌, true, length, ap, sym, subst, ◌∙◌, arith}
-use Rattle.std.proofs.lemmas.Bool.Decides.{nat_tests}
+use Rattle.std.proofs.Common.{◌≡◌, ◌≤◌, ◌+◌, ◌-◌, ◌/◌, ◌%◌, ◌^◌, true, length, ap, sym, subst, ◌∙◌, arith}
 use Rattle.std.specs.Int.{bit_at}
-use Rattle.stores.specs.Bits.{turned, is_set}
+use Rattle.stores.specs.Bits.{is_set}
 use Rattle.stores.proofs.BitWords.{set_in_rest}
+use Rattle.stores.proofs.Blocks.{turned_along}
 use Rattle.stores.proofs.bits.Bits.run.Goals as goal
-
--- positions of one run are as far apart as their bits
-turned_along : (words front position p end bit : ℕ) → bit ≡ turned (64 * words) front position → bit < 64 * words → position ≤ p → p < end → end + bit % 64 ≤ position + 64 →
-    turned (64 * words) front p ≡ bit + (p - position)
-turned_along words front position p end bit is within above below near =
-    let low : bit + (p - position) < 64 * words = omega arith in
-    grind (arith, nat_tests)
 
 pub returns-clause-covers : goal.returns-clause-covers
 returns-clause-covers c = λ end fits near p above below is.

@@ -1,8 +1,5 @@
-use Rattle.std.proofs.Common.{◌≡◌, ◌≤◌, length, true, Option, refl, subst, sym, arith}
-use Rattle.std.specs.Prelude.{IfSome}
-use Rattle.std.proofs.lemmas.Option.{slice_get_past}
-use Rattle.stores.specs.declared.low.Low.{Low}
-use Rattle.stores.specs.Asking.{has_come}
+use Rattle.std.proofs.Common.{ℕ, ◌+◌, ◌^◌, ◌<◌, ◌≤◌, sym, subst}
+use Rattle.std.specs.Option.{ForSome}
 use Rattle.stores.specs.Span.{span_of}
 use Rattle.stores.proofs.AskPlaces.{none_to_ask}
 use Rattle.stores.proofs.ring_window.RingWindowWindow.count_asks.Goals as goal
@@ -10,14 +7,10 @@ use Rattle.stores.proofs.ring_window.RingWindowWindow.count_asks.Goals as goal
 pub returns-in_default : goal.returns-in_default
 returns-in_default c = none_to_ask (span_of c.args.self.now.cursor c.args.self.now.slots) c.args.places.now c.args.now c.in_default.is c.requires
 
-pub loop-place-init : goal.loop-place-init
-loop-place-init c =
-    let lows = c.args.self.now.lows.items in
-    let past : length lows ≤ c.len-noted.result = let len = c.len-noted.ensures in omega arith in
-    record {
-      left = refl;
-      askable = c.requires;
-      cursor = c.in-Some.is;
-      kept = refl;
-      noted = subst (λ (o : Option Low). IfSome o (λ low. has_come low.last c.args.now ≡ true)) (sym (slice_get_past lows c.len-noted.result past)) tt;
-    }
+pub invariant_of-self-clause-started : goal.invariant_of-self-clause-started
+invariant_of-self-clause-started c =
+    let before = c.args.self.now in
+    subst (λ (n : ℕ). ForSome before.cursor (λ k. (0 < k + n) × (k + n ≤ 2 ^ 48))) (sym c.count_each.ensures.len) before.started
+
+pub invariant_of-self-clause-told : goal.invariant_of-self-clause-told
+invariant_of-self-clause-told c = λ answer kept. absurd cc

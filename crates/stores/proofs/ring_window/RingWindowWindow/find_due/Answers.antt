@@ -1,4 +1,8 @@
 use Rattle.std.proofs.Common.{ap, take, sym, ◌∙◌}
+use Rattle.circular_buffer.specs.Buffer.{Buffer}
+use Rattle.stores.specs.declared.ask_rule.AskRule.{AskRule}
+use Rattle.stores.specs.declared.slot.Slot.{Slot}
+use Rattle.stores.specs.Due.{due_from_first}
 use Rattle.stores.specs.Asking.{longest_ask, due_places}
 use Rattle.stores.proofs.DueSlots.{due_of_started, take_lesser}
 use Rattle.stores.proofs.ring_window.RingWindowWindow.find_due.Goals as goal
@@ -9,4 +13,10 @@ returns-clause-due c =
     let rule = c.args.rule in
     let all = due_of_started w.cursor w.slots.items w.slots.capacity c.args.now rule.delay rule.retry rule.asks c.in-Some.cursor c.in-Some.is in
     let due = due_places (record { cursor = w.cursor; slots = w.slots.items; capacity = w.slots.capacity }) c.args.now rule.delay rule.retry rule.asks in
-    c.find_due-found.ensures.due ∙ ap (take c.min.result) (sym all) ∙ sym (take_lesser c.args.most longest_ask c.min.result due c.min.ensures)
+    let wanted = c.new.result in
+    let slots = c.follow.new.self.slots.items in
+    c.find_due-found.ensures.due
+    ∙ ap (λ n. take n (due_from_first wanted.now wanted.rule.delay wanted.rule.retry wanted.rule.asks c.in-Some.cursor slots)) c.new.ensures.most
+    ∙ ap (λ n. take c.min.result (due_from_first n wanted.rule.delay wanted.rule.retry wanted.rule.asks c.in-Some.cursor slots)) c.new.ensures.now
+    ∙ ap (λ (r : AskRule). take c.min.result (due_from_first c.args.now r.delay r.retry r.asks c.in-Some.cursor slots)) c.new.ensures.rule
+    ∙ ap (λ (b : Buffer Slot). take c.min.result (due_from_first c.args.now rule.delay rule.retry rule.asks c.in-Some.cursor b.items)) c.follow.ensures.slots ∙ ap (take c.min.result) (sym all) ∙ sym (take_lesser c.args.most longest_ask c.min.result due c.min.ensures)

@@ -8,5 +8,5 @@ pub returns : goal.returns
 returns c =
     let w = c.args.self.now in
     let rule = c.args.rule in
-    next_of_slots w.cursor w.slots.items w.slots.capacity rule.delay rule.retry rule.asks c.moment_of.result w.unstarted
-    (λ now fits. ap (λ m. has_come m now) c.moment_of.ensures ∙ soonest_any rule c.soonest.result w.slots.items c.soonest.ensures now fits)
+    next_of_slots w.cursor w.slots.items w.slots.capacity rule.delay rule.retry rule.asks c.soonest_moment.result w.unstarted
+    (λ now fits. ap (λ m. has_come m now) c.soonest_moment.ensures ∙ soonest_any rule c.soonest.result w.slots.items c.soonest.ensures now fits)

@@ -10,9 +10,9 @@ use Rattle.stores.proofs.Lookup.{slice_get-set_other}
 use Rattle.stores.proofs.SlotPlaces.{started_set}
 use Rattle.stores.proofs.MissingIndex.{index_hold, index_push}
 use Rattle.stores.specs.Put.{noticed_at}
-use Rattle.stores.specs.Kept.{Tells}
-use Rattle.stores.specs.Low.{AreLow}
-use Rattle.stores.proofs.LeastMoments.{low_hold, low_push}
+use Rattle.stores.specs.Foreseen.{Tells}
+use Rattle.stores.specs.Bound.{AreBounds}
+use Rattle.stores.proofs.Bounds.{bound_hold, bound_push}
 use Rattle.stores.proofs.PutPlaces.{answer_above, answer_held}
 use Rattle.stores.proofs.Soonest.{soonest_push}
 use Rattle.stores.proofs.ring_window.RingWindowWindow.put_from.Goals as goal
@@ -42,21 +42,21 @@ invariant_of-self-in-Above-clause-index c =
     let is = index_push missing.words.items missing.front c.add_missing.new.slots.items (Held c.args.carried.now) refl c.add_missing.ensures.index in
     subst (λ (xs : List Slot). IsIndex missing.words.items missing.front xs) (sym (ap (λ (b : Buffer Slot). b.items) c.append_held-in-Above.ensures)) is
 
-pub invariant_of-self-in-Within-clause-low : goal.invariant_of-self-in-Within-clause-low
-invariant_of-self-in-Within-clause-low c =
+pub invariant_of-self-in-Within-clause-bound : goal.invariant_of-self-in-Within-clause-bound
+invariant_of-self-in-Within-clause-bound c =
     let before = c.args.self.now in
     let index = c.in-Within.index in
     let within : index < length before.slots.items = search rules in
-    let is = low_hold before.lows.items before.missing.front before.slots.items index c.args.carried.now within before.low in
-    subst (λ (xs : List Slot). AreLow before.lows.items c.clear.new.self.front xs) (sym (ap (λ (b : Buffer Slot). b.items) c.hold.ensures))
-    (subst (λ front. AreLow before.lows.items front (slice_set before.slots.items index (Held c.args.carried.now))) (sym c.clear.ensures.front) is)
+    let is = bound_hold before.rule before.bounds.items before.missing.front before.slots.items index c.args.carried.now within before.bound in
+    subst (λ (xs : List Slot). AreBounds before.rule before.bounds.items c.clear.new.self.front xs) (sym (ap (λ (b : Buffer Slot). b.items) c.hold.ensures))
+    (subst (λ front. AreBounds before.rule before.bounds.items front (slice_set before.slots.items index (Held c.args.carried.now))) (sym c.clear.ensures.front) is)
 
-pub invariant_of-self-in-Above-clause-low : goal.invariant_of-self-in-Above-clause-low
-invariant_of-self-in-Above-clause-low c =
+pub invariant_of-self-in-Above-clause-bound : goal.invariant_of-self-in-Above-clause-bound
+invariant_of-self-in-Above-clause-bound c =
     let missing = c.add_missing.new.missing in
-    let lows = c.add_missing.new.lows.items in
-    let is = low_push lows missing.front c.add_missing.new.slots.items c.args.carried.now c.add_missing.ensures.low in
-    subst (λ (xs : List Slot). AreLow lows missing.front xs) (sym (ap (λ (b : Buffer Slot). b.items) c.append_held-in-Above.ensures)) is
+    let bounds = c.add_missing.new.bounds.items in
+    let is = bound_push c.args.self.now.rule bounds missing.front c.add_missing.new.slots.items c.args.carried.now c.add_missing.ensures.bound in
+    subst (λ (xs : List Slot). AreBounds c.args.self.now.rule bounds missing.front xs) (sym (ap (λ (b : Buffer Slot). b.items) c.append_held-in-Above.ensures)) is
 
 pub returns-in-Above-clause-answer : goal.returns-in-Above-clause-answer
 returns-in-Above-clause-answer c =

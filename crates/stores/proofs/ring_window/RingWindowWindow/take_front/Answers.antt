@@ -4,9 +4,9 @@ use Rattle.stores.specs.declared.slot.Slot.{Slot}
 use Rattle.stores.specs.Index.{IsIndex}
 use Rattle.stores.proofs.MissingIndex.{index_shift}
 use Rattle.stores.specs.Bits.{turned}
-use Rattle.stores.specs.Kept.{Tells}
-use Rattle.stores.specs.Low.{AreLow}
-use Rattle.stores.proofs.LeastMoments.{low_drop}
+use Rattle.stores.specs.Foreseen.{Tells}
+use Rattle.stores.specs.Bound.{AreBounds}
+use Rattle.stores.proofs.Bounds.{bound_drop}
 use Rattle.stores.proofs.ring_window.RingWindowWindow.take_front.Goals as goal
 
 pub invariant_of-self-clause-index : goal.invariant_of-self-clause-index
@@ -19,8 +19,8 @@ invariant_of-self-clause-index c =
     let left = ap (λ (b : Buffer Slot). b.items) c.take_first-slot.ensures.rest in
     subst (λ xs. IsIndex after.words.items after.front xs) (sym left) is
 
-pub invariant_of-self-clause-low : goal.invariant_of-self-clause-low
-invariant_of-self-clause-low c =
+pub invariant_of-self-clause-bound : goal.invariant_of-self-clause-bound
+invariant_of-self-clause-bound c =
     let before = c.args.self.now in
     let slots = before.slots.items in
     let room = before.room in
@@ -29,8 +29,8 @@ invariant_of-self-clause-low c =
     let in_words = before.missing.within in
     let some : 1 ≤ length slots = search rules in
     let turn = ap (λ n. turned (64 * n) before.missing.front 1) (sym blocks) in
-    let is = low_drop before.lows.items before.missing.front c.shift.new.self.front 1 slots (omega arith) (c.shift.ensures.front ∙ turn) (omega arith) some before.low in
-    subst (λ xs. AreLow before.lows.items c.shift.new.self.front xs) (sym (ap (λ (b : Buffer Slot). b.items) c.take_first-slot.ensures.rest)) is
+    let is = bound_drop before.rule before.bounds.items before.missing.front c.shift.new.self.front 1 slots (omega arith) (c.shift.ensures.front ∙ turn) (omega arith) some before.bound in
+    subst (λ xs. AreBounds before.rule before.bounds.items c.shift.new.self.front xs) (sym (ap (λ (b : Buffer Slot). b.items) c.take_first-slot.ensures.rest)) is
 
 pub invariant_of-self-clause-told : goal.invariant_of-self-clause-told
 invariant_of-self-clause-told c = λ answer kept.

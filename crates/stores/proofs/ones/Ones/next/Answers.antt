@@ -1,0 +1,49 @@
+use Rattle.std.proofs.Common.{◌≡◌, ℕ, ◌+◌, ◌-◌, ◌/◌, ◌%◌, ◌^◌, ◌<◌, ◌≤◌, Bool, true, false, ap, sym, ◌∙◌, arith, rules, w64, ⊎_elim}
+use Rattle.std.specs.Int.{bit_at, trailing_zeros}
+use Rattle.std.proofs.lemmas.Bool.{cases_Bool}
+use Rattle.std.proofs.lemmas.Nat.{shr-shr}
+use Rattle.std.proofs.lemmas.Nat.Bits.{bit_at-trailing_zeros}
+use Rattle.stores.specs.declared.ones.Ones.{Ones}
+use Rattle.stores.specs.Ones.{HasEach}
+use Rattle.stores.proofs.ones.Ones.next.Goals as goal
+
+-- a bit of what is left above the bit number t
+above_one : (bits t k : ℕ) → bit_at (bits / 2 ^ t / 2) k ≡ bit_at bits (t + 1 + k)
+above_one bits t k =
+    ap (λ n. n / 2 ^ k % 2) (shr-shr bits t 1)
+    ∙ ap (λ n. n % 2) (shr-shr bits (t + 1) k)
+
+-- no position passes the test whose bit is 0
+not_covered : (run : Ones) (test : ℕ → Bool) (end p : ℕ) → HasEach run test end → run.position ≤ p → p < end → bit_at run.bits (p - run.position) ≡ 0 → test p ≡ false
+not_covered run test end p covers above below zero =
+    ⊎_elim
+    (λ (is : test p ≡ true). absurd (let one = covers p above below is in omega arith))
+    (λ is. is)
+    (cases_Bool (test p))
+
+pub returns-clause-none : goal.returns-clause-none
+returns-clause-none c = λ test end covers p above below within.
+    let run = c.args.self.now in
+    let first = bit_at-trailing_zeros w64 run.bits (omega (arith, c.if-self-eq0.false)) (search rules) in
+    not_covered run test end p covers above within (first.2 (p - run.position) (omega arith))
+
+pub returns-clause-left : goal.returns-clause-left
+returns-clause-left c = λ test end covers p above below is.
+    let run = c.args.self.now in
+    let t : ℕ = trailing_zeros w64 run.bits in
+    let k : ℕ = p - (run.position + t + 1) in
+    let at : t + 1 + k ≡ p - run.position = omega arith in
+    above_one run.bits t k ∙ ap (bit_at run.bits) at ∙ covers p (omega arith) below is
+
+pub returns-clause-below : goal.returns-clause-below
+returns-clause-below c = λ end is.
+    let run = c.args.self.now in
+    let first = bit_at-trailing_zeros w64 run.bits (omega (arith, c.if-self-eq0.false)) (search rules) in
+    is (trailing_zeros w64 run.bits) first.1
+
+pub returns-clause-kept : goal.returns-clause-kept
+returns-clause-kept c = λ end is k one.
+    let run = c.args.self.now in
+    let t : ℕ = trailing_zeros w64 run.bits in
+    let far = is (t + 1 + k) (sym (above_one run.bits t k) ∙ one) in
+    omega (arith, far)
