@@ -25,7 +25,7 @@ use Rattle.stores.specs.Asking.{is_due as is_due_slot, is_missing as is_missing_
 use Rattle.receiver.specs.Config.{Config}
 use Rattle.receiver.specs.Window.{held_in, missed_in, window_at, window_of}
 use Rattle.receiver.specs.Asks.{is_due, is_missed, asked_once, Asks, AsksMost, AnyNeedsRoom, looked_at, CountsMissing}
-use Rattle.receiver.specs.Counted.{CanAllBeAsked, CountsAsks}
+use Rattle.receiver.specs.Counted.{CanAllBeAsked, CountsAsks, FindsPairs, AnswersPairs}
 use Rattle.receiver.proofs.Rising.{members, not_before}
 
 -- a span since a moment, as a difference and as a sum
@@ -273,3 +273,19 @@ positive (x ∷ xs) some = omega arith
 
 pub some_due : (items places : List ℕ) → items ≡ places → (length items == 0) ≡ false → places ≢ []
 some_due items places is some none = true≢false (sym (ap (λ (xs : List ℕ). length xs == 0) (is ∙ none)) ∙ some)
+
+-- places are covered exactly where one is due
+pub answers_pairs : (s : Span) (now delay retry limit most : ℕ) (pairs : List Pair) (count : ℕ) (first : List ℕ) → (count ≡ 0 → take (looked_at most) (due_places s now delay retry limit) ≡ []) →
+    (0 < count → FindsPairs s now delay retry limit most first pairs count) → AnswersPairs s now delay retry limit most pairs count first
+answers_pairs s now delay retry limit most pairs zero first none some = none refl
+answers_pairs s now delay retry limit most pairs (suc count) first none some = some (omega arith)
+
+pub pairs_found : (s : Span) (now delay retry limit most : ℕ) (pairs : List Pair) (count : ℕ) (first : List ℕ) → AnswersPairs s now delay retry limit most pairs count first → count ≢ 0 →
+    FindsPairs s now delay retry limit most first pairs count
+pairs_found s now delay retry limit most pairs zero first is some = absurd (some refl)
+pairs_found s now delay retry limit most pairs (suc count) first is some = is
+
+pub no_pairs : (s : Span) (now delay retry limit most : ℕ) (pairs : List Pair) (count : ℕ) (first : List ℕ) → AnswersPairs s now delay retry limit most pairs count first → count ≡ 0 →
+    take (looked_at most) (due_places s now delay retry limit) ≡ []
+no_pairs s now delay retry limit most pairs zero first is none = is
+no_pairs s now delay retry limit most pairs (suc count) first is none = absurd (omega arith)

@@ -1,5 +1,5 @@
 -- What an ask finds in a window, and what counting asks for several places leaves in it, slot by slot.
-use Rattle.std.specs.Prelude.{◌≡◌, ◌≢◌, ℕ, ◌<◌, List, [], length, take, All, Option, Some, None, IsSomeAnd, if◌then◌else◌}
+use Rattle.std.specs.Prelude.{◌≡◌, ◌≢◌, ℕ, zero, suc, ◌<◌, List, [], length, take, All, Option, Some, None, IsSomeAnd, if◌then◌else◌}
 use Rattle.std.specs.Option.{option_map}
 use Rattle.std.specs.List.Sorted.{IsStrictlyIncreasing}
 use Rattle.arrayvec.specs.ArrayVec.{ArrayVec}
@@ -33,7 +33,7 @@ pub record FindsPairs (s : Span) (now delay retry limit most : ℕ) (first : Lis
   pub rising : IsStrictlyIncreasing (take count first)
   pub askable : CanAllBeAsked s (take count first)
 
--- there are pairs exactly where a place is due
-abbrev pub AnswersPairs : Span → (now delay retry limit most : ℕ) → Option (ArrayVec Pair × ℕ) → (first : List ℕ) → Type 0
-AnswersPairs s now delay retry limit most None first = take (looked_at most) (due_places s now delay retry limit) ≡ []
-AnswersPairs s now delay retry limit most (Some found) first = FindsPairs s now delay retry limit most first found.0.items found.1
+-- places are covered exactly where one is due
+abbrev pub AnswersPairs : Span → (now delay retry limit most : ℕ) → (pairs : List Pair) → (count : ℕ) → (first : List ℕ) → Type 0
+AnswersPairs s now delay retry limit most pairs zero first = take (looked_at most) (due_places s now delay retry limit) ≡ []
+AnswersPairs s now delay retry limit most pairs (suc count) first = FindsPairs s now delay retry limit most first pairs (suc count)

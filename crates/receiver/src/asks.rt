@@ -10,7 +10,7 @@ ghost use Rattle.receiver.specs.Window.{window_of};
 
 use crate::config::ReceiverConfig;
 use arrayvec::ArrayVec;
-use fbwire::{Pair, pack, write_nack, write_nack_into};
+use fbwire::{Pair, pack_into, write_nack, write_nack_into};
 use places::Place;
 use rtpwire::{Datagram, TooShort};
 use stores::{LONGEST_ASK, Window, window_by_place};
@@ -77,9 +77,11 @@ fn ask_due<W: Window>(
     ensures capacity { (W.meaning window.new).capacity ≡ (W.meaning window.old).capacity }
 {
     let mut due = ArrayVec::new();
-    let Some((pairs, count)) = pairs_due(window, config, now, most, &mut due) else {
+    let mut pairs = ArrayVec::new();
+    let count = pairs_due(window, config, now, most, &mut due, &mut pairs);
+    if count == 0 {
         return None;
-    };
+    }
     count_asks(window, &due.as_slice()[..count], now);
     let session = config.session();
     Some(write_nack(
@@ -126,9 +128,11 @@ fn ask_due_into<W: Window>(
     ensures capacity { (W.meaning window.new).capacity ≡ (W.meaning window.old).capacity }
 {
     let mut due = ArrayVec::new();
-    let Some((pairs, count)) = pairs_due(window, config, now, most, &mut due) else {
+    let mut pairs = ArrayVec::new();
+    let count = pairs_due(window, config, now, most, &mut due, &mut pairs);
+    if count == 0 {
         return Ok(None);
-    };
+    }
     let needed = 12 + 4 * pairs.len();
     if out.len() < needed {
         return Err(TooShort { needed });
@@ -153,26 +157,24 @@ fn asks_nothing<W: Window>(window: &W, config: &ReceiverConfig, now: u64) -> boo
     window.has_none_due(now, config.rule())
 }
 
-/// Finds the due places of a window, at most so many and as many as one ask looks at, and packs them: the pairs, and how many
-/// places they cover. None where there are none.
+/// Finds the due places of a window, at most so many and as many as one ask looks at, and packs them into pairs. It answers how many
+/// places they cover, which is 0 where none is due.
 fn pairs_due<W: Window>(
     window: &mut W,
     config: &ReceiverConfig,
     now: u64,
     most: usize,
     due: &mut ArrayVec<Place, LONGEST_ASK>,
-) -> Option<(ArrayVec<Pair, 64>, usize)>
-    ensures found { AnswersPairs (W.meaning window.old) now config.now.delay config.now.retry config.now.asks most result due.new.items }
+    pairs: &mut ArrayVec<Pair, 64>,
+) -> usize
+    ensures found { AnswersPairs (W.meaning window.old) now config.now.delay config.now.retry config.now.asks most pairs.new.items result due.new.items }
     ensures lists { Lists (due_places (W.meaning window.old) now config.now.delay config.now.retry config.now.asks)
         (λ q. is_due now config.now.delay config.now.retry config.now.asks (slot_at (W.meaning window.old) q)) }
     ensures same { W.meaning window.new ≡ W.meaning window.old }
 {
     window_by_place();
     window.find_due(due, most, now, config.rule());
-    if due.is_empty() {
-        return None;
-    }
-    Some(pack(due.as_slice()))
+    pack_into(due.as_slice(), pairs)
 }
 
 /// Counts one ask for each of these places, made at the moment `now`.
