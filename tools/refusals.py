@@ -3,6 +3,7 @@
 Status 1 is for input that is not as its format has it, with the line, frame or packet it stands in; 3 is for files that can't be
 read or written, as rtxtool has it; 2 is what argparse answers to a bad command line.
 """
+import importlib.util
 import os
 import sys
 import tempfile
@@ -13,6 +14,13 @@ class Refused(Exception):
 
     def __init__(self, where, what):
         super().__init__(f"{where}: {what}")
+
+
+def wants(module):
+    """Ends with status 2, and a line on the error output, where a module of Debian's is missing."""
+    if importlib.util.find_spec(module) is None:
+        print(f"{os.path.basename(sys.argv[0])}: missing: python3:{module} (Debian's python3-{module})", file=sys.stderr)
+        sys.exit(2)
 
 
 def read(name):

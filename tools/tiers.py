@@ -5,6 +5,7 @@ import importlib.util
 import os
 import shutil
 import subprocess
+import sys
 from importlib.machinery import SourceFileLoader
 
 ONE_JOB = ["--jobs", "1"]
@@ -98,6 +99,17 @@ def leave(rt, kept, crate):
     os.makedirs(os.path.dirname(there), exist_ok=True)
     rt.linked(kept, there)
     rt.offer(crate, crate.stamp())
+
+
+def heed(words, told, known):
+    """Ends where help is asked for, which is what a tool tells of itself, or where a word is no option that it knows."""
+    if {"-h", "--help"} & set(words):
+        print(told)
+        sys.exit(0)
+    for word in words:
+        if word.startswith("-") and word not in known:
+            print(f"{os.path.basename(sys.argv[0])}: no option {word}; --help tells of those there are", file=sys.stderr)
+            sys.exit(2)
 
 
 def lanes_of(words):
