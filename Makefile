@@ -1,9 +1,11 @@
 # Builds and installs the library for C, and the programs gozdrit-relay and rtxtool where they were built.
 #
+#   make demo                                    a stream over a path that loses, with two relays and without, in ten seconds
 #   make lib [PAYLOAD=1460]                      proves the library with payloads of so many octets, and builds it
 #   make relay [PAYLOAD=1460]                    proves the program gozdrit-relay for such payloads, and builds it
-#   make install [PREFIX=FOLDER] [DESTDIR=ROOT]  installs it; the packager's ROOT stands before every path
+#   make install [PREFIX=FOLDER] [DESTDIR=ROOT]  installs it; the packager's ROOT stands before every path; LIBDIR=FOLDER for another lib
 #   make uninstall [PREFIX=FOLDER] [DESTDIR=ROOT]
+#   make help                                    these lines
 #
 # ARCHIVE and INCLUDE install another build, an archive with the folder of its headers, in the place of `make lib`.
 PAYLOAD ?= 1460
@@ -25,11 +27,20 @@ HEADERS = $(PREFIX)/include
 PKGCONFIG = $(LIBDIR)/pkgconfig
 MAN = $(PREFIX)/share/man
 DOC = $(PREFIX)/share/doc/gozdrit
-PAGES = LIBRARY GSTREAMER RELAY PICTURES PROTOCOL MODEL CLAIMS DECISIONS COSTS PERF SCRIPT
+# A folder as the pkg-config file has it: below the prefix by that, so that a tree that was moved is found.
+below = $(patsubst $(PREFIX)/%,$${prefix}/%,$(1))
 
 lib: $(BUILD)/libgozdrit.a $(BUILD)/$(SHARED)
 
+demo:
+	@tools/need rt python3
+	@tools/demo
+
+help:
+	@sed -n '/^#/!q; s/^# \{0,1\}//p' $(firstword $(MAKEFILE_LIST))
+
 $(TREE)/crates/gozdrit/out/libgozdrit.a:
+	@tools/need rt python3 cc ld ar objcopy
 	rm -rf $(TREE)
 	tools/limits $(PAYLOAD) $(TREE)
 
@@ -58,16 +69,18 @@ $(BUILD)/$(SHARED): $(BUILD)/gozdrit.o
 	$(CC) -shared -Wl,-soname,$(SONAME) -Wl,-z,defs -o $@ $<
 
 install: lib
-	install -d $(DESTDIR)$(HEADERS) $(DESTDIR)$(PKGCONFIG) $(DESTDIR)$(MAN)/man1 $(DESTDIR)$(MAN)/man3 $(DESTDIR)$(DOC)
+	install -d $(DESTDIR)$(HEADERS) $(DESTDIR)$(PKGCONFIG) $(DESTDIR)$(MAN)/man1 $(DESTDIR)$(MAN)/man3 $(DESTDIR)$(DOC)/docs/pictures
 	install -m 644 $(INCLUDE)/gozdrit.h $(INCLUDE)/gozdrit_limits.h $(DESTDIR)$(HEADERS)
 	install -m 644 $(BUILD)/libgozdrit.a $(DESTDIR)$(LIBDIR)
 	install -m 755 $(BUILD)/$(SHARED) $(DESTDIR)$(LIBDIR)
 	ln -sf $(SHARED) $(DESTDIR)$(LIBDIR)/$(SONAME)
 	ln -sf $(SONAME) $(DESTDIR)$(LIBDIR)/libgozdrit.so
-	sed 's|@PREFIX@|$(PREFIX)|; s|@VERSION@|$(VERSION)|' include/gozdrit.pc.in >$(DESTDIR)$(PKGCONFIG)/gozdrit.pc
+	sed 's|@PREFIX@|$(PREFIX)|; s|@LIBDIR@|$(call below,$(LIBDIR))|; s|@INCLUDEDIR@|$(call below,$(HEADERS))|; s|@VERSION@|$(VERSION)|' include/gozdrit.pc.in >$(DESTDIR)$(PKGCONFIG)/gozdrit.pc
 	install -m 644 docs/gozdrit.3 $(DESTDIR)$(MAN)/man3
 	install -m 644 docs/rtxtool.1 docs/gozdrit-relay.1 $(DESTDIR)$(MAN)/man1
-	install -m 644 README.md LICENSE LICENSE-APACHE LICENSE-MIT $(PAGES:%=docs/%.md) $(DESTDIR)$(DOC)
+	install -m 644 README.md CONTRIBUTING.md SECURITY.md LICENSE LICENSE-APACHE LICENSE-MIT $(DESTDIR)$(DOC)
+	install -m 644 docs/*.md $(DESTDIR)$(DOC)/docs
+	install -m 644 docs/pictures/*.png $(DESTDIR)$(DOC)/docs/pictures
 	[ ! -x $(PROGRAM) ] || install -D -m 755 $(PROGRAM) $(DESTDIR)$(BINDIR)/rtxtool
 	[ ! -x $(BUILD)/gozdrit-relay ] || install -D -m 755 $(BUILD)/gozdrit-relay $(DESTDIR)$(BINDIR)/gozdrit-relay
 
@@ -78,4 +91,4 @@ uninstall:
 	rm -f $(addprefix $(DESTDIR)$(BINDIR)/,rtxtool gozdrit-relay)
 	rm -rf $(DESTDIR)$(DOC)
 
-.PHONY: lib relay install uninstall
+.PHONY: demo lib relay install uninstall help
