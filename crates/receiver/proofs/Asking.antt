@@ -1,5 +1,5 @@
 -- Asks that a window counts are asks of the receiver.
-use Rattle.std.proofs.Common.{◌≡◌, ◌≢◌, ℕ, zero, suc, nat_lt, nat_le, ◌&&◌, ◌+◌, ◌-◌, ◌*◌, ◌<◌, ◌==◌, ◌||◌, Bool, true, false, cond, List, [], ◌∷◌, length, take, drop, drop-cons, add-one, get_or, Option, Some, None, IsSomeAnd, IsSome, option_map, refl, sym, ap, subst, ◌∙◌, arith, inl, inr, eqb-true, eq-eqb, ne_eqb, true≢false}
+use Rattle.std.proofs.Common.{◌≡◌, ◌≢◌, ℕ, zero, suc, nat_lt, nat_le, min, ◌≤◌, ◌&&◌, ◌+◌, ◌-◌, ◌*◌, ◌<◌, ◌==◌, ◌||◌, Bool, true, false, cond, List, [], ◌∷◌, ◌++◌, length, take, drop, drop-cons, add-one, get_or, Option, Some, None, IsSomeAnd, IsSome, option_map, refl, sym, ap, subst, ◌∙◌, arith, inl, inr, eqb-true, eq-eqb, ne_eqb, true≢false}
 use Rattle.std.specs.List.{All, filter}
 use Rattle.std.proofs.lemmas.Grind.{common_steps}
 use Rattle.std.proofs.lemmas.Bool.Decides.{nat_tests}
@@ -7,7 +7,7 @@ use Rattle.std.specs.Prelude.{if◌then◌else◌}
 use Rattle.std.specs.List.Sorted.{IsStrictlyIncreasing}
 use Rattle.std.proofs.lemmas.Bool.{cases_eq}
 use Rattle.std.proofs.lemmas.Option.{same_Some}
-use Rattle.std.proofs.lemmas.List.{take_all, drop_all}
+use Rattle.std.proofs.lemmas.List.{take_all, drop_all, take-append-le, length-take}
 use Rattle.std.proofs.lemmas.List.Folds.{list_any_more}
 use Rattle.std.proofs.lemmas.List.Elements.{All-take}
 use Rattle.arrayvec.specs.ArrayVec.{ArrayVec}
@@ -15,17 +15,18 @@ use Rattle.places.specs.Among.{is_among}
 use Rattle.fbwire.specs.declared.nack.Pair.{Pair}
 use Rattle.fbwire.specs.Nack.{NackSpells}
 use Rattle.fbwire.specs.Packing.{IsPacking, IsNarrow}
+use Rattle.stores.proofs.DueSlots.{take_lesser}
 use Rattle.stores.specs.declared.slot.Slot.{Slot}
 use Rattle.stores.specs.declared.slot.Slot.TheVariants.{Held, Missing}
 use Rattle.stores.specs.Span.{Span, IsSpan}
 use Rattle.stores.specs.ByPlace.{slot_at, IsInside}
 use Rattle.stores.specs.PlaceLists.{Lists}
-use Rattle.stores.specs.Asking.{CanBeAsked, CanEachBeAsked, asked, asked_each, asked_slot, places_of, due_places, missing_places, CountsAsk}
+use Rattle.stores.specs.Asking.{CanBeAsked, CanEachBeAsked, asked, asked_each, asked_slot, places_of, due_places, missing_places, longest_ask, CountsAsk}
 use Rattle.stores.specs.Asking.{is_due as is_due_slot, is_missing as is_missing_slot, is_long_since}
 use Rattle.receiver.specs.Config.{Config}
 use Rattle.receiver.specs.Window.{held_in, missed_in, window_at, window_of}
 use Rattle.receiver.specs.Asks.{is_due, is_missed, asked_once, Asks, AsksMost, AnyNeedsRoom, looked_at, CountsMissing}
-use Rattle.receiver.specs.Counted.{CanAllBeAsked, CountsAsks, FindsPairs, AnswersPairs}
+use Rattle.receiver.specs.Counted.{CanAllBeAsked, CountsAsks, looked_due, FindsPairs, AnswersPairs}
 use Rattle.receiver.proofs.Rising.{members, not_before}
 
 -- a span since a moment, as a difference and as a sum
@@ -80,10 +81,15 @@ module _ (s : Span) (is : IsSpan s) (inside : (q : ℕ) → IsSome (slot_at s q)
       let P : ℕ → Type 0 = λ q. IsSome (slot_at s q) in
       within_window s.cursor s.slots s.capacity is inside _ (All-take P m _ (All-take P n _ (λ k d l. due_is_some now delay retry limit _ (all_pass _ _ lists k d l))))
 
-  pub due_askable : ((o : Option Slot) → is_due_slot now delay retry limit o ≡ true → IsSomeAnd o CanBeAsked) → (n m i : ℕ) → CanAllBeAsked s (take i (take m (take n (due_places s now delay retry limit))))
-  due_askable askable n m i =
+  pub looked_narrow : (most : ℕ) → IsNarrow (looked_due s now delay retry limit most)
+  looked_narrow most =
+      let P : ℕ → Type 0 = λ q. IsSome (slot_at s q) in
+      within_window s.cursor s.slots s.capacity is inside _ (All-take P (looked_at most) _ (λ k d l. due_is_some now delay retry limit _ (all_pass _ _ lists k d l)))
+
+  pub looked_askable : ((o : Option Slot) → is_due_slot now delay retry limit o ≡ true → IsSomeAnd o CanBeAsked) → (most i : ℕ) → CanAllBeAsked s (take i (looked_due s now delay retry limit most))
+  looked_askable askable most i =
       let P : ℕ → Type 0 = λ q. IsSomeAnd (slot_at s q) CanBeAsked in
-      All-take P i _ (All-take P m _ (All-take P n _ (λ k d l. askable _ (all_pass _ _ lists k d l))))
+      All-take P i _ (All-take P (looked_at most) _ (λ k d l. askable _ (all_pass _ _ lists k d l)))
 
 -- a list of which nothing passes a test has nothing that passes a stronger one
 filter_none : (f g : ℕ → Bool) → ((q : ℕ) → g q ≡ false → f q ≡ false) → (xs : List ℕ) → length (filter g xs) ≡ 0 → filter f xs ≡ []
@@ -275,7 +281,7 @@ pub some_due : (items places : List ℕ) → items ≡ places → (length items 
 some_due items places is some none = true≢false (sym (ap (λ (xs : List ℕ). length xs == 0) (is ∙ none)) ∙ some)
 
 -- places are covered exactly where one is due
-pub answers_pairs : (s : Span) (now delay retry limit most : ℕ) (pairs : List Pair) (count : ℕ) (first : List ℕ) → (count ≡ 0 → take (looked_at most) (due_places s now delay retry limit) ≡ []) →
+pub answers_pairs : (s : Span) (now delay retry limit most : ℕ) (pairs : List Pair) (count : ℕ) (first : List ℕ) → (count ≡ 0 → looked_due s now delay retry limit most ≡ []) →
     (0 < count → FindsPairs s now delay retry limit most first pairs count) → AnswersPairs s now delay retry limit most pairs count first
 answers_pairs s now delay retry limit most pairs zero first none some = none refl
 answers_pairs s now delay retry limit most pairs (suc count) first none some = some (omega arith)
@@ -286,6 +292,54 @@ pairs_found s now delay retry limit most pairs zero first is some = absurd (some
 pairs_found s now delay retry limit most pairs (suc count) first is some = is
 
 pub no_pairs : (s : Span) (now delay retry limit most : ℕ) (pairs : List Pair) (count : ℕ) (first : List ℕ) → AnswersPairs s now delay retry limit most pairs count first → count ≡ 0 →
-    take (looked_at most) (due_places s now delay retry limit) ≡ []
+    looked_due s now delay retry limit most ≡ []
 no_pairs s now delay retry limit most pairs zero first is none = is
 no_pairs s now delay retry limit most pairs (suc count) first is none = absurd (omega arith)
+
+-- no more places are due than missing
+due_missing : (now delay retry limit : ℕ) (o : Option Slot) → is_due_slot now delay retry limit o ≡ true → is_missing_slot o ≡ true
+due_missing now delay retry limit None due = absurd cc
+due_missing now delay retry limit (Some (Held content)) due = absurd cc
+due_missing now delay retry limit (Some (Missing noticed asks last)) due = refl
+
+fewer_pass : (f g : ℕ → Bool) → ((q : ℕ) → f q ≡ true → g q ≡ true) → (xs : List ℕ) → length (filter f xs) ≤ length (filter g xs)
+fewer_pass f g more [] = omega arith
+fewer_pass f g more (x ∷ xs) = let rest = fewer_pass f g more xs in let here = more x in grind (arith, common_steps, rest, here)
+
+pub due_of_missing : (s : Span) (now delay retry limit : ℕ) → length (due_places s now delay retry limit) ≤ length (missing_places s)
+due_of_missing s now delay retry limit =
+    fewer_pass (λ q. is_due_slot now delay retry limit (slot_at s q)) (λ q. is_missing_slot (slot_at s q)) (λ q. due_missing now delay retry limit (slot_at s q)) (places_of s)
+
+-- so many of a list, and so many
+take_same : (n m : ℕ) (xs : List ℕ) → min n (length xs) ≡ min m (length xs) → take n xs ≡ take m xs
+take_same zero zero xs e = refl
+take_same zero (suc m) [] e = refl
+take_same zero (suc m) (x ∷ xs) e = absurd (omega arith)
+take_same (suc n) zero [] e = refl
+take_same (suc n) zero (x ∷ xs) e = absurd (omega arith)
+take_same (suc n) (suc m) [] e = refl
+take_same (suc n) (suc m) (x ∷ xs) e = ap (λ ys. x ∷ ys) (take_same n m xs (omega arith))
+
+-- room for as many as a list has is room enough
+pub take_as_many : (most room limit : ℕ) (xs : List ℕ) → min limit (length xs) ≤ room → take (min most room) (take limit xs) ≡ take (min most limit) xs
+take_as_many most room limit xs fits = take_lesser (min most room) limit (min (min most room) limit) xs refl ∙ take_same (min (min most room) limit) (min most limit) xs (omega arith)
+
+-- what was found, at the front of what was lent
+pub looked_in_room : (s : Span) (now delay retry limit most room : ℕ) → min longest_ask (length (missing_places s)) ≤ room →
+    take (min most room) (take longest_ask (due_places s now delay retry limit)) ≡ looked_due s now delay retry limit most
+looked_in_room s now delay retry limit most room fits =
+    let fewer = due_of_missing s now delay retry limit in
+    take_as_many most room longest_ask (due_places s now delay retry limit) (omega (arith, fewer))
+
+-- what lies at the front of what was lent
+pub front_of_lent : (found : ℕ) (front rest : List ℕ) {n : ℕ} → found ≤ n → length front ≡ n → take found (front ++ rest) ≡ take found front
+front_of_lent found front rest within long = take-append-le found front rest (omega arith)
+
+-- and a beginning of it
+pub covered_of : (lent first : List ℕ) (found count : ℕ) → count ≤ length (take found lent) → take found lent ≡ first → take count lent ≡ take count first
+covered_of lent first found count within items =
+    let long = length-take found lent in
+    sym (take_lesser count found count lent (omega arith)) ∙ ap (take count) items
+
+pub covered_within : (lent : List ℕ) (found count : ℕ) → count ≤ length (take found lent) → count ≤ length lent
+covered_within lent found count within = let long = length-take found lent in omega arith

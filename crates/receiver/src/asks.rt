@@ -1,8 +1,8 @@
 //! What a receiver asks for.
-ghost use Rattle.std.specs.Prelude.{◌≡◌, ℕ, ◌≤◌, length, Option, None, IsNone, IsTrue, IsOk, Ok, OnErr};
+ghost use Rattle.std.specs.Prelude.{◌≡◌, ℕ, ◌≤◌, length, min, Option, None, IsNone, IsTrue, IsOk, Ok, OnErr};
 ghost use Rattle.std.specs.List.Sorted.{IsStrictlyIncreasing};
 ghost use Rattle.stores.specs.ByPlace.{slot_at};
-ghost use Rattle.stores.specs.Asking.{due_places, is_due};
+ghost use Rattle.stores.specs.Asking.{longest_ask, due_places, missing_places, is_due};
 ghost use Rattle.stores.specs.PlaceLists.{Lists};
 ghost use Rattle.receiver.specs.Asks.{AsksAny, AsksInto, AsksMost, AsksMostInto, CountsMissing};
 ghost use Rattle.receiver.specs.Counted.{CanAllBeAsked, CountsAsks, AnswersPairs};
@@ -14,6 +14,9 @@ use fbwire::{Pair, pack_into, write_nack, write_nack_into};
 use places::Place;
 use rtpwire::{Datagram, TooShort};
 use stores::{LONGEST_ASK, Window, window_by_place};
+
+/// For how many missing places an ask blanks room: blanking it for as many as an ask can look at takes longer than most asks.
+const FEW: usize = 128;
 
 /// Asks for the due places of a window, as many as one ask looks at.
 pub(crate) fn ask_all<W: Window>(
@@ -61,28 +64,38 @@ pub(crate) fn ask_from<W: Window>(
     if asks_nothing(window, config, now) {
         return None;
     }
-    ask_due(window, config, now, most)
+    if window.missing() <= FEW {
+        return ask_due(window, config, now, most, &mut [Place::default(); FEW]);
+    }
+    ask_due(
+        window,
+        config,
+        now,
+        most,
+        &mut [Place::default(); LONGEST_ASK],
+    )
 }
 
-/// The same once something is seen to be due, or may be.
+/// The same once something is seen to be due, or may be, in room for those that are.
 fn ask_due<W: Window>(
     window: &mut W,
     config: &ReceiverConfig,
     now: u64,
     most: usize,
+    due: &mut [Place],
 ) -> Option<Datagram>
+    requires room { min longest_ask (length (missing_places (W.meaning window.old))) ≤ length due.old }
     ensures asks { (learnt : Option ℕ) → AsksMost config.now (window_of learnt (W.meaning window.old)) now most result (window_of learnt (W.meaning window.new)) }
     ensures none { IsNone result → W.meaning window.new ≡ W.meaning window.old }
     ensures started { (W.meaning window.new).cursor ≡ (W.meaning window.old).cursor }
     ensures capacity { (W.meaning window.new).capacity ≡ (W.meaning window.old).capacity }
 {
-    let mut due = ArrayVec::new();
     let mut pairs = ArrayVec::new();
-    let count = pairs_due(window, config, now, most, &mut due, &mut pairs);
+    let count = pairs_due(window, config, now, most, due, &mut pairs);
     if count == 0 {
         return None;
     }
-    count_asks(window, &due.as_slice()[..count], now);
+    count_asks(window, &due[..count], now);
     let session = config.session();
     Some(write_nack(
         session.receiver_ssrc(),
@@ -109,17 +122,29 @@ pub(crate) fn ask_into_from<W: Window>(
     if asks_nothing(window, config, now) {
         return Ok(None);
     }
-    ask_due_into(window, config, now, most, out)
+    if window.missing() <= FEW {
+        return ask_due_into(window, config, now, most, &mut [Place::default(); FEW], out);
+    }
+    ask_due_into(
+        window,
+        config,
+        now,
+        most,
+        &mut [Place::default(); LONGEST_ASK],
+        out,
+    )
 }
 
-/// The same once something is seen to be due, or may be.
+/// The same once something is seen to be due, or may be, in room for those that are.
 fn ask_due_into<W: Window>(
     window: &mut W,
     config: &ReceiverConfig,
     now: u64,
     most: usize,
+    due: &mut [Place],
     out: &mut [u8],
 ) -> Result<Option<usize>, TooShort>
+    requires room { min longest_ask (length (missing_places (W.meaning window.old))) ≤ length due.old }
     ensures asks { (learnt : Option ℕ) → AsksMostInto config.now (window_of learnt (W.meaning window.old)) now most out.old result out.new (window_of learnt (W.meaning window.new)) }
     ensures enough { 268 ≤ length out.old → IsOk result }
     ensures err { OnErr result (W.meaning window.new ≡ W.meaning window.old) }
@@ -127,9 +152,8 @@ fn ask_due_into<W: Window>(
     ensures started { (W.meaning window.new).cursor ≡ (W.meaning window.old).cursor }
     ensures capacity { (W.meaning window.new).capacity ≡ (W.meaning window.old).capacity }
 {
-    let mut due = ArrayVec::new();
     let mut pairs = ArrayVec::new();
-    let count = pairs_due(window, config, now, most, &mut due, &mut pairs);
+    let count = pairs_due(window, config, now, most, due, &mut pairs);
     if count == 0 {
         return Ok(None);
     }
@@ -137,7 +161,7 @@ fn ask_due_into<W: Window>(
     if out.len() < needed {
         return Err(TooShort { needed });
     }
-    let covered = &due.as_slice()[..count];
+    let covered = &due[..count];
     count_asks(window, covered, now);
     let session = config.session();
     let reporter = session.receiver_ssrc();
@@ -157,24 +181,26 @@ fn asks_nothing<W: Window>(window: &W, config: &ReceiverConfig, now: u64) -> boo
     window.has_none_due(now, config.rule())
 }
 
-/// Finds the due places of a window, at most so many and as many as one ask looks at, and packs them into pairs. It answers how many
-/// places they cover, which is 0 where none is due.
+/// Finds the due places of a window, at most so many and as many as one ask looks at, in room for those that are, and packs them into pairs.
+/// It answers how many places they cover, which is 0 where none is due.
 fn pairs_due<W: Window>(
     window: &mut W,
     config: &ReceiverConfig,
     now: u64,
     most: usize,
-    due: &mut ArrayVec<Place, LONGEST_ASK>,
+    due: &mut [Place],
     pairs: &mut ArrayVec<Pair, 64>,
 ) -> usize
-    ensures found { AnswersPairs (W.meaning window.old) now config.now.delay config.now.retry config.now.asks most pairs.new.items result due.new.items }
+    requires room { min longest_ask (length (missing_places (W.meaning window.old))) ≤ length due.old }
+    ensures found { AnswersPairs (W.meaning window.old) now config.now.delay config.now.retry config.now.asks most pairs.new.items result due.new }
     ensures lists { Lists (due_places (W.meaning window.old) now config.now.delay config.now.retry config.now.asks)
         (λ q. is_due now config.now.delay config.now.retry config.now.asks (slot_at (W.meaning window.old) q)) }
     ensures same { W.meaning window.new ≡ W.meaning window.old }
 {
     window_by_place();
-    window.find_due(due, most, now, config.rule());
-    pack_into(due.as_slice(), pairs)
+    let room = most.min(due.len());
+    let found = window.find_due(&mut due[..room], now, config.rule());
+    pack_into(&due[..found], pairs)
 }
 
 /// Counts one ask for each of these places, made at the moment `now`.

@@ -1,9 +1,12 @@
 -- The words of a set's bits, by their positions.
-use Rattle.std.proofs.Common.{◌≡◌, ℕ, ◌+◌, ◌-◌, ◌*◌, ◌/◌, ◌%◌, ◌^◌, ◌<◌, ◌≤◌, ◌∙◌, true, List, length, get_or, min, ap, sym, subst, arith, bit_and}
+use Rattle.std.proofs.Common.{Bool, false, ⊎_elim, ◌≡◌, ℕ, ◌+◌, ◌-◌, ◌*◌, ◌/◌, ◌%◌, ◌^◌, ◌<◌, ◌≤◌, ◌∙◌, true, List, length, get_or, min, ap, sym, subst, arith, bit_and}
 use Rattle.std.specs.Int.{bit_at}
 use Rattle.std.proofs.lemmas.Nat.Bits.{bit_at_and, bit_at-lt}
 use Rattle.std.proofs.lemmas.Bool.Decides.{nat_tests}
+use Rattle.std.proofs.lemmas.Bool.{cases_Bool}
 use Rattle.stores.specs.declared.block.Block.{Block}
+use Rattle.stores.specs.declared.ones.Ones.{Ones}
+use Rattle.stores.specs.Ones.{HasEach}
 use Rattle.stores.specs.Bits.{turned, is_set, is_member}
 use Rattle.stores.specs.Block.{IsBlock}
 use Rattle.stores.specs.Block.{bit_in_word, word_of}
@@ -56,3 +59,11 @@ member_in_rest words front block word p end is read above below fits near member
     subst (λ n. bit_at (word / 2 ^ n) (p - block.start) ≡ 1) rest
     (ap (bit_at (word / 2 ^ (base % 64))) (sym apart)
     ∙ set_in_rest words base (base + (p - block.start)) word (omega arith) (read ∙ ap (λ n. get_or words n word) (sym quotient)) (omega arith) (omega arith) set)
+
+-- no position passes the test whose bit is 0
+pub not_covered : (run : Ones) (test : ℕ → Bool) (end p : ℕ) → HasEach run test end → run.position ≤ p → p < end → bit_at run.bits (p - run.position) ≡ 0 → test p ≡ false
+not_covered run test end p covers above below zero =
+    ⊎_elim
+    (λ (is : test p ≡ true). absurd (let one = covers p above below is in omega arith))
+    (λ is. is)
+    (cases_Bool (test p))

@@ -1,5 +1,5 @@
 -- From when on slots of blocks may be due by a rule, by which a walk passes over those where no place can be due so soon.
-use Rattle.std.specs.Prelude.{◌≡◌, ℕ, ◌^◌, ◌<◌, ◌≤◌, ◌==◌, ◌&&◌, Bool, true, false, List, length, slice_get, Option, Some}
+use Rattle.std.specs.Prelude.{◌≡◌, ℕ, ◌-◌, ◌^◌, ◌<◌, ◌==◌, ◌&&◌, if◌then◌else◌, nat_lt, Bool, true, false, List, length, slice_get, Option, Some}
 use Rattle.std.specs.Int.{bit_at}
 use Rattle.stores.specs.declared.ask_rule.AskRule.{AskRule}
 use Rattle.stores.specs.declared.due.bound.Bound.{Bound}
@@ -20,9 +20,9 @@ leaves_out bound bit = bit_at bound.without bit == 1
 abbrev pub IsBoundAt : AskRule → Bound → (bit : ℕ) → (slot : Option Slot) → Type 0
 IsBoundAt rule bound bit slot = leaves_out bound bit ≡ false → IsDueFrom rule bound.from slot
 
--- the positions of a range have bits of one word
-abbrev pub IsRun : Asked → (words front : ℕ) → Type 0
-IsRun asked words front = (p : ℕ) → asked.start ≤ p → p < asked.end → word_of words front p ≡ asked.word
+-- the word is that of its line, where there are so many words
+abbrev pub IsTurned : Asked → (words : ℕ) → Type 0
+IsTurned asked words = asked.word ≡ (if nat_lt asked.line words then asked.line else asked.line - words)
 
 -- that holds of each slot
 abbrev pub AreBounds : AskRule → List Bound → (front : ℕ) → List Slot → Type 0

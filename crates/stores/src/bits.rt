@@ -147,9 +147,23 @@ impl Bits {
         ensures word { result ≡ word_of (length self.now.words.items) self.now.front position }
         ensures within { result < length self.now.words.items }
     {
-        let word = (self.front + position) / 64;
+        self.word_at(self.line_of(position))
+    }
+
+    /// The same before positions turn: behind the last word, numbers go on.
+    pub fn line_of(&self, position: usize) -> usize
+        requires { position < bits_of self.now.words.items }
+        ensures { result ≡ (self.now.front + position) / 64 }
+    {
+        (self.front + position) / 64
+    }
+
+    /// The number of the word of such a line.
+    pub fn word_at(&self, line: usize) -> usize
+        ensures { result ≡ (if nat_lt line (length self.now.words.items) then line else line - length self.now.words.items) }
+    {
         let count = self.words.len();
-        if word < count { word } else { word - count }
+        if line < count { line } else { line - count }
     }
 
     /// The number of the bit of this position in its word.

@@ -1,5 +1,5 @@
 //! The positions of a set that are left of one word of its bits.
-ghost use Rattle.std.specs.Prelude.{◌≡◌, ℕ, ◌+◌, ◌^◌, ◌<◌, ◌≤◌, Bool, false, MatchOption, IfSome};
+ghost use Rattle.std.specs.Prelude.{◌≡◌, ◌≢◌, ℕ, ◌+◌, ◌^◌, ◌<◌, ◌≤◌, Bool, false, MatchOption, IfSome};
 ghost use Rattle.stores.specs.Ones.{HasEach, HasNoneFrom};
 
 /// Positions from one on, of which none is 64 above it: those whose bits are set.
@@ -24,6 +24,21 @@ impl Ones {
         ensures { result ≡ self.now.position }
     {
         self.position
+    }
+
+    /// The position, where there is just one.
+    pub fn only(&self) -> Option<usize>
+        requires { self.now.position < 2 ^ 32 }
+        ensures found { IfSome result (λ found. self.now.position ≤ found) }
+        ensures below { (end : ℕ) → HasNoneFrom self.now end → IfSome result (λ found. found < end) }
+        ensures others { (test : ℕ → Bool) (end : ℕ) → HasEach self.now test end → IfSome result (λ found. (p : ℕ) → self.now.position ≤ p → p < end → p ≢ found → test p ≡ false) }
+    {
+        let mut rest = *self;
+        let found = rest.next()?;
+        if rest.bits != 0 {
+            return None;
+        }
+        Some(found)
     }
 
     /// Takes the first position out.

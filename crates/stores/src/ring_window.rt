@@ -225,35 +225,32 @@ impl Window for RingWindow {
         }
     }
 
-    fn find_due(
-        &mut self,
-        due: &mut ArrayVec<Place, LONGEST_ASK>,
-        most: usize,
-        now: u64,
-        rule: AskRule,
-    )
-        ensures due { due.new.items ≡ take most (take longest_ask (due_places (span_of self.old.cursor self.old.slots) now rule.delay rule.retry rule.asks)) }
+    fn find_due(&mut self, due: &mut [Place], now: u64, rule: AskRule) -> usize
+        ensures due { take result due.new ≡ take (length due.old) (take longest_ask (due_places (span_of self.old.cursor self.old.slots) now rule.delay rule.retry rule.asks)) }
+        ensures within { result ≤ length due.old }
+        ensures len { length due.new ≡ length due.old }
         ensures same { span_of self.new.cursor self.new.slots ≡ span_of self.old.cursor self.old.slots }
         // What is found where none is due is kept, so that nothing is looked for until that changes.
-        ensures kept { 0 < most → IsSome self.old.cursor → due.new.items ≡ [] → IsSomeAnd self.new.kept (λ answer. answer.rule ≡ rule) }
+        ensures kept { 0 < length due.old → IsSome self.old.cursor → result ≡ 0 → IsSomeAnd self.new.kept (λ answer. answer.rule ≡ rule) }
     {
-        due.clear();
         let Some(cursor) = self.cursor else {
-            return;
+            return 0;
         };
         self.follow(rule);
-        let found = find_due(
-            due,
+        let room = due.len().min(LONGEST_ASK);
+        let (count, found) = find_due(
+            &mut due[..room],
             cursor,
             &self.slots,
             &self.missing,
             &mut self.bounds,
-            Wanted::new(most.min(LONGEST_ASK), now, rule),
+            Wanted::new(now, rule),
         );
         self.kept = match found {
             Some(soonest) => Some(Foreseen { rule, soonest }),
             None => None,
         };
+        count
     }
 
     fn next_due(&self, rule: AskRule) -> Option<u64> {

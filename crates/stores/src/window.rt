@@ -132,20 +132,20 @@ pub trait Window: Drop {
     fn next_due(&self, rule: AskRule) -> Option<u64>
         ensures { IsNextDue (meaning self.now) rule.delay rule.retry rule.asks result };
 
-    /// The same places as [`due_into`](Window::due_into), at most so many. It is for a caller that asks by one rule again and again: a window
-    /// may keep what it finds, so that later calls need not look for it.
-    fn find_due(
-        &mut self,
-        due: &mut ArrayVec<Place, LONGEST_ASK>,
-        most: usize,
-        now: u64,
-        rule: AskRule,
-    )
-        ensures due { due.new.items ≡ take most (take longest_ask (due_places (meaning self.old) now rule.delay rule.retry rule.asks)) }
+    /// The same places as [`due_into`](Window::due_into), as many as a slice has room for, at its front; it answers how many. It is for a
+    /// caller that asks by one rule again and again: a window may keep what it finds, so that later calls need not look for it.
+    fn find_due(&mut self, due: &mut [Place], now: u64, rule: AskRule) -> usize
+        ensures due { take result due.new ≡ take (length due.old) (take longest_ask (due_places (meaning self.old) now rule.delay rule.retry rule.asks)) }
+        ensures within { result ≤ length due.old }
+        ensures len { length due.new ≡ length due.old }
         ensures same { meaning self.new ≡ meaning self.old }
     {
-        self.due_into(due, now, rule);
-        due.truncate(most);
+        let mut all = ArrayVec::new();
+        self.due_into(&mut all, now, rule);
+        all.truncate(due.len());
+        let count = all.len();
+        due[..count].copy_from_slice(all.as_slice());
+        count
     }
 
     /// Whether it is plain that no place is due at the moment `now` by the rule, by what a window kept; false tells nothing. A caller that

@@ -54,6 +54,10 @@ impl Bound {
         ensures from { (now : ℕ) → has_come self.new.from now ≡ (has_come self.old.from now || has_come moment now) }
         ensures without { (b : ℕ) → b < 64 → leaves_out self.new b ≡ (if bit_at bits b == 1 then false else leaves_out self.old b) }
     {
+        // Where none is left out and another is due as soon, as with most asks, nothing has to be written.
+        if self.without == 0 && is_no_sooner(moment, self.from) {
+            return;
+        }
         self.from = sooner(self.from, moment);
         self.without &= !bits;
     }

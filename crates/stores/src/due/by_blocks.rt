@@ -1,6 +1,6 @@
 //! Walks over the missing slots of a ring window that pass over blocks of which no place can be due so soon.
 ghost use Rattle.std.specs.Prelude.{◌≡◌, ℕ, ◌+◌, ◌-◌, ◌^◌, ◌<◌, ◌≤◌, ◌++◌, [], true, length, slice_get, take, Some, IfSome, IsSome, IsNone};
-ghost use Rattle.stores.specs.Asking.{longest_ask, is_missing, has_come};
+ghost use Rattle.stores.specs.Asking.{is_missing, has_come};
 ghost use Rattle.stores.specs.Bits.{bits_of, IsSetOf};
 ghost use Rattle.stores.specs.Block.{IsBlock};
 ghost use Rattle.stores.specs.Bound.{AreBounds, IsDueFrom, IsBoundAt};
@@ -17,34 +17,26 @@ use crate::due::bound::{Bound, has_come, is_no_sooner};
 use crate::due::foreseen::{Soonest, soonest_moment};
 use crate::ones::Ones;
 use crate::slots::Slots;
-use crate::window::LONGEST_ASK;
-use arrayvec::ArrayVec;
 use places::Place;
 
 /// Which places an ask looks for.
 #[derive(Clone, Copy, Debug, PartialEq, Eq)]
 pub struct Wanted {
-    /// How many at most.
-    most: usize,
     now: u64,
     rule: AskRule,
     // Those that are due at that moment by that rule.
     by: DueBy,
-    ghost limit: { most ≤ longest_ask },
     ghost moment: { now < 2 ^ 64 },
     ghost due: { IsDueBy by now rule },
 }
 
 impl Wanted {
-    /// So many places at most that are due at this moment by this rule.
-    pub fn new(most: usize, now: u64, rule: AskRule) -> Wanted
-        requires { most ≤ longest_ask }
-        ensures most { result.most ≡ most }
+    /// Those that are due at this moment by this rule.
+    pub fn new(now: u64, rule: AskRule) -> Wanted
         ensures now { result.now ≡ now }
         ensures rule { result.rule ≡ rule }
     {
         Wanted {
-            most,
             now,
             rule,
             by: DueBy::new(now, rule),
@@ -52,30 +44,33 @@ impl Wanted {
     }
 }
 
-/// Adds the wanted places of these slots, of which the first is that of the place `first`, and answers, where none is due, the least moment
-/// from which on one is, with such a slot. It looks at no block of which no place can be due so soon, and keeps what it learns of the others.
+/// Puts the wanted places of these slots, of which the first is that of the place `first`, to the front of a slice, as many as it has room
+/// for. It answers how many, and, where none is due, the least moment from which on one is, with such a slot. It looks at no block of which
+/// no place can be due so soon, and keeps what it learns of the others.
 #[inline(never)]
 pub fn find_due(
-    due: &mut ArrayVec<Place, LONGEST_ASK>,
+    due: &mut [Place],
     first: u64,
     slots: &Slots,
     missing: &Bits,
     bounds: &mut Vec<Bound>,
     wanted: Wanted,
-) -> Option<Option<Soonest>>
-    requires none { due.old.items ≡ [] }
+) -> (usize, Option<Option<Soonest>>)
     requires places { first + length slots.now.items ≤ 2 ^ 48 }
     requires room { length slots.now.items < bits_of missing.now.words.items }
     requires index { IsSetOf is_missing missing.now.words.items missing.now.front slots.now.items }
     requires blocks { length bounds.old.items ≡ length missing.now.words.items }
     requires bound { AreBounds wanted.rule bounds.old.items missing.now.front slots.now.items }
-    ensures due { due.new.items ≡ take wanted.most (due_from_first wanted.now wanted.rule.delay wanted.rule.retry wanted.rule.asks first slots.now.items) }
-    ensures found { IfSome result (λ soonest. IsSoonest wanted.rule soonest slots.now.items (length slots.now.items)) }
-    ensures known { 0 < wanted.most → due.new.items ≡ [] → IsSome result }
+    ensures due { take result.0 due.new ≡ take (length due.old) (due_from_first wanted.now wanted.rule.delay wanted.rule.retry wanted.rule.asks first slots.now.items) }
+    ensures within { result.0 ≤ length due.old }
+    ensures len { length due.new ≡ length due.old }
+    ensures found { IfSome result.1 (λ soonest. IsSoonest wanted.rule soonest slots.now.items (length slots.now.items)) }
+    ensures known { 0 < length due.old → result.0 ≡ 0 → IsSome result.1 }
     ensures blocks { length bounds.new.items ≡ length bounds.old.items }
     ensures bound { AreBounds wanted.rule bounds.new.items missing.now.front slots.now.items }
 {
     let until = slots.len();
+    let mut count = 0;
     // The least moment of the blocks so far, and where such a block begins.
     let mut best = None;
     let mut at = 0;
@@ -83,12 +78,18 @@ pub fn find_due(
     while block.start < until {
         let next = missing.next_block(block);
         if !missing.is_blank(block.word) {
-            if due.len() >= wanted.most {
-                return None;
+            if count >= due.len() {
+                return (count, None);
             }
             let end = next.start.min(until);
             let ones = missing.ones(block, end);
-            let soonest = look_in(due, first, slots, missing, bounds, block, ones, end, wanted)?;
+            let (more, soonest) = look_in(
+                due, count, first, slots, missing, bounds, block, ones, end, wanted,
+            );
+            count = more;
+            let Some(soonest) = soonest else {
+                return (count, None);
+            };
             if !is_no_sooner(soonest, best) {
                 best = soonest;
                 at = block.start;
@@ -96,16 +97,19 @@ pub fn find_due(
         }
         block = next;
     }
-    if !due.is_empty() {
-        return None;
+    if count != 0 {
+        return (count, None);
     }
-    Some(soonest_from(slots, missing, bounds, best, at, wanted.rule))
+    let soonest = soonest_from(slots, missing, bounds, best, at, wanted.rule);
+    (0, Some(soonest))
 }
 
-/// Adds the wanted places of this block, of which these are missing, up to below an end, as long as there are fewer than so many, and keeps
-/// what it learns. It answers a moment before which none of the block is due, where it saw to all of it.
+/// Puts the wanted places of this block, of which these are missing, up to below an end, behind the `count` that are there, as long as there
+/// is room, and keeps what it learns. It answers how many there are then, and a moment before which none of the block is due, where it saw to
+/// all of it.
 fn look_in(
-    due: &mut ArrayVec<Place, LONGEST_ASK>,
+    due: &mut [Place],
+    count: usize,
     first: u64,
     slots: &Slots,
     missing: &Bits,
@@ -114,8 +118,8 @@ fn look_in(
     ones: Ones,
     end: usize,
     wanted: Wanted,
-) -> Option<Option<u64>>
-    requires fits { length due.old.items ≤ wanted.most }
+) -> (usize, Option<Option<u64>>)
+    requires fits { count < length due.old }
     requires places { first + length slots.now.items ≤ 2 ^ 48 }
     requires block { IsBlock (length missing.now.words.items) missing.now.front block }
     requires order { block.start < end }
@@ -128,39 +132,73 @@ fn look_in(
     requires below { HasNoneFrom ones end }
     requires blocks { length bounds.old.items ≡ length missing.now.words.items }
     requires bound { AreBounds wanted.rule bounds.old.items missing.now.front slots.now.items }
-    ensures all { IsSome result → due.new.items ++ due_rest wanted.now wanted.rule.delay wanted.rule.retry wanted.rule.asks first slots.now.items end
-        ≡ due.old.items ++ due_rest wanted.now wanted.rule.delay wanted.rule.retry wanted.rule.asks first slots.now.items block.start }
-    ensures none { IfSome result (λ soonest. (p : ℕ) → block.start ≤ p → p < end → IsDueFrom wanted.rule soonest (slice_get slots.now.items p)) }
-    ensures part { IsNone result → (seen : ℕ) × (due.new.items ++ due_rest wanted.now wanted.rule.delay wanted.rule.retry wanted.rule.asks first slots.now.items seen
-        ≡ due.old.items ++ due_rest wanted.now wanted.rule.delay wanted.rule.retry wanted.rule.asks first slots.now.items block.start) × (length due.new.items ≡ wanted.most) }
-    ensures fits { length due.new.items ≤ wanted.most }
+    ensures all { IsSome result.1 → take result.0 due.new ++ due_rest wanted.now wanted.rule.delay wanted.rule.retry wanted.rule.asks first slots.now.items end
+        ≡ take count due.old ++ due_rest wanted.now wanted.rule.delay wanted.rule.retry wanted.rule.asks first slots.now.items block.start }
+    ensures none { IfSome result.1 (λ soonest. (p : ℕ) → block.start ≤ p → p < end → IsDueFrom wanted.rule soonest (slice_get slots.now.items p)) }
+    ensures part { IsNone result.1 → (seen : ℕ) × (take result.0 due.new ++ due_rest wanted.now wanted.rule.delay wanted.rule.retry wanted.rule.asks first slots.now.items seen
+        ≡ take count due.old ++ due_rest wanted.now wanted.rule.delay wanted.rule.retry wanted.rule.asks first slots.now.items block.start) × (result.0 ≡ length due.old) }
+    ensures more { count ≤ result.0 }
+    ensures within { result.0 ≤ length due.old }
+    ensures len { length due.new ≡ length due.old }
     ensures blocks { length bounds.new.items ≡ length bounds.old.items }
     ensures bound { AreBounds wanted.rule bounds.new.items missing.now.front slots.now.items }
 {
+    if let Some(only) = ones.only() {
+        let (count, soonest) = look_at(due, count, first, slots, only, wanted);
+        return (count, Some(soonest));
+    }
     let soonest = bounds[block.word].due_from();
     if !has_come(soonest, wanted.now) {
-        return Some(soonest);
+        return (count, Some(soonest));
     }
-    let (seen, bound) = look(due, first, slots, ones, block.bit, end, wanted);
+    let (count, seen, bound) = look(due, count, first, slots, ones, block.bit, end, wanted);
     if seen < end {
-        return None;
+        return (count, None);
     }
     keep_bound(slots, missing, bounds, block, bound, wanted.rule);
-    Some(bound.due_from())
+    (count, Some(bound.due_from()))
 }
 
-/// Adds the wanted places among these missing slots, which are of one block and end there, as long as there are fewer than so many; `bit` is
-/// that of the first position. It answers up to where it looked, and from when on those that it looked at may be due.
+/// The same for a place of which no other of its block is missing: to look at it costs no more than to read the block's bound, which stays as
+/// it is.
+fn look_at(
+    due: &mut [Place],
+    count: usize,
+    first: u64,
+    slots: &Slots,
+    only: usize,
+    wanted: Wanted,
+) -> (usize, Option<u64>)
+    requires fits { count < length due.old }
+    requires places { first + length slots.now.items ≤ 2 ^ 48 }
+    requires only { only < length slots.now.items }
+    ensures all { take result.0 due.new ++ due_rest wanted.now wanted.rule.delay wanted.rule.retry wanted.rule.asks first slots.now.items (only + 1)
+        ≡ take count due.old ++ due_rest wanted.now wanted.rule.delay wanted.rule.retry wanted.rule.asks first slots.now.items only }
+    ensures none { IsDueFrom wanted.rule result.1 (slice_get slots.now.items only) }
+    ensures more { count ≤ result.0 }
+    ensures within { result.0 ≤ length due.old }
+    ensures len { length due.new ≡ length due.old }
+{
+    if slots.is_due(only, wanted.by) {
+        due[count] = Place::new(first + only as u64).unwrap();
+        return (count + 1, Some(0));
+    }
+    (count, slots.due_from(only, wanted.rule))
+}
+
+/// The same for the places among these missing slots, which are of one block and end there; `bit` is that of the first position. It answers
+/// how many there are then, up to where it looked, and from when on those that it looked at may be due.
 fn look(
-    due: &mut ArrayVec<Place, LONGEST_ASK>,
+    due: &mut [Place],
+    count: usize,
     first: u64,
     slots: &Slots,
     ones: Ones,
     bit: usize,
     end: usize,
     wanted: Wanted,
-) -> (usize, Bound)
-    requires fits { length due.old.items ≤ wanted.most }
+) -> (usize, usize, Bound)
+    requires fits { count ≤ length due.old }
     requires places { first + length slots.now.items ≤ 2 ^ 48 }
     requires order { ones.position < end }
     requires end { end ≤ length slots.now.items }
@@ -168,30 +206,34 @@ fn look(
     requires near { end + bit ≤ ones.position + 64 }
     requires covers { HasEach ones (λ p. is_missing (slice_get slots.now.items p)) end }
     requires below { HasNoneFrom ones end }
-    ensures left { due.new.items ++ due_rest wanted.now wanted.rule.delay wanted.rule.retry wanted.rule.asks first slots.now.items result.0
-        ≡ due.old.items ++ due_rest wanted.now wanted.rule.delay wanted.rule.retry wanted.rule.asks first slots.now.items ones.position }
-    ensures fits { length due.new.items ≤ wanted.most }
-    ensures full { result.0 < end → wanted.most ≤ length due.new.items }
-    ensures within { result.0 ≤ end }
-    ensures seen { (p : ℕ) → ones.position ≤ p → p < result.0 → IsBoundAt wanted.rule result.1 (bit + (p - ones.position)) (slice_get slots.now.items p) }
+    ensures left { take result.0 due.new ++ due_rest wanted.now wanted.rule.delay wanted.rule.retry wanted.rule.asks first slots.now.items result.1
+        ≡ take count due.old ++ due_rest wanted.now wanted.rule.delay wanted.rule.retry wanted.rule.asks first slots.now.items ones.position }
+    ensures more { count ≤ result.0 }
+    ensures within { result.0 ≤ length due.old }
+    ensures len { length due.new ≡ length due.old }
+    ensures full { result.1 < end → length due.old ≤ result.0 }
+    ensures seen { result.1 ≤ end }
+    ensures bound { (p : ℕ) → ones.position ≤ p → p < result.1 → IsBoundAt wanted.rule result.2 (bit + (p - ones.position)) (slice_get slots.now.items p) }
 {
     let start = ones.position();
+    let mut count = count;
     let mut bound = Bound::NONE;
     let mut left = ones;
     let mut index = start;
     while let Some(next) = left.next() {
-        if due.len() >= wanted.most {
-            return (index, bound);
+        if count >= due.len() {
+            return (count, index, bound);
         }
         if slots.is_due(next, wanted.by) {
-            due.push(Place::new(first + next as u64).unwrap());
+            due[count] = Place::new(first + next as u64).unwrap();
+            count += 1;
             bound.leave_out(bit + (next - start));
         } else {
             bound.meet(slots.due_from(next, wanted.rule));
         }
         index = next + 1;
     }
-    (end, bound)
+    (count, end, bound)
 }
 
 /// The least moment from which on one of these slots is due, and such a slot, where none is due before the moment `best`, which is that of

@@ -6,7 +6,7 @@ ghost use Rattle.stores.specs.declared.slot.Slot.{Slot};
 ghost use Rattle.stores.specs.Asking.{CanBeAsked, CanEachBeAsked, asked, asked_at, asked_each};
 ghost use Rattle.stores.specs.Bits.{bits_of};
 ghost use Rattle.stores.specs.Block.{word_of};
-ghost use Rattle.stores.specs.Bound.{AreBounds, AreBoundsBut, AreDueFrom, IsRun};
+ghost use Rattle.stores.specs.Bound.{AreBounds, AreBoundsBut, AreDueFrom, IsTurned};
 ghost use Rattle.stores.specs.ByPlace.{slot_at};
 ghost use Rattle.stores.specs.Index.{IsIndex};
 ghost use Rattle.stores.specs.Span.{span_of};
@@ -43,9 +43,8 @@ pub fn count_each(
 {
     let again = time_from(rule, 0, 1, now);
     let mut asked = Asked {
+        line: 0,
         word: 0,
-        start: 0,
-        end: 0,
         bits: 0,
     };
     for place in places {
@@ -73,10 +72,9 @@ fn ask_one(first: u64, slots: &mut Slots, place: Place, now: u64) -> usize
 /// The places of one block that were asked for, which its bound does not know so far.
 #[derive(Drop)]
 struct Asked {
+    // The number of the word, as positions have it before they turn: the next place is mostly of the same.
+    line: usize,
     word: usize,
-    // Positions of the block, from one to below another: the next place is mostly one of them.
-    start: usize,
-    end: usize,
     bits: u64,
 }
 
@@ -84,22 +82,22 @@ impl Asked {
     /// Turns to the block of the position `index`. Where that is another one the places are noted.
     fn turn_to(&mut self, missing: &Bits, bounds: &mut Vec<Bound>, index: usize, again: Option<u64>)
         requires index { index < bits_of missing.now.words.items }
-        requires run { IsRun self.old (length missing.now.words.items) missing.now.front }
+        requires turned { IsTurned self.old (length missing.now.words.items) }
         ensures word { self.new.word ≡ word_of (length missing.now.words.items) missing.now.front index }
-        ensures run { IsRun self.new (length missing.now.words.items) missing.now.front }
+        ensures turned { IsTurned self.new (length missing.now.words.items) }
         ensures blocks { length bounds.new.items ≡ length bounds.old.items }
         ensures bound { (rule : AskRule) (front : ℕ) (slots : List Slot) → AreBoundsBut self.old.word self.old.bits rule bounds.old.items front slots
             → AreDueFrom self.old.word self.old.bits rule again (length bounds.old.items) front slots → AreBoundsBut self.new.word self.new.bits rule bounds.new.items front slots }
         ensures asked { (rule : AskRule) (words front : ℕ) (slots : List Slot) → AreDueFrom self.old.word self.old.bits rule again words front slots
             → AreDueFrom self.new.word self.new.bits rule again words front slots }
     {
-        if self.start <= index && index < self.end {
+        let line = missing.line_of(index);
+        if line == self.line {
             return;
         }
         note_asks(bounds, self.word, self.bits, again);
-        self.word = missing.word_of(index);
-        self.start = index;
-        self.end = missing.run_end(index);
+        self.line = line;
+        self.word = missing.word_at(line);
         self.bits = 0;
     }
 }

@@ -1,4 +1,4 @@
-use Rattle.std.proofs.Common.{◌≡◌, ℕ, false, ◌-◌, ◌+◌, ◌<◌, ◌≤◌, ◌++◌, length, slice_get, ap, sym, subst, ◌∙◌, refl, arith}
+use Rattle.std.proofs.Common.{◌≡◌, ℕ, false, ◌-◌, ◌+◌, ◌<◌, ◌≤◌, ◌++◌, length, take, slice_get, ap, sym, subst, ◌∙◌, refl, arith}
 use Rattle.std.proofs.lemmas.Grind.{common_steps}
 use Rattle.stores.proofs.EntryIndex.{new_is}
 use Rattle.stores.proofs.DueSlots.{due_left_take, due_left_leave, due_left_skip}
@@ -16,7 +16,9 @@ loop-next-init c =
     let from = c.position-start.ensures in
     record {
       left = refl;
+      more = omega arith;
       fits = c.requires.fits;
+      len = refl;
       above = omega arith;
       within = omega arith;
       position = sym from;
@@ -58,13 +60,17 @@ loop-next-preserved c =
     let due = c.is_due.ensures wanted.now rule wanted.due in
     let yes = due_left_take wanted.now rule.delay rule.retry rule.asks c.args.first slots next within in
     let no = due_left_leave wanted.now rule.delay rule.retry rule.asks c.args.first slots next within in
-    let full = c.if-len-wanted.false in
+    let full = c.if-count-due.false in
+    let room = c.loop-next.invariant.len in
+    let many = c.loop-next.invariant.more in
     elim c.if-is_due.branch [
       | then-is_due w ↦
           let is = yes (sym due ∙ w.if-is_due.true) in
           record {
             left = grind (arith, common_steps, skip, is);
+            more = grind (arith, common_steps);
             fits = grind (arith, common_steps);
+            len = grind (arith, common_steps);
             above = omega arith;
             within = omega arith;
             position = c.in-Some.ensures.position;
@@ -77,7 +83,9 @@ loop-next-preserved c =
           let is = no (sym due ∙ w.if-is_due.false) in
           record {
             left = grind (arith, common_steps, skip, is);
+            more = grind (arith, common_steps);
             fits = grind (arith, common_steps);
+            len = grind (arith, common_steps);
             above = omega arith;
             within = omega arith;
             position = c.in-Some.ensures.position;
@@ -99,11 +107,11 @@ returns-clause-left c =
     let ends = c.requires.end in
     let none = c.in_default.ensures.none (λ p. is_missing (slice_get slots p)) c.args.end c.loop-next.invariant.covers in
     let skip = due_left_skip wanted.now rule.delay rule.retry rule.asks c.args.first slots index (c.args.end - index) c.args.end (omega arith) ends (λ p l u. none p (omega arith) u) in
-    ap (λ xs. c.loop-next.due.items ++ xs) (sym skip) ∙ c.loop-next.invariant.left
-    ∙ ap (λ n. c.args.due.now.items ++ due_rest wanted.now rule.delay rule.retry rule.asks c.args.first slots n) c.position-start.ensures
+    ap (λ xs. take c.loop-next.count c.loop-next.due ++ xs) (sym skip) ∙ c.loop-next.invariant.left
+    ∙ ap (λ n. take c.args.count c.args.due.now ++ due_rest wanted.now rule.delay rule.retry rule.asks c.args.first slots n) c.position-start.ensures
 
-pub returns-clause-seen : goal.returns-clause-seen
-returns-clause-seen c = λ p above below.
+pub returns-clause-bound : goal.returns-clause-bound
+returns-clause-bound c = λ p above below.
     let slots = c.args.slots.now.items in
     let at = c.loop-next.invariant.position in
     let from = c.position-start.ensures in

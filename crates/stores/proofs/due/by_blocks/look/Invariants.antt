@@ -1,4 +1,4 @@
-use Rattle.std.proofs.Common.{◌≡◌, ◌≤◌, ◌<◌, ◌+◌, ◌-◌, ◌++◌, ℕ, length, slice_get}
+use Rattle.std.proofs.Common.{◌≡◌, ◌≤◌, ◌<◌, ◌+◌, ◌-◌, ◌++◌, ℕ, length, take, slice_get}
 use Rattle.stores.proofs.due.by_blocks.look.Given as goal
 use Rattle.stores.specs.Asking.{is_missing}
 use Rattle.stores.specs.Due.{due_rest}
@@ -7,8 +7,10 @@ use Rattle.stores.specs.Ones.{HasEach, HasNoneFrom}
 
 abbrev pub invariant-loop-next : goal.invariant-loop-next
 invariant-loop-next l = record {
-  left : l.due.items ++ due_rest l.wanted.now l.wanted.rule.delay l.wanted.rule.retry l.wanted.rule.asks l.first l.slots.items l.index ≡ l.initial.due.items ++ due_rest l.wanted.now l.wanted.rule.delay l.wanted.rule.retry l.wanted.rule.asks l.first l.slots.items l.start;
-  fits : length l.due.items ≤ l.wanted.most;
+  left : take l.count l.due ++ due_rest l.wanted.now l.wanted.rule.delay l.wanted.rule.retry l.wanted.rule.asks l.first l.slots.items l.index ≡ take l.initial.count l.initial.due ++ due_rest l.wanted.now l.wanted.rule.delay l.wanted.rule.retry l.wanted.rule.asks l.first l.slots.items l.start;
+  more : l.initial.count ≤ l.count;
+  fits : l.count ≤ length l.initial.due;
+  len : length l.due ≡ length l.initial.due;
   above : l.start ≤ l.index;
   within : l.index ≤ l.end;
   position : l.left.position ≡ l.index;

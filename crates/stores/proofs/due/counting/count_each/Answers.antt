@@ -16,7 +16,7 @@ loop-place-init c = record {
   capacity = refl;
   index = c.requires.index;
   blocks = c.requires.blocks;
-  run = λ p above below. absurd (omega arith);
+  turned = search rules;
   bound = bound_but_none c.args.rule 0 c.args.bounds.now.items c.args.missing.now.front c.args.slots.now.items c.requires.bound;
   due = due_from_none c.args.rule 0 c.time_from-again.result (length c.args.missing.now.words.items) c.args.missing.now.front c.args.slots.now.items;
 }
@@ -60,7 +60,7 @@ loop-place-preserved c =
       capacity = c.ask_one-index.ensures.capacity ∙ c.loop-place.invariant.capacity;
       index = subst (λ (xs : List Slot). IsIndex missing.words.items missing.front xs) (sym items) (index_asked missing.words.items missing.front before index c.args.now c.ask_one-index.ensures.askable c.loop-place.invariant.index);
       blocks = count;
-      run = c.turn_to.ensures.run;
+      turned = c.turn_to.ensures.turned;
       bound = subst (λ (xs : List Slot). AreBoundsBut turned.word c.with_bit.result rule bounds missing.front xs) (sym items)
           (bound_asked rule bounds missing.front turned.word turned.bits c.with_bit.result index c.args.now before (search rules) (search rules) bound);
       due = subst (λ (xs : List Slot). AreDueFrom turned.word c.with_bit.result rule c.time_from-again.result words missing.front xs) (sym items)

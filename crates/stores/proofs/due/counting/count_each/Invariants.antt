@@ -1,7 +1,7 @@
 use Rattle.std.proofs.Common.{◌≡◌, drop, length, Some}
 use Rattle.stores.specs.Asking.{CanEachBeAsked, asked_each}
 use Rattle.stores.specs.Index.{IsIndex}
-use Rattle.stores.specs.Bound.{AreBoundsBut, AreDueFrom, IsRun}
+use Rattle.stores.specs.Bound.{AreBoundsBut, AreDueFrom, IsTurned}
 use Rattle.stores.specs.Span.{span_of}
 use Rattle.stores.proofs.due.counting.count_each.Given as goal
 
@@ -13,7 +13,7 @@ invariant-loop-place l = record {
   capacity : l.slots.capacity ≡ l.fn.slots.capacity;
   index : IsIndex l.missing.words.items l.missing.front l.slots.items;
   blocks : length l.bounds.items ≡ length l.missing.words.items;
-  run : IsRun l.asked (length l.missing.words.items) l.missing.front;
+  turned : IsTurned l.asked (length l.missing.words.items);
   bound : AreBoundsBut l.asked.word l.asked.bits l.fn.rule l.bounds.items l.missing.front l.slots.items;
   due : AreDueFrom l.asked.word l.asked.bits l.fn.rule l.again (length l.missing.words.items) l.missing.front l.slots.items;
 }

@@ -1,10 +1,8 @@
-use Rattle.std.proofs.Common.{◌≡◌, ℕ, ◌+◌, ◌-◌, ◌/◌, ◌%◌, ◌^◌, ◌<◌, ◌≤◌, Bool, true, false, ap, sym, ◌∙◌, arith, rules, w64, ⊎_elim}
+use Rattle.std.proofs.Common.{◌≡◌, ℕ, ◌+◌, ◌-◌, ◌/◌, ◌%◌, ◌^◌, ap, sym, ◌∙◌, arith, rules, w64}
 use Rattle.std.specs.Int.{bit_at, trailing_zeros}
-use Rattle.std.proofs.lemmas.Bool.{cases_Bool}
 use Rattle.std.proofs.lemmas.Nat.{shr-shr}
 use Rattle.std.proofs.lemmas.Nat.Bits.{bit_at-trailing_zeros}
-use Rattle.stores.specs.declared.ones.Ones.{Ones}
-use Rattle.stores.specs.Ones.{HasEach}
+use Rattle.stores.proofs.Blocks.{not_covered}
 use Rattle.stores.proofs.ones.Ones.next.Goals as goal
 
 -- a bit of what is left above the bit number t
@@ -12,14 +10,6 @@ above_one : (bits t k : ℕ) → bit_at (bits / 2 ^ t / 2) k ≡ bit_at bits (t 
 above_one bits t k =
     ap (λ n. n / 2 ^ k % 2) (shr-shr bits t 1)
     ∙ ap (λ n. n % 2) (shr-shr bits (t + 1) k)
-
--- no position passes the test whose bit is 0
-not_covered : (run : Ones) (test : ℕ → Bool) (end p : ℕ) → HasEach run test end → run.position ≤ p → p < end → bit_at run.bits (p - run.position) ≡ 0 → test p ≡ false
-not_covered run test end p covers above below zero =
-    ⊎_elim
-    (λ (is : test p ≡ true). absurd (let one = covers p above below is in omega arith))
-    (λ is. is)
-    (cases_Bool (test p))
 
 pub returns-clause-none : goal.returns-clause-none
 returns-clause-none c = λ test end covers p above below within.

@@ -1,12 +1,8 @@
-use Rattle.std.proofs.Common.{sym, ◌∙◌}
 use Rattle.stores.proofs.AskedBlocks.{bound_but_none, due_from_none}
 use Rattle.stores.proofs.due.counting.Asked.turn_to.Goals as goal
 
-pub returns-clause-run : goal.returns-clause-run
-returns-clause-run c = λ p above below. c.run_end-self.ensures.run p above below ∙ sym c.word_of-self.ensures.word
-
 pub returns-clause-bound : goal.returns-clause-bound
-returns-clause-bound c = λ rule front slots but due. bound_but_none rule c.word_of-self.result c.note_asks.new.bounds.items front slots (c.note_asks.ensures.bound rule front slots but due)
+returns-clause-bound c = λ rule front slots but due. bound_but_none rule c.word_at-self.result c.note_asks.new.bounds.items front slots (c.note_asks.ensures.bound rule front slots but due)
 
 pub returns-clause-asked : goal.returns-clause-asked
-returns-clause-asked c = λ rule words front slots due. due_from_none rule c.word_of-self.result c.args.again words front slots
+returns-clause-asked c = λ rule words front slots due. due_from_none rule c.word_at-self.result c.args.again words front slots
