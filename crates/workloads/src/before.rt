@@ -11,7 +11,7 @@ use endpoint::AskingEndpoint;
 use relays::{
     Bounds, Meeting, Octets, Outside, OutsideFault, Pace, Rate, SendRelay, Side, Stream, Turn, run,
 };
-use rtpwire::{Carried, MAX_DATAGRAM, media_len, write_media_into};
+use rtpwire::{Carried, media_len, write_media_into};
 use std::alloc::Global;
 use std::net::SocketAddr;
 use stores::{OutOfMemory, RingHistory, RingWindow};
@@ -56,13 +56,17 @@ impl Before {
         Ok(())
     }
 
-    /// Writes the next packet of the application, and answers how many octets it has.
-    fn packet(&self, out: &mut [u8]) -> usize {
+    /// Hands the next packet of the application over, and tells whether there is room for it.
+    fn hand(&mut self, room: &mut Octets) -> bool {
         let number = (self.sent % 65536) as u16;
         let number = number.wrapping_add(self.shape.first);
-        match packet_of(&self.scene.payloads, &self.shape, self.sent) {
-            Ok((carried, padding)) => write(&carried, padding, number, out),
+        let len = match packet_of(&self.scene.payloads, &self.shape, self.sent) {
+            Ok((carried, padding)) => write(&carried, padding, number, &mut self.scene.room),
             Err(_) => 0,
+        };
+        match self.scene.room.get(..len) {
+            Some(packet) => room.try_extend_from_slice(packet).is_ok(),
+            None => false,
         }
     }
 }
@@ -103,10 +107,7 @@ impl Outside for Before {
                 came: Some((Side::Far, local(6004))),
             });
         }
-        let mut out = [0; MAX_DATAGRAM];
-        let len = self.packet(&mut out);
-        let packet = out.get(..len).unwrap_or(&[]);
-        if room.try_extend_from_slice(packet).is_err() {
+        if !self.hand(room) {
             return Err(OutsideFault);
         }
         self.sent = self.sent.saturating_add(1);

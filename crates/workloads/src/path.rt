@@ -70,14 +70,18 @@ impl Batch {
     }
 }
 
-/// How many turns a datagram is on its way at most.
-const SPAN: usize = 64;
+/// How many turns a datagram is on its way at most, on a long path and on a short one. A short one takes less memory, which a job of many
+/// sessions would wait for else.
+const LONG: u64 = 64;
+const SHORT: u64 = 16;
 
 /// A ring of what comes at each of the next turns.
 #[derive(Drop)]
 pub struct Path {
     weather: Weather,
     turns: Vec<Batch>,
+    /// The bits of a turn that tell where in the ring it lies.
+    mask: u64,
     /// How many of a burst are still to be lost.
     losing: u32,
 }
@@ -85,13 +89,16 @@ pub struct Path {
 impl Path {
     /// A path with nothing on its way.
     pub fn new(alloc: Global, weather: Weather) -> Result<Path, OutOfMemory> {
+        let latest = weather.delay.saturating_add(u64::from(weather.jitter));
+        let span = if latest < SHORT { SHORT } else { LONG };
         let mut turns = Vec::new(alloc);
-        for _ in 0..SPAN {
+        for _ in 0..span {
             turns.push(Batch::new(alloc))?;
         }
         Ok(Path {
             weather,
             turns,
+            mask: span - 1,
             losing: 0,
         })
     }
@@ -133,7 +140,7 @@ impl Path {
 
     /// Adds a datagram to what comes at this turn.
     fn bring(&mut self, comes: u64, datagram: &[u8]) -> Result<(), OutOfMemory> {
-        match self.turns.get_mut((comes % SPAN as u64) as usize) {
+        match self.turns.get_mut((comes & self.mask) as usize) {
             Some(batch) => batch.push(datagram),
             None => Ok(()),
         }
@@ -142,7 +149,7 @@ impl Path {
     /// Puts what comes at this turn in the place of an older batch.
     pub fn take(&mut self, turn: u64, batch: &mut Batch) {
         batch.clear();
-        if let Some(comes) = self.turns.get_mut((turn % SPAN as u64) as usize) {
+        if let Some(comes) = self.turns.get_mut((turn & self.mask) as usize) {
             mem::swap(batch, comes);
         }
     }

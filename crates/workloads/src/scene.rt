@@ -2,6 +2,7 @@
 use crate::digest::Digest;
 use crate::draws::Draws;
 use crate::payloads::Payloads;
+use rtpwire::MAX_DATAGRAM;
 use std::alloc::Global;
 use stores::OutOfMemory;
 
@@ -11,6 +12,8 @@ pub struct Scene {
     pub draws: Draws,
     pub payloads: Payloads,
     pub digest: Digest,
+    /// Room for a datagram that sets out. It is blanked once.
+    pub room: [u8; MAX_DATAGRAM],
 }
 
 impl Scene {
@@ -22,6 +25,7 @@ impl Scene {
             draws,
             payloads,
             digest: Digest::EMPTY,
+            room: [0; MAX_DATAGRAM],
         })
     }
 }

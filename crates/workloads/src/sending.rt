@@ -6,7 +6,6 @@ use crate::scene::Scene;
 use crate::shape::Shape;
 use crate::telling::add_told;
 use endpoint::TimelyEndpoint;
-use rtpwire::MAX_DATAGRAM;
 use stores::{OutOfMemory, RingHistory};
 
 /// Sends the packets of a turn.
@@ -17,12 +16,11 @@ pub fn send_media(
     shape: &Shape,
     turn: u64,
 ) -> Result<(), OutOfMemory> {
-    let mut out = [0; MAX_DATAGRAM];
     let first = shape.first_of(turn);
     for packet in 0..shape.packets_of(turn) {
         let number = first.saturating_add(packet);
-        let len = send_one(sender, scene, shape, number, turn, &mut out);
-        if let Some(datagram) = out.get(..len) {
+        let len = send_one(sender, scene, shape, number, turn);
+        if let Some(datagram) = scene.room.get(..len) {
             scene.digest.add_datagram(datagram);
             path.carry(&mut scene.draws, turn, datagram)?;
         }
@@ -30,20 +28,19 @@ pub fn send_media(
     Ok(())
 }
 
-/// Sends the packet of this number, and answers how many octets it has.
+/// Sends the packet of this number, which lies in the scene's room then, and answers how many octets it has.
 fn send_one(
     sender: &mut TimelyEndpoint<RingHistory>,
     scene: &mut Scene,
     shape: &Shape,
     number: u64,
     turn: u64,
-    out: &mut [u8],
 ) -> usize {
     let Ok((carried, padding)) = packet_of(&scene.payloads, shape, number) else {
         return 0;
     };
     let now = turn.saturating_mul(shape.turn);
-    match sender.send_into(out, &carried, padding, now) {
+    match sender.send_into(&mut scene.room, &carried, padding, now) {
         Ok(Ok((place, len))) => {
             scene.digest.add(place.value());
             len
@@ -70,14 +67,13 @@ pub fn retransmit_all(
     shape: &Shape,
     turn: u64,
 ) -> Result<(), OutOfMemory> {
-    let mut out = [0; MAX_DATAGRAM];
     let now = turn.saturating_mul(shape.turn);
     for _ in 0..8192 {
-        let Ok(Some((place, len))) = sender.retransmit_into(&mut out, now) else {
+        let Ok(Some((place, len))) = sender.retransmit_into(&mut scene.room, now) else {
             return Ok(());
         };
         scene.digest.add(place.value());
-        if let Some(datagram) = out.get(..len) {
+        if let Some(datagram) = scene.room.get(..len) {
             scene.digest.add_datagram(datagram);
             path.carry(&mut scene.draws, turn, datagram)?;
         }
