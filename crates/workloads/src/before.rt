@@ -40,7 +40,8 @@ struct Before {
 impl Before {
     /// Has the far side do all that happens in this turn, and begins the next one.
     fn go_on(&mut self) -> Result<(), OutOfMemory> {
-        self.there.take(self.turn, &mut self.came);
+        self.there
+            .take(&mut self.scene.spare, self.turn, &mut self.came)?;
         hear_all(
             &mut self.receiver,
             &mut self.back,
@@ -50,7 +51,8 @@ impl Before {
             self.turn,
         )?;
         self.turn = self.turn.saturating_add(1);
-        self.back.take(self.turn, &mut self.batch);
+        self.back
+            .take(&mut self.scene.spare, self.turn, &mut self.batch)?;
         self.next = 0;
         self.from = 0;
         Ok(())
@@ -120,7 +122,12 @@ impl Outside for Before {
     fn send(&mut self, side: Side, to: SocketAddr, octets: &[u8]) {
         add_address(&mut self.scene.digest, side, to);
         self.scene.digest.add_datagram(octets);
-        let carried = self.there.carry(&mut self.scene.draws, self.turn, octets);
+        let carried = self.there.carry(
+            &mut self.scene.draws,
+            &mut self.scene.spare,
+            self.turn,
+            octets,
+        );
         self.failed = self.failed || carried.is_err();
     }
 

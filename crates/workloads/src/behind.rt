@@ -46,7 +46,8 @@ impl Behind {
             &self.shape,
             self.turn,
         )?;
-        self.back.take(self.turn, &mut self.batch);
+        self.back
+            .take(&mut self.scene.spare, self.turn, &mut self.batch)?;
         hear_feedback(&mut self.sender, &self.batch, &mut self.scene.digest);
         retransmit_all(
             &mut self.sender,
@@ -55,7 +56,8 @@ impl Behind {
             &self.shape,
             self.turn,
         )?;
-        self.there.take(self.turn, &mut self.batch);
+        self.there
+            .take(&mut self.scene.spare, self.turn, &mut self.batch)?;
         self.next = 0;
         self.from = 0;
         Ok(())
@@ -96,7 +98,12 @@ impl Outside for Behind {
         add_address(&mut self.scene.digest, side, to);
         self.scene.digest.add_octets(octets);
         if side == Side::Far {
-            let carried = self.back.carry(&mut self.scene.draws, self.turn, octets);
+            let carried = self.back.carry(
+                &mut self.scene.draws,
+                &mut self.scene.spare,
+                self.turn,
+                octets,
+            );
             self.failed = self.failed || carried.is_err();
         }
     }

@@ -37,10 +37,10 @@ impl Call {
     /// Does all that happens in a turn.
     fn turn(&mut self, scene: &mut Scene, batch: &mut Batch, turn: u64) -> Result<(), OutOfMemory> {
         send_media(&mut self.sender, &mut self.there, scene, &self.shape, turn)?;
-        self.back.take(turn, batch);
+        self.back.take(&mut scene.spare, turn, batch)?;
         hear_feedback(&mut self.sender, batch, &mut scene.digest);
         retransmit_all(&mut self.sender, &mut self.there, scene, &self.shape, turn)?;
-        self.there.take(turn, batch);
+        self.there.take(&mut scene.spare, turn, batch)?;
         hear_all(
             &mut self.receiver,
             &mut self.back,

@@ -70,9 +70,41 @@ impl Batch {
     }
 }
 
-/// How many turns a datagram is on its way at most, on a long path and on a short one. A short one takes less memory, which a job of many
-/// sessions would wait for else.
+/// Batches that nothing is in, whose room is lent to what comes next: so all paths together take hardly more memory than what is on its way,
+/// and a job waits for its sessions and not for its network.
+#[derive(Drop)]
+pub struct Spare {
+    alloc: Global,
+    batches: Vec<Batch>,
+}
+
+impl Spare {
+    /// None.
+    pub fn new(alloc: Global) -> Spare {
+        Spare {
+            alloc,
+            batches: Vec::new(alloc),
+        }
+    }
+
+    /// Lends room to a batch that has none, if there is some.
+    fn lend(&mut self, batch: &mut Batch) {
+        if let Some(spare) = self.batches.pop() {
+            *batch = spare;
+        }
+    }
+
+    /// Takes the room of a batch that nothing is in.
+    fn keep(&mut self, batch: &mut Batch) -> Result<(), OutOfMemory> {
+        let spare = mem::replace(batch, Batch::new(self.alloc));
+        self.batches.push(spare)?;
+        Ok(())
+    }
+}
+
+/// How many turns a datagram is on its way at most, on a long path and on a short one.
 const LONG: u64 = 64;
+
 const SHORT: u64 = 16;
 
 /// A ring of what comes at each of the next turns.
@@ -121,6 +153,7 @@ impl Path {
     pub fn carry(
         &mut self,
         draws: &mut Draws,
+        spare: &mut Spare,
         turn: u64,
         datagram: &[u8],
     ) -> Result<(), OutOfMemory> {
@@ -131,26 +164,39 @@ impl Path {
         if draws.happens(self.weather.late) {
             comes = comes.saturating_add(1 + u64::from(draws.below(self.weather.jitter.max(1))));
         }
-        self.bring(comes, datagram)?;
+        self.bring(spare, comes, datagram)?;
         if draws.happens(self.weather.twice) {
-            self.bring(comes, datagram)?;
+            self.bring(spare, comes, datagram)?;
         }
         Ok(())
     }
 
     /// Adds a datagram to what comes at this turn.
-    fn bring(&mut self, comes: u64, datagram: &[u8]) -> Result<(), OutOfMemory> {
-        match self.turns.get_mut((comes & self.mask) as usize) {
-            Some(batch) => batch.push(datagram),
-            None => Ok(()),
+    fn bring(&mut self, spare: &mut Spare, comes: u64, datagram: &[u8]) -> Result<(), OutOfMemory> {
+        let Some(batch) = self.turns.get_mut((comes & self.mask) as usize) else {
+            return Ok(());
+        };
+        if batch.len() == 0 {
+            spare.lend(batch);
         }
+        batch.push(datagram)
     }
 
     /// Puts what comes at this turn in the place of an older batch.
-    pub fn take(&mut self, turn: u64, batch: &mut Batch) {
+    pub fn take(
+        &mut self,
+        spare: &mut Spare,
+        turn: u64,
+        batch: &mut Batch,
+    ) -> Result<(), OutOfMemory> {
         batch.clear();
-        if let Some(comes) = self.turns.get_mut((turn & self.mask) as usize) {
-            mem::swap(batch, comes);
+        let Some(comes) = self.turns.get_mut((turn & self.mask) as usize) else {
+            return Ok(());
+        };
+        if comes.len() == 0 {
+            return Ok(());
         }
+        mem::swap(batch, comes);
+        spare.keep(comes)
     }
 }

@@ -98,7 +98,7 @@ fn ask_all(
         };
         if let Some(nack) = out.get(..len) {
             scene.digest.add_octets(nack);
-            back.carry(&mut scene.draws, turn, nack)?;
+            back.carry(&mut scene.draws, &mut scene.spare, turn, nack)?;
         }
     }
     Ok(())

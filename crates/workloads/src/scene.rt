@@ -1,6 +1,7 @@
 //! What all sessions of a job share.
 use crate::digest::Digest;
 use crate::draws::Draws;
+use crate::path::Spare;
 use crate::payloads::Payloads;
 use rtpwire::MAX_DATAGRAM;
 use std::alloc::Global;
@@ -12,6 +13,8 @@ pub struct Scene {
     pub draws: Draws,
     pub payloads: Payloads,
     pub digest: Digest,
+    /// Room that its paths do not use.
+    pub spare: Spare,
     /// Room for a datagram that sets out. It is blanked once.
     pub room: [u8; MAX_DATAGRAM],
 }
@@ -25,6 +28,7 @@ impl Scene {
             draws,
             payloads,
             digest: Digest::EMPTY,
+            spare: Spare::new(alloc),
             room: [0; MAX_DATAGRAM],
         })
     }

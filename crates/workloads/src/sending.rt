@@ -22,7 +22,7 @@ pub fn send_media(
         let len = send_one(sender, scene, shape, number, turn);
         if let Some(datagram) = scene.room.get(..len) {
             scene.digest.add_datagram(datagram);
-            path.carry(&mut scene.draws, turn, datagram)?;
+            path.carry(&mut scene.draws, &mut scene.spare, turn, datagram)?;
         }
     }
     Ok(())
@@ -75,7 +75,7 @@ pub fn retransmit_all(
         scene.digest.add(place.value());
         if let Some(datagram) = scene.room.get(..len) {
             scene.digest.add_datagram(datagram);
-            path.carry(&mut scene.draws, turn, datagram)?;
+            path.carry(&mut scene.draws, &mut scene.spare, turn, datagram)?;
         }
     }
     Ok(())
