@@ -31,6 +31,7 @@ DOC = $(PREFIX)/share/doc/gozdrit
 below = $(patsubst $(PREFIX)/%,$${prefix}/%,$(1))
 
 lib: $(BUILD)/libgozdrit.a $(BUILD)/$(SHARED)
+	@echo "$(BUILD) has libgozdrit.a and $(SHARED), made of $(ARCHIVE); next: make install (docs/LIBRARY.md)"
 
 demo:
 	@tools/need rt python3
@@ -41,14 +42,15 @@ help:
 
 $(TREE)/crates/gozdrit/out/libgozdrit.a:
 	@tools/need rt python3 cc ld ar objcopy
-	rm -rf $(TREE)
-	tools/limits $(PAYLOAD) $(TREE)
+	@rm -rf $(TREE)
+	@tools/proving gozdrit $(BUILD)/library.log tools/limits $(PAYLOAD) $(TREE)
 
 relay: $(BUILD)/gozdrit-relay
+	@echo "$(BUILD)/gozdrit-relay is built, and proved for payloads of $(PAYLOAD) octets; next: make install, or $(BUILD)/gozdrit-relay --help (docs/RELAY.md)"
 
 # In the tree of the library, whose crates are proved for such payloads already.
 $(BUILD)/gozdrit-relay: $(TREE)/crates/gozdrit/out/libgozdrit.a
-	cd $(TREE)/crates/gozdrit_relay && rt run -- --version
+	@tools/proving gozdrit_relay $(BUILD)/relay.log sh -c 'cd $(TREE)/crates/gozdrit_relay && rt run -- --version'
 	cp $(TREE)/crates/gozdrit_relay/out/gozdrit_relay $@
 
 # What the header declares, a name a line.
@@ -83,6 +85,7 @@ install: lib
 	install -m 644 docs/pictures/*.png $(DESTDIR)$(DOC)/docs/pictures
 	[ ! -x $(PROGRAM) ] || install -D -m 755 $(PROGRAM) $(DESTDIR)$(BINDIR)/rtxtool
 	[ ! -x $(BUILD)/gozdrit-relay ] || install -D -m 755 $(BUILD)/gozdrit-relay $(DESTDIR)$(BINDIR)/gozdrit-relay
+	@echo "installed below $(DESTDIR)$(PREFIX); next: cc ... \$$(pkg-config --cflags --libs gozdrit), and ldconfig where the loader knows $(LIBDIR)"
 
 uninstall:
 	rm -f $(DESTDIR)$(HEADERS)/gozdrit.h $(DESTDIR)$(HEADERS)/gozdrit_limits.h $(DESTDIR)$(PKGCONFIG)/gozdrit.pc
