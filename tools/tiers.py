@@ -8,6 +8,8 @@ import subprocess
 import sys
 from importlib.machinery import SourceFileLoader
 
+import listed
+
 ONE_JOB = ["--jobs", "1"]
 NOTES = f"{os.environ.get('XDG_CACHE_HOME') or os.path.expanduser('~/.cache')}/gozdrit/refused"
 
@@ -37,9 +39,8 @@ def part(rt, name):
 def copy(room, proved):
     """Copies the tree as it stands, with the libraries that runs left in out/ and nothing else of theirs."""
     os.makedirs(room, exist_ok=True)
-    listed = subprocess.run(["git", "ls-files", "-co", "--exclude-standard", "-z", "crates", "crates.txt", "HANDLES"], stdout=subprocess.PIPE, check=True)
-    there = b"".join(it + b"\0" for it in listed.stdout.split(b"\0") if os.path.isfile(it))
-    subprocess.run(["xargs", "-0", "cp", "--parents", "-t", room], input=there, check=True)
+    there = "\0".join(listed.files(".", "crates", "crates.txt", "HANDLES"))
+    subprocess.run(["xargs", "-0", "cp", "--parents", "-t", room], input=there, check=True, text=True)
     for library in glob.glob("crates/*/out/rlib"):
         if proved or os.path.isfile(f"{library}/stamp"):
             shutil.copytree(library, f"{room}/{library}")
