@@ -24,11 +24,32 @@ def loaded(path):
 
 
 def kit():
-    """The functions of the toolchain's `rt`, by which `rt ci` tries edits."""
+    """The functions of the toolchain's `rt`, by which `rt ci` tries edits. Some kits keep what checks proved for other copies of a crate; in the
+    place of the functions of those that don't there are some that find what this tree kept."""
     start = subprocess.run(["rt", "doc"], stdout=subprocess.PIPE, check=True, text=True).stdout.strip()
     made = loaded(f"{os.path.dirname(start)}/bin/rt")
     made.rtlib.guarded()  # (it has to be called by the main thread once)
+    top = os.path.dirname(os.path.dirname(os.path.abspath(__file__)))
+    for name, one in ("linked", link), ("listing", listing), ("offer", lambda crate, stamp: None), ("work_for", lambda crate: kept_here(top, crate)):
+        if not hasattr(made, name):
+            setattr(made, name, one)
     return made
+
+
+def kept_here(top, crate):
+    """What `rt check` kept of a crate in this tree, if it did."""
+    there = f"{top}/crates/{crate.name}/out/incremental"
+    return there if os.path.isdir(there) else None
+
+
+def listing(folder):
+    """The files of a folder, and what tells whether one was written anew; but for the one by which the prover notes that it was there."""
+    found = {}
+    for at, _, names in os.walk(folder):
+        for name in set(names) - {"rattle-last-used"}:
+            one = os.stat(f"{at}/{name}")
+            found[os.path.relpath(f"{at}/{name}", folder)] = one.st_ino, one.st_size, one.st_mtime_ns
+    return found
 
 
 def part(rt, name):
