@@ -17,7 +17,7 @@ import time
 LONG = 40  # seconds that anything may take: the machine may be busy with proofs
 NAP = 0.01  # seconds that the watch sleeps at a time
 TRIES = 3  # how often a scene is played that rests on moments, on a busy machine
-FIRST_LINE = re.compile(r"^listening at (\S+):(\d+),? sending to (\S+):(\d+) from (\S+):(\d+)$")
+FIRST_LINE = re.compile(r"^listening at (\S+):(\d+),? sending to (\S+):(\d+) from (\S+):(\d+) carrying payloads of up to (\d+) octets$")
 COUNTS = {
     "send": "sent unsent marked retransmitted early expired refused stray lost".split(),
     "receive": "taken repaired played gaps overrun abandoned asked refused padding unasked restarts moved stray lost rtt".split(),
@@ -149,6 +149,7 @@ class Relay:
         if not found:
             raise RuntimeError(f"{side} doesn't tell where it listens: {self.errors()!r}")
         self.at, self.to, self.source = ((found[i].strip("[]"), int(found[i + 1])) for i in (1, 3, 5))
+        self.longest = int(found[7])
 
     def errors(self):
         return self.base.with_suffix(".err").read_text()

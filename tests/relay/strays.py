@@ -126,6 +126,23 @@ def application(checks, stage):
     ledger.sums(checks, name, sender)
 
 
+def too_long(checks, stage):
+    """A packet with a longer payload than the program carries is left out, and told with what to do: once in ten seconds."""
+    player, far, network = End(stage), End(stage), End(stage)
+    sender, receiver = stage.send(network.at, "--seconds", 2), stage.receive(player.at, "--seconds", 2)
+    app = App(stage, sender.at, ssrc=MEDIA, number=0)
+    for relay, hand in (sender, app.raw), (receiver, lambda one: far.send(one, receiver.at)):
+        for i, length in enumerate((10, relay.longest, relay.longest + 1, relay.longest + 2, relay.longest + 300, 10)):
+            hand(packet(96, i, MEDIA, Content(5, 0, bytes(length))))
+    ends(checks, "payloads that are too long", sender, receiver)
+    for relay, came, count in (sender, network, "unsent"), (receiver, player, "refused"):
+        line = rf"left out 1 packets whose payload has more than {relay.longest} octets: make relay PAYLOAD=N builds a relay that carries N"
+        checks.same(relay.errors().splitlines().count(line), 1, f"{relay.side}: the line of payloads that are too long: {relay.errors()!r}")
+        checks.same(relay.counts().get(count), 3, f"{relay.side}: {count}")
+        lengths = {len(one.content.payload) for one in came.packets() if one and one.ssrc == MEDIA}
+        checks.same(lengths, {10, relay.longest}, f"{relay.side}: the lengths that came")
+
+
 def forged(checks, stage):
     """Retransmissions: one from elsewhere is stray, one that nobody asked for, as padding, is told apart, one that was asked for is played once."""
     name, player, far, third = "retransmissions", End(stage), End(stage), stage.keep(udp())
@@ -150,4 +167,4 @@ def forged(checks, stage):
 
 
 if __name__ == "__main__":
-    part(behind, before, application, forged)
+    part(behind, before, application, too_long, forged)

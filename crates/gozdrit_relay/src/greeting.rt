@@ -1,11 +1,11 @@
 //! What a relay tells at the start, and where it learnt a session.
 use crate::journal::shown;
 use lines::{Word, push_line};
-use rtpwire::Session;
+use rtpwire::{MAX_PAYLOAD, Session};
 use std::net::SocketAddr;
 use stores::OutOfMemory;
 
-/// The line of the sockets: where datagrams are waited for, and from where and to where they leave.
+/// The line of the sockets: where datagrams are waited for, and from where and to where they leave; with the longest payload that they carry.
 pub fn push_sockets(
     rt: &HostRuntime,
     line: &mut Vec<u8>,
@@ -13,22 +13,11 @@ pub fn push_sockets(
     to: SocketAddr,
     from: SocketAddr,
 ) -> Result<(), OutOfMemory> {
-    let listening = format!(in rt.alloc(); "{listening}")?;
-    let to = format!(in rt.alloc(); "{to}")?;
-    let from = format!(in rt.alloc(); "{from}")?;
-    push_line(
-        line,
-        &[
-            Word::Text(b"listening"),
-            Word::Text(b"at"),
-            Word::Text(listening.as_bytes()),
-            Word::Text(b"sending"),
-            Word::Text(b"to"),
-            Word::Text(to.as_bytes()),
-            Word::Text(b"from"),
-            Word::Text(from.as_bytes()),
-        ],
-    )
+    let told = format!(in rt.alloc();
+        "listening at {listening} sending to {to} from {from} carrying payloads of up to {MAX_PAYLOAD} octets\n"
+    )?;
+    line.extend_from_slice(told.as_bytes())?;
+    Ok(())
 }
 
 /// The line of a session that was learnt, with its far side.
@@ -78,6 +67,20 @@ pub fn push_strays(
             Word::Decimal(count),
             Word::Text(b"from"),
             Word::Text(from.as_bytes()),
+        ],
+    )
+}
+
+/// The line of packets that were left out since their payload is longer than this program carries, with what to do.
+pub fn push_too_long(line: &mut Vec<u8>, count: u64) -> Result<(), OutOfMemory> {
+    push_line(
+        line,
+        &[
+            Word::Text(b"left out"),
+            Word::Decimal(count),
+            Word::Text(b"packets whose payload has more than"),
+            Word::Decimal(MAX_PAYLOAD as u64),
+            Word::Text(b"octets: make relay PAYLOAD=N builds a relay that carries N"),
         ],
     )
 }

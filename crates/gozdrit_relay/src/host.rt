@@ -1,10 +1,11 @@
 //! The sockets of the machine, its clock, and what is told of a run.
 use crate::counts::Counts;
 use crate::draws::Draws;
-use crate::greeting::{push_full, push_moved, push_session, push_strays};
+use crate::greeting::{push_full, push_moved, push_session, push_strays, push_too_long};
 use crate::journal::Journal;
 use crate::load::{Load, Store};
-use crate::strays::Strays;
+use crate::seldom::Seldom;
+use crate::too_long::is_too_long;
 use mio::net::UdpSocket;
 use mio::{Events, Interest, Poll, Token};
 use relays::{Meeting, Note, Octets, Outside, OutsideFault, Side, Turn};
@@ -43,7 +44,9 @@ pub struct Host<'a> {
     pub journal: Option<Journal>,
     /// From where the last datagram came, and what of such came from elsewhere.
     from: Option<SocketAddr>,
-    strays: Strays,
+    strays: Seldom,
+    /// Packets whose payload is too long.
+    too_long: Seldom,
     /// A line of counts each so many milliseconds, and the moment of the next one.
     stats: Option<(u64, u64)>,
     is_sender: bool,
@@ -86,7 +89,8 @@ impl<'a> Host<'a> {
             counts: Counts::NONE,
             journal,
             from: None,
-            strays: Strays::NONE,
+            strays: Seldom::NONE,
+            too_long: Seldom::NONE,
             stats: match stats {
                 Some(seconds) => {
                     let apart = seconds.saturating_mul(1000);
@@ -232,6 +236,20 @@ impl<'a> Host<'a> {
         }
     }
 
+    /// Writes the line of packets that are longer than this program carries, at most each ten seconds.
+    fn tell_too_long(&mut self, note: &Note, octets: &[u8], now: u64) {
+        if !is_too_long(note, octets) {
+            return;
+        }
+        let Some(count) = self.too_long.come(now) else {
+            return;
+        };
+        self.line.clear();
+        if push_too_long(&mut self.line, count).is_ok() {
+            let _ = self.rt.stderr().write_all(&self.line);
+        }
+    }
+
     /// Writes the line of a store that is too short, once in each session.
     fn tell_shortage(&mut self, note: &Note, now: u64) {
         let Some(shortage) = self.load.follow(now, note) else {
@@ -314,6 +332,7 @@ impl Outside for Host<'_> {
         self.is_lost = false;
         self.tell_far(&turn.note);
         self.tell_strays(&turn.note, now);
+        self.tell_too_long(&turn.note, octets, now);
         self.tell_shortage(&turn.note, now);
     }
 }

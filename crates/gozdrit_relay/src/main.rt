@@ -17,7 +17,8 @@ mod learning;
 mod load;
 mod machine;
 mod options;
-mod strays;
+mod seldom;
+mod too_long;
 
 use command_line::choose;
 use entry::relay;

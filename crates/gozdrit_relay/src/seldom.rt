@@ -1,19 +1,19 @@
-//! Who is turned away.
+//! What may come with each datagram, and is told seldom.
 
-/// How long nobody is told after somebody was, in milliseconds.
+/// How long nothing is told after something was, in milliseconds.
 const APART: u64 = 10_000;
 
-/// How many datagrams came from elsewhere since that was told.
+/// How many datagrams of a kind came since that was told.
 #[derive(Clone, Copy)]
-pub struct Strays {
+pub struct Seldom {
     count: u64,
     /// The moment from which on it is told again.
     next: u64,
 }
 
-impl Strays {
+impl Seldom {
     /// None came so far.
-    pub const NONE: Strays = Strays { count: 0, next: 0 };
+    pub const NONE: Seldom = Seldom { count: 0, next: 0 };
 
     /// One came at the moment `now`. How many that are since some were told, where they are to be told now.
     pub fn come(&mut self, now: u64) -> Option<u64> {
