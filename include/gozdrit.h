@@ -1,5 +1,5 @@
 /*
- * Gozdrit for C: both ends of an RTP session (RFC 3550) that repairs losses by generic NACK (RFC 4585) and
+ * Gozdrit for C, version 2: both ends of an RTP session (RFC 3550) that repairs losses by generic NACK (RFC 4585) and
  * retransmission with SSRC multiplexing (RFC 4588). The library makes datagrams and takes them; sockets, clocks and
  * threads are the caller's. C99 and C++. docs/LIBRARY.md tells how to build and link it, and follows a stream.
  *
@@ -11,12 +11,14 @@
  *   retransmission  a packet of the second stream, with the original sequence number in front (RFC 4588, section 4): a
  *                   "repair". `rtx` in names, as in SDP.
  *   NACK            a generic NACK (RFC 4585, section 6.2.1): an "ask".
- *   reorder delay   how long a missing packet is waited for before the first NACK for it: `delay`.
- *   patience        how long a missing packet is waited for at all, from its notice: what a jitter buffer calls its latency.
+ *   reorder delay   how long a missing packet is waited for before the first NACK for it.
+ *   latency         how long a missing packet is waited for at all, from its notice, as by a jitter buffer: the
+ *                   "patience" of the documents.
  *   missing         a packet is missing from the one on that shows that it was passed over, and until it is taken, given up
  *                   or overrun.
- *   moment          a time in milliseconds that the caller hands in as `now`, of one clock for one end. Moments need not rise:
- *                   at one before its beginning, no span of time has passed.
+ *   time            milliseconds of one clock for one end, which the caller hands in as `now`: a "moment". Times need not
+ *                   rise: at one before its beginning, no span of time has passed.
+ *   end             a sender or a receiver.
  *
  * Answers
  *
@@ -24,14 +26,27 @@
  *   what leaves the call nothing to do, is such a number: what the network did is told in the struct that the call fills.
  *   These checks come first, in this order; then those that stand at the call.
  *
- *     76  GOZDRIT_NULL       a pointer is null: see below
- *     71  GOZDRIT_NO_END     the handle holds no end; for both `new`:
- *     72  GOZDRIT_HELD       the handle holds an end already
- *     74  GOZDRIT_TOO_LARGE  a length or a count is above its largest
- *     75  GOZDRIT_NO_ROOM    a buffer has less room than this datagram or payload needs
+ *     76  GOZDRIT_NULL           a pointer is null: see below
+ *     71  GOZDRIT_EMPTY_HANDLE   the handle holds no end; for both `new`:
+ *     72  GOZDRIT_HANDLE_IN_USE  the handle holds an end already
+ *     77  GOZDRIT_BAD_SIZE       the `size` of a struct is none: see below
+ *     74  GOZDRIT_TOO_LARGE      a length or a count is above its largest
+ *     75  GOZDRIT_NO_ROOM        a buffer has less room than this datagram or payload needs
  *
  *   After any such answer but 0 the end is as it was, and so is each struct and each buffer that was lent. After 0 a
  *   buffer is as it was behind what was written at its front. gozdrit_refusal_name gives each number's name.
+ *
+ * Versions, and the size of a struct
+ *
+ *   From 2.0 on no name, number or field of this header changes or goes, and a program that was built with it runs with each
+ *   later library of version 2. A later version adds calls, numbers, and fields behind the last octet of those structs that
+ *   begin with a `size`: configurations, counts and answers. Such a struct is made by its macro, as `gozdrit_received
+ *   received = GOZDRIT_RECEIVED_INIT;`, or a configuration by its call of defaults; either sets `size` to what it has in
+ *   the header that the program is compiled with. A call reads and writes no more than that, and takes a field that it does
+ *   not reach by its default. It refuses with 77 a size that is less than the struct had in version 2.0, and a
+ *   configuration of a later header that says something which this library does not know: where an octet behind what it
+ *   knows is not 0. All other structs stay as they are for good. A later library may answer a kind or a refusal that a
+ *   program does not know: the program goes on, as it does at GOZDRIT_REFUSED.
  *
  * Null
  *
@@ -70,8 +85,8 @@ extern "C" {
 
 /* ---- the version: that of this header, and that of the library that is linked */
 
-#define GOZDRIT_VERSION_MAJOR 1
-#define GOZDRIT_VERSION_MINOR 1
+#define GOZDRIT_VERSION_MAJOR 2
+#define GOZDRIT_VERSION_MINOR 0
 #define GOZDRIT_VERSION_PATCH 0
 #define GOZDRIT_VERSION (GOZDRIT_VERSION_MAJOR * 10000 + GOZDRIT_VERSION_MINOR * 100 + GOZDRIT_VERSION_PATCH)
 
@@ -104,33 +119,34 @@ uint32_t gozdrit_max_payload(void);
 #define GOZDRIT_WRONG_REPORTER 19   /* the same, and the first is from another SSRC than its receiver */
 
 /* 31 to 40: a receiver does not take a packet, or does not begin */
-#define GOZDRIT_UNKNOWN_SOURCE 31 /* the SSRC is of neither stream */
-#define GOZDRIT_UNKNOWN_TYPE 32   /* the payload type is not that of the SSRC's stream */
-#define GOZDRIT_NOT_STARTED 33    /* a retransmission came before any media, and the receiver did not begin */
-#define GOZDRIT_FAR 34            /* the sequence number is 16384 or more from the highest one, on both sides */
-#define GOZDRIT_LATE 35           /* the packet was played, given up or overrun, or lies before the first one */
-#define GOZDRIT_DUPLICATE 36      /* the packet is held already */
-#define GOZDRIT_TOO_LONG 37       /* a payload or an extension is above its largest */
-#define GOZDRIT_UNASKED 38        /* while the SSRC is learnt: a retransmission of a packet that no NACK named */
-#define GOZDRIT_PAST_END 39       /* the extended sequence number would lie below 0, or not below 2^48 */
-#define GOZDRIT_HAS_STARTED 40    /* a packet was taken already, or the receiver began before */
+#define GOZDRIT_UNKNOWN_SSRC 31         /* the SSRC is of neither stream */
+#define GOZDRIT_UNKNOWN_PAYLOAD_TYPE 32 /* the payload type is not that of the SSRC's stream */
+#define GOZDRIT_NOT_STARTED 33          /* a retransmission came before any media, and the receiver did not begin */
+#define GOZDRIT_TOO_FAR 34              /* the sequence number is 16384 or more from the highest one, on both sides */
+#define GOZDRIT_LATE 35                 /* the packet was played, given up or overrun, or lies before the first one */
+#define GOZDRIT_DUPLICATE 36            /* the packet is held already */
+#define GOZDRIT_TOO_LONG 37             /* a payload or an extension is above its largest */
+#define GOZDRIT_UNASKED 38              /* while the SSRC is learnt: a retransmission of a packet that no NACK named */
+#define GOZDRIT_PAST_END 39             /* the extended sequence number would lie below 0, or not below 2^48 */
+#define GOZDRIT_HAS_STARTED 40          /* a packet was taken already, or the receiver began before */
 
 /* 44, 45: a sender does not send */
 #define GOZDRIT_PADDED_EMPTY 44 /* padding is wanted, and the payload is empty */
 #define GOZDRIT_EXHAUSTED 45    /* the next extended sequence number would be 2^48 */
 
 /* 51 to 53: a configuration */
-#define GOZDRIT_BAD_TYPE 51  /* a payload type is out of its bounds, or both are equal */
-#define GOZDRIT_SAME_SSRC 52 /* two of the three SSRCs are equal */
-#define GOZDRIT_BAD_LIMIT 53 /* another number is out of its bounds */
+#define GOZDRIT_BAD_PAYLOAD_TYPE 51 /* a payload type is out of its bounds, or both are equal */
+#define GOZDRIT_SAME_SSRC 52        /* two of the three SSRCs are equal */
+#define GOZDRIT_BAD_LIMIT 53        /* another number is out of its bounds */
 
-/* 71 to 76: how a call was made */
-#define GOZDRIT_NO_END 71        /* the handle holds no end */
-#define GOZDRIT_HELD 72          /* the handle holds an end already */
+/* 71 to 77: how a call was made */
+#define GOZDRIT_EMPTY_HANDLE 71  /* the handle holds no end */
+#define GOZDRIT_HANDLE_IN_USE 72 /* the handle holds an end already */
 #define GOZDRIT_OUT_OF_MEMORY 73 /* malloc gave none */
 #define GOZDRIT_TOO_LARGE 74     /* a length or a count is above its largest */
 #define GOZDRIT_NO_ROOM 75       /* a buffer has less room than this datagram or payload needs */
 #define GOZDRIT_NULL 76          /* a pointer is null */
+#define GOZDRIT_BAD_SIZE 77      /* a struct is shorter than in version 2.0, or says what this library does not know */
 
 /* The name of each number above, as docs/PROTOCOL.md has it ("UnknownSource" for 31), "OK" for 0, and "" for any other. */
 static inline const char *gozdrit_refusal_name(int32_t number) {
@@ -151,10 +167,10 @@ static inline const char *gozdrit_refusal_name(int32_t number) {
     case GOZDRIT_FEEDBACK_EMPTY: return "Empty";
     case GOZDRIT_WRONG_MEDIA: return "WrongMedia";
     case GOZDRIT_WRONG_REPORTER: return "WrongReporter";
-    case GOZDRIT_UNKNOWN_SOURCE: return "UnknownSource";
-    case GOZDRIT_UNKNOWN_TYPE: return "UnknownType";
+    case GOZDRIT_UNKNOWN_SSRC: return "UnknownSource";
+    case GOZDRIT_UNKNOWN_PAYLOAD_TYPE: return "UnknownType";
     case GOZDRIT_NOT_STARTED: return "NotStarted";
-    case GOZDRIT_FAR: return "Far";
+    case GOZDRIT_TOO_FAR: return "Far";
     case GOZDRIT_LATE: return "Late";
     case GOZDRIT_DUPLICATE: return "Duplicate";
     case GOZDRIT_TOO_LONG: return "TooLong";
@@ -163,33 +179,35 @@ static inline const char *gozdrit_refusal_name(int32_t number) {
     case GOZDRIT_HAS_STARTED: return "HasStarted";
     case GOZDRIT_PADDED_EMPTY: return "PaddedEmpty";
     case GOZDRIT_EXHAUSTED: return "Exhausted";
-    case GOZDRIT_BAD_TYPE: return "BadType";
+    case GOZDRIT_BAD_PAYLOAD_TYPE: return "BadType";
     case GOZDRIT_SAME_SSRC: return "SameSsrc";
     case GOZDRIT_BAD_LIMIT: return "BadLimit";
-    case GOZDRIT_NO_END: return "NoEnd";
-    case GOZDRIT_HELD: return "Held";
+    case GOZDRIT_EMPTY_HANDLE: return "EmptyHandle";
+    case GOZDRIT_HANDLE_IN_USE: return "HandleInUse";
     case GOZDRIT_OUT_OF_MEMORY: return "OutOfMemory";
     case GOZDRIT_TOO_LARGE: return "TooLarge";
     case GOZDRIT_NO_ROOM: return "NoRoom";
     case GOZDRIT_NULL: return "Null";
+    case GOZDRIT_BAD_SIZE: return "BadSize";
     default: return "";
     }
 }
 
 /* ---- limits */
 
-/* GOZDRIT_MAX_PAYLOAD, GOZDRIT_MAX_SOURCES, GOZDRIT_MAX_WORDS and GOZDRIT_MAX_DATAGRAM are those that the library was
- * built with: gozdrit_limits.h. */
-#define GOZDRIT_MAX_STORE 8192 /* packets that an end keeps */
-#define GOZDRIT_MAX_NACK 268   /* octets of a datagram that gozdrit_nack makes */
-#define GOZDRIT_MOST 1088      /* packets that one NACK can name at most */
+/* GOZDRIT_MAX_PAYLOAD and GOZDRIT_MAX_DATAGRAM are those that the library was built with, GOZDRIT_MAX_CSRCS and
+ * GOZDRIT_MAX_EXTENSION_WORDS are the same for good: gozdrit_limits.h. */
+#define GOZDRIT_MAX_STORE 8192        /* packets that an end keeps */
+#define GOZDRIT_MAX_NACK_DATAGRAM 268 /* octets of a datagram that gozdrit_nack makes */
+#define GOZDRIT_MAX_NACKED 1088       /* packets that one NACK can name at most */
 
 /* ---- what is passed */
 
 /* What is true or false: 0 is false, and all else true. The library writes 0 or 1. */
 typedef uint8_t gozdrit_bool;
 
-/* A handle of one sender, or of none. Zero it first ( = {0} ), and leave its fields to the library. */
+/* A handle of one sender, or of none. Zero it first ( = {0} ), and leave its fields to the library. What it leads to may grow in a
+ * later version; the handle itself stays as large as it is. */
 typedef struct gozdrit_sender {
     void *at;
     gozdrit_bool held;
@@ -203,111 +221,117 @@ typedef struct gozdrit_receiver {
 
 /* The streams of a session (RFC 4588, section 5.3): three SSRCs that differ, and two payload types that do. */
 typedef struct gozdrit_session {
-    uint32_t media_ssrc;    /* of the media */
-    uint32_t rtx_ssrc;      /* of the retransmissions */
-    uint32_t receiver_ssrc; /* of the receiver's feedback */
-    uint8_t media_type;     /* 96 to 127 */
-    uint8_t rtx_type;       /* 96 to 127 */
-    gozdrit_bool any_media_type; /* then media_type may be a static type too, as 33: 0 to 127 but 64 to 95 (RFC 5761) */
+    uint32_t media_ssrc;         /* of the media */
+    uint32_t rtx_ssrc;           /* of the retransmissions */
+    uint32_t receiver_ssrc;      /* of the receiver's feedback */
+    uint8_t media_payload_type;  /* 96 to 127 */
+    uint8_t rtx_payload_type;    /* 96 to 127 */
+    gozdrit_bool any_media_payload_type; /* that of the media may be a static one: 0 to 127 but 64 to 95 (RFC 5761) */
 } gozdrit_session;
 
-/* Make a configuration by gozdrit_sender_defaults, and set what differs: fields that a later version has are set then. */
+/* Made by gozdrit_sender_defaults; then what differs is set. */
 typedef struct gozdrit_sender_config {
+    size_t size;
     gozdrit_session session;
-    uint32_t history;          /* packets that are kept: 1 to GOZDRIT_MAX_STORE */
-    uint16_t first;            /* the first packet's sequence number */
-    uint16_t rtx_first;        /* the first retransmission's */
-    uint8_t repeats;           /* how often one packet is retransmitted at most: 1 to 255 */
-    gozdrit_bool any_reporter; /* NACKs from any SSRC are heard, not the session's receiver's alone */
-    /* Which retransmissions fit the time, by the moments of gozdrit_sender_time. Both are milliseconds, and 0 is without. */
+    uint32_t history;             /* packets that are kept: 1 to GOZDRIT_MAX_STORE */
+    uint16_t first_sequence;      /* the first packet's sequence number */
+    uint16_t rtx_first_sequence;  /* the first retransmission's */
+    uint8_t max_retransmissions;  /* how often one packet is retransmitted at most: 1 to 255 */
+    gozdrit_bool any_reporter;    /* NACKs from any SSRC are heard, not the session's receiver's alone */
+    /* Which retransmissions fit the time, by gozdrit_sender_set_time. Both are milliseconds, and 0 is without. */
     uint64_t min_resend; /* so long after a retransmission its packet is not retransmitted again: about a round trip */
-    uint64_t deadline;   /* so long after it was sent a packet is retransmitted no more: about the far side's patience */
+    uint64_t deadline;   /* so long after it was sent a packet is retransmitted no more: about the far side's latency */
 } gozdrit_sender_config;
 
 /* The same by gozdrit_receiver_defaults. */
 typedef struct gozdrit_receiver_config {
+    size_t size;
     gozdrit_session session;
-    uint64_t patience;     /* milliseconds from the notice of a missing packet until it is given up; 0: at its notice */
-    uint64_t retry;        /* milliseconds from one NACK for a packet to the next, from 1 on */
-    uint32_t window;       /* packets that are kept: 1 to GOZDRIT_MAX_STORE */
-    uint8_t nacks;         /* how often a NACK names one packet at most: 1 to 255 */
-    gozdrit_bool learns;   /* the SSRC of the retransmissions is learnt; rtx_ssrc is then not used */
+    uint64_t latency;             /* milliseconds from a missing packet's notice until it is given up; 0: at its notice */
+    uint64_t nack_interval;       /* milliseconds from one NACK for a packet to the next, from 1 on */
+    uint32_t window;              /* packets that are kept: 1 to GOZDRIT_MAX_STORE */
+    uint8_t max_nacks;            /* how often a NACK names one packet at most: 1 to 255 */
+    gozdrit_bool learn_rtx_ssrc;  /* the SSRC of the retransmissions is learnt; rtx_ssrc is then not used */
     /* When a media packet is believed whose sequence number has jumped (RFC 3550, appendix A.1): one that lies
      * max_dropout or more ahead of the highest one, or max_misorder or more behind it, is held back until so many
-     * came, and then the stream restarts with them: by `silence`, below. 0 is the usual number: 3000, or the window
+     * came, and then the stream restarts with them: by `idle_after`, below. 0 is the usual number: 3000, or the window
      * where that is more, so that a gap that it bridges is no restart; 100; 2; and 256. */
     uint16_t max_dropout;
     uint16_t max_misorder;
-    uint16_t min_ahead;
-    uint16_t min_behind;
-    uint64_t delay;        /* the reorder delay: milliseconds from the notice of a missing packet to the first NACK; 0: none */
+    uint16_t min_sequential_ahead;
+    uint16_t min_sequential_behind;
+    uint64_t reorder_delay; /* milliseconds from the notice of a missing packet to the first NACK; 0: none */
     /* What is held back goes on with whatever has not jumped from its own highest number, in any order and with losses.
-     * min_behind of it are believed, ahead and behind alike, or min_ahead where no media packet was taken for so many
-     * milliseconds. 0: only the next number in sequence goes on with it, and min_ahead are believed where the first
-     * lies less than half a cycle ahead, min_behind else. The defaults have 200. */
-    uint64_t silence;
-    uint8_t follows;       /* what follows the path: GOZDRIT_FOLLOWS_NOTHING, GOZDRIT_FOLLOWS_ASKS or GOZDRIT_FOLLOWS_SENT */
+     * min_sequential_behind of it are believed, ahead and behind alike, or min_sequential_ahead where the stream is idle:
+     * where no media packet was taken for so many milliseconds. 0: only the next number in sequence goes on with it, and
+     * min_sequential_ahead are believed where the first lies less than half a cycle ahead, min_sequential_behind else. The
+     * defaults have 200. */
+    uint64_t idle_after;
+    uint8_t adaptive; /* what follows the path: GOZDRIT_ADAPTIVE_OFF, GOZDRIT_ADAPTIVE_NACKS or GOZDRIT_ADAPTIVE_SEND_TIME */
 } gozdrit_receiver_config;
 
 /* What of a receiver follows what it measures of the path. */
-#define GOZDRIT_FOLLOWS_NOTHING 0 /* all times stay as they are set */
-/* `delay` and `retry` hold until a round trip was measured, and follow the path from then on: the first NACK waits as long as
- * packets were seen to come behind later ones, and as many NACKs follow as have their answers within the patience, no closer
- * than the round trip with its variation (RFC 6298, section 2). */
-#define GOZDRIT_FOLLOWS_ASKS 1
-/* That, and a packet is given up by when it was sent: one that was lost in a silence, longer than the patience by a quarter or
- * more, is waited for that much less than the patience as it was sent before the silence ended, at the rate before. */
-#define GOZDRIT_FOLLOWS_SENT 2
+#define GOZDRIT_ADAPTIVE_OFF 0 /* all times stay as they are set */
+/* `reorder_delay` and `nack_interval` hold until a round trip was measured, and follow the path from then on: the first
+ * NACK waits as long as packets were seen to come behind later ones, and as many NACKs follow as have their answers within
+ * the latency, no closer than the round trip with its variation (RFC 6298, section 2). */
+#define GOZDRIT_ADAPTIVE_NACKS 1
+/* That, and a packet is given up by when it was sent: one that was lost in a silence, longer than the latency by a quarter
+ * or more, is waited for that much less than the latency as it was sent before the silence ended, at the rate before. */
+#define GOZDRIT_ADAPTIVE_SEND_TIME 2
 
 /* What a packet carries beside its payload (RFC 3550, sections 5.1 and 5.3.1). */
 typedef struct gozdrit_header {
-    uint32_t timestamp;                    /* in units of the media's clock */
-    uint32_t sources[GOZDRIT_MAX_SOURCES]; /* CSRC identifiers; the first source_count count */
-    uint32_t words[GOZDRIT_MAX_WORDS];     /* of the header extension; the first word_count count */
-    uint16_t profile;                      /* of the header extension: the 16 bits that the profile defines */
-    uint8_t source_count;                  /* 0 to GOZDRIT_MAX_SOURCES */
-    uint8_t word_count;                    /* 0 to GOZDRIT_MAX_WORDS */
-    gozdrit_bool has_extension;            /* else profile, words and word_count are not looked at */
-    gozdrit_bool marker;                   /* the marker bit */
+    uint32_t timestamp;                              /* in units of the media's clock */
+    uint32_t csrcs[GOZDRIT_MAX_CSRCS];               /* CSRC identifiers; the first csrc_count count */
+    uint32_t extension[GOZDRIT_MAX_EXTENSION_WORDS]; /* words of the header extension; the first extension_words count */
+    uint16_t extension_profile;                      /* the 16 bits of the extension that the profile defines */
+    uint8_t csrc_count;                              /* 0 to GOZDRIT_MAX_CSRCS */
+    uint8_t extension_words;                         /* 0 to GOZDRIT_MAX_EXTENSION_WORDS */
+    gozdrit_bool has_extension; /* else extension, extension_profile and extension_words are not looked at */
+    gozdrit_bool marker;        /* the marker bit */
 } gozdrit_header;
 
 /* A datagram that was made. */
 typedef struct gozdrit_sent {
+    size_t size;
     uint64_t sequence; /* of the packet, also where it is retransmitted */
     size_t length;     /* of the datagram, which stands at the front of `out` */
 } gozdrit_sent;
 
-/* What a datagram was to an end: gozdrit_heard.kind and gozdrit_told.kind. */
-#define GOZDRIT_NOT_TAKEN 0      /* it was not taken, for the reason `refusal` */
+/* What a datagram was to an end: gozdrit_received.kind and gozdrit_outcome.kind. */
+#define GOZDRIT_REFUSED 0        /* it was not taken, for the reason `refusal` */
 #define GOZDRIT_MEDIA 1          /* a media packet that a receiver took; RTP, which a sender passes over */
 #define GOZDRIT_RETRANSMISSION 2 /* a retransmission that was taken */
 #define GOZDRIT_RTCP 3           /* RTCP, which a receiver passes over */
-#define GOZDRIT_HELD_BACK 4      /* a media packet whose number has jumped: the `held`-th that is held back */
-#define GOZDRIT_RESTARTED 5      /* the last one that was wanted: the stream restarted with `held` of them */
+#define GOZDRIT_HELD_BACK 4      /* a media packet whose number has jumped: the `held_back`-th that is held back */
+#define GOZDRIT_RESTARTED 5      /* the last one that was wanted: the stream restarted with `held_back` of them */
 #define GOZDRIT_REPORTS 6        /* RTCP without a generic NACK, which a sender passes over */
 #define GOZDRIT_FEEDBACK 7       /* RTCP with a generic NACK of this session */
 
 /* What a datagram was to a receiver. What its kind has no use for is 0. */
-typedef struct gozdrit_heard {
+typedef struct gozdrit_received {
+    size_t size;
     uint64_t sequence;  /* MEDIA, RETRANSMISSION, RESTARTED: of the packet that was taken */
     uint64_t overrun;   /* the same: how many packets the window dropped for good to make room for this one; mostly 0 */
-    uint64_t abandoned; /* RESTARTED: how many packets of the stream before were left that were neither played nor given up */
-    uint32_t held;      /* HELD_BACK, RESTARTED: how many packets */
+    uint64_t abandoned; /* RESTARTED: how many packets of the stream before were left, neither played nor given up */
+    uint32_t held_back; /* HELD_BACK, RESTARTED: how many packets */
     uint8_t kind;
-    uint8_t refusal; /* NOT_TAKEN: the reason, 1 to 6 or 31 to 39; GOZDRIT_LATE and GOZDRIT_DUPLICATE are part of any session */
-} gozdrit_heard;
+    uint8_t refusal; /* REFUSED: the reason, 1 to 6 or 31 to 39; GOZDRIT_LATE and _DUPLICATE are part of any session */
+} gozdrit_received;
 
 /* What a datagram was to a sender. What its kind has no use for is 0. */
-typedef struct gozdrit_told {
-    uint32_t marked;    /* FEEDBACK: packets that are to be retransmitted, and were not before */
-    uint32_t nacks;     /* NACKs of this session */
-    uint32_t others;    /* NACKs for other media, or from other reporters, which were passed over */
-    uint32_t numbers;   /* sequence numbers that the session's NACKs name */
-    uint32_t unknown;   /* of these, the numbers that no packet of the history has */
-    uint32_t exhausted; /* of these, the numbers of packets that were retransmitted as often as they may be */
+typedef struct gozdrit_outcome {
+    size_t size;
+    uint32_t queued;         /* FEEDBACK: packets that are to be retransmitted, and were not before */
+    uint32_t nacks;          /* NACKs of this session */
+    uint32_t other_nacks;    /* NACKs for other media, or from other reporters, which were passed over */
+    uint32_t nacked;         /* sequence numbers that the session's NACKs name */
+    uint32_t not_in_history; /* of these, the numbers that no packet of the history has */
+    uint32_t exhausted;      /* of these, the numbers of packets that were retransmitted as often as they may be */
     uint8_t kind;
-    uint8_t refusal; /* NOT_TAKEN: the reason, 11 to 13 or 16 to 19 */
-} gozdrit_told;
+    uint8_t refusal; /* REFUSED: the reason, 11 to 13 or 16 to 19 */
+} gozdrit_outcome;
 
 /* What gozdrit_play did: gozdrit_played.kind */
 #define GOZDRIT_WAIT 0   /* nothing */
@@ -315,49 +339,52 @@ typedef struct gozdrit_told {
 #define GOZDRIT_GAP 2    /* it gave the next packet up */
 
 typedef struct gozdrit_played {
+    size_t size;
     uint64_t sequence;
     size_t length; /* of the payload */
     gozdrit_header header;
     uint8_t kind; /* GOZDRIT_WAIT, GOZDRIT_PACKET or GOZDRIT_GAP */
 } gozdrit_played;
 
-/* An extended sequence number, an SSRC, and a moment, if there is one: `known` tells. */
+/* An extended sequence number, an SSRC, and a time, if there is one: `known` tells. */
 typedef struct gozdrit_sequence {
     uint64_t sequence;
     gozdrit_bool known;
 } gozdrit_sequence;
 
-typedef struct gozdrit_source {
+typedef struct gozdrit_ssrc {
     uint32_t ssrc;
     gozdrit_bool known;
-} gozdrit_source;
+} gozdrit_ssrc;
 
-typedef struct gozdrit_moment {
-    uint64_t moment;
+typedef struct gozdrit_timeout {
+    uint64_t time;
     gozdrit_bool known;
-} gozdrit_moment;
+} gozdrit_timeout;
 
 /* The times of NACKs in force, and the round trip from a NACK to its answer, if one was measured: `known` tells. All are
  * milliseconds. */
 typedef struct gozdrit_times {
-    uint64_t delay;
-    uint64_t retry;
+    size_t size;
+    uint64_t reorder_delay;
+    uint64_t nack_interval;
     uint64_t round_trip; /* smoothed (RFC 6298, section 2), and */
     uint64_t variation;  /* by how much it varies */
-    gozdrit_bool known;  /* else the two above are as they were; a receiver that does not follow the path measures none */
+    gozdrit_bool known;  /* else the two above are as they were; a receiver that is not adaptive measures none */
 } gozdrit_times;
 
-/* What a receiver counted since it was made: a restart starts no count anew, and each stays at 2^64 - 1 once it is there.
+/* What a receiver counted since it was made: a reset starts no count anew, and each stays at 2^64 - 1 once it is there.
  * Each datagram is in one of the first nine. */
 typedef struct gozdrit_receive_counts {
+    size_t size;
     uint64_t media;           /* media packets that were taken as they came */
     uint64_t retransmissions; /* that were taken */
     uint64_t held_back;       /* media packets that were held back */
     uint64_t restarts;        /* of the stream */
     uint64_t rtcp;            /* datagrams */
-    uint64_t duplicate;       /* 36; gozdrit_receive_kinds has those of media and of answers to NACKs alone */
+    uint64_t duplicate;       /* 36; gozdrit_probe_counts has those of media and of answers to NACKs alone */
     uint64_t late;            /* 35; the same */
-    uint64_t far;             /* 34 */
+    uint64_t too_far;         /* 34 */
     uint64_t refused;         /* for another reason */
     uint64_t overrun;         /* packets that the window dropped for good to make room, but for those of a run held back */
     uint64_t abandoned;       /* packets that a restart left behind, neither played nor given up */
@@ -368,29 +395,31 @@ typedef struct gozdrit_receive_counts {
 } gozdrit_receive_counts;
 
 /*
- * Of which kind those datagrams were, since a sender also sends what nobody asked for: padding in the stream of the
- * retransmissions (RFC 3550, section 5.1), and retransmissions by which it probes for bandwidth. These are apart here, and the
- * last three are the counts above without them. So where `late` rises here, patience is too short for the round trip; a rise of
- * gozdrit_receive_counts' `late` alone may be probes. A place counts as asked for while it is among the last `window` that a NACK
- * named, and until the stream restarts.
+ * What of those datagrams nobody asked for: padding in the stream of the retransmissions (RFC 3550, section 5.1), and
+ * retransmissions by which a sender probes for bandwidth. These are apart here, and the last three are the counts above
+ * without them. So where `late` rises here, the latency is too short for the round trip; a rise of gozdrit_receive_counts'
+ * `late` alone may be probes. A packet counts as asked for while it is among the last `window` that a NACK named, and until
+ * the stream restarts.
  */
-typedef struct gozdrit_receive_kinds {
-    uint64_t padding;   /* padding in the stream of the retransmissions: refused with 6 */
-    uint64_t unasked;   /* retransmissions that no NACK asked for, refused with 35, 36 or 38 */
-    uint64_t duplicate; /* 36: media, and answers to NACKs */
-    uint64_t late;      /* 35: the same */
-    uint64_t refused;   /* for another reason, and not with 34 */
-} gozdrit_receive_kinds;
+typedef struct gozdrit_probe_counts {
+    size_t size;
+    uint64_t padding;     /* padding in the stream of the retransmissions: refused with 6 */
+    uint64_t unrequested; /* retransmissions that no NACK asked for, refused with 35, 36 or 38 */
+    uint64_t duplicate;   /* 36: media, and answers to NACKs */
+    uint64_t late;        /* 35: the same */
+    uint64_t refused;     /* for another reason, and not with 34 */
+} gozdrit_probe_counts;
 
 /* What a sender counted. The first two are the packet and the octet count of a sender report (RFC 3550, section 6.4.1). */
 typedef struct gozdrit_send_counts {
+    size_t size;
     uint64_t sent;            /* media packets */
     uint64_t octets;          /* of their payloads, without headers and padding */
     uint64_t retransmissions; /* that were made */
     uint64_t nacks;           /* of this session */
-    uint64_t others;          /* NACKs for other media, or from other reporters, in datagrams with one of this session */
-    uint64_t numbers;         /* sequence numbers that the session's NACKs named, each as often as it was */
-    uint64_t unknown;         /* of these, the numbers that no packet of the history had */
+    uint64_t other_nacks;     /* NACKs for other media, or from other reporters, in datagrams with one of this session */
+    uint64_t nacked;          /* sequence numbers that the session's NACKs named, each as often as it was */
+    uint64_t not_in_history;  /* of these, the numbers that no packet of the history had */
     uint64_t exhausted;       /* of these, the numbers of packets that were retransmitted as often as they may be */
     uint64_t media;           /* RTP datagrams, which were passed over */
     uint64_t reports;         /* RTCP datagrams without a generic NACK */
@@ -410,20 +439,33 @@ typedef struct gozdrit_packet {
     uint8_t padding; /* how many octets of padding there are, their count included; 0 for none */
 } gozdrit_packet;
 
+/* What a call that tells something is handed: a struct that says its size, and is blank behind that. */
+#define GOZDRIT_SENT_INIT {sizeof(gozdrit_sent), 0, 0}
+#define GOZDRIT_RECEIVED_INIT {sizeof(gozdrit_received), 0, 0, 0, 0, 0, 0}
+#define GOZDRIT_OUTCOME_INIT {sizeof(gozdrit_outcome), 0, 0, 0, 0, 0, 0, 0, 0}
+#define GOZDRIT_PLAYED_INIT {sizeof(gozdrit_played), 0, 0, {0, {0}, {0}, 0, 0, 0, 0, 0}, 0}
+#define GOZDRIT_TIMES_INIT {sizeof(gozdrit_times), 0, 0, 0, 0, 0}
+#define GOZDRIT_RECEIVE_COUNTS_INIT {sizeof(gozdrit_receive_counts), 0, 0, 0, 0, 0, 0, 0, 0, 0, 0, 0, 0, 0, 0, 0}
+#define GOZDRIT_PROBE_COUNTS_INIT {sizeof(gozdrit_probe_counts), 0, 0, 0, 0, 0}
+#define GOZDRIT_SEND_COUNTS_INIT {sizeof(gozdrit_send_counts), 0, 0, 0, 0, 0, 0, 0, 0, 0, 0, 0, 0, 0}
+
 /* ---- the sending end */
 
 /*
- * Fills a configuration: a history of 1024 packets, each retransmitted 4 times at most, and all else 0. The session is
- * to be set, and both first sequence numbers, which are to be drawn at random (RFC 3550, section 5.1).
+ * Fills a configuration: a history of 1024 packets, each retransmitted 4 times at most, and all else 0, also what
+ * lies behind the fields that this library knows. `size` is sizeof(gozdrit_sender_config), and becomes the struct's. The
+ * session is to be set, and both first sequence numbers, which are to be drawn at random (RFC 3550, section 5.1).
+ *
+ *   77  size is less than the struct had in version 2.0
  */
-int32_t gozdrit_sender_defaults(gozdrit_sender_config *config);
+int32_t gozdrit_sender_defaults(gozdrit_sender_config *config, size_t size);
 
 /*
  * Makes a sender that sent nothing so far, and puts it into the handle. It takes the memory for `history` packets,
  * some 200 octets more than GOZDRIT_MAX_PAYLOAD each.
  *
  *   51, 52  the session, as gozdrit_session says
- *   53      history is not in 1 to GOZDRIT_MAX_STORE, or repeats is 0
+ *   53      history is not in 1 to GOZDRIT_MAX_STORE, or max_retransmissions is 0
  *   73      there is no memory for it
  */
 int32_t gozdrit_sender_new(const gozdrit_sender_config *config, gozdrit_sender *sender);
@@ -436,8 +478,8 @@ int32_t gozdrit_sender_free(gozdrit_sender *sender);
  * A full history drops its oldest packet for it. `length` is the payload's. `padding` is how many octets of padding the
  * packet gets, their count included, and 0 for none. The caller sends the sent->length octets of `out`, or loses them.
  *
- *   74  length is above GOZDRIT_MAX_PAYLOAD, header->source_count above GOZDRIT_MAX_SOURCES, or header->word_count
- *       above GOZDRIT_MAX_WORDS where header->has_extension is not 0
+ *   74  length is above GOZDRIT_MAX_PAYLOAD, header->csrc_count above GOZDRIT_MAX_CSRCS, or header->extension_words
+ *       above GOZDRIT_MAX_EXTENSION_WORDS where header->has_extension is not 0
  *   75  room is less than the packet has; GOZDRIT_MAX_DATAGRAM is enough for any
  *   44  padding is not 0, and length is
  *   45  there is no sequence number left
@@ -448,18 +490,18 @@ int32_t gozdrit_send(gozdrit_sender *sender, const gozdrit_header *header, const
 /*
  * Takes a datagram that came from the receiver's side, whatever it is, and tells what it was. In RTCP the generic NACKs of
  * this session count, whatever stands beside them (RFC 3550, section 6.1; RFC 5506): each packet of the history that
- * one names is from then on to be retransmitted, unless that was done `repeats` times already. Several senders may be
- * handed one datagram, and each hears what is its own.
+ * one names is from then on to be retransmitted, unless that was done `max_retransmissions` times already. Several senders
+ * may be handed one datagram, and each hears what is its own.
  */
-int32_t gozdrit_feedback(gozdrit_sender *sender, const uint8_t *octets, size_t length, gozdrit_told *told);
+int32_t gozdrit_feedback(gozdrit_sender *sender, const uint8_t *octets, size_t length, gozdrit_outcome *outcome);
 
 /*
  * Writes the next retransmission to the front of `out` (RFC 4588, section 4): that of the least sequence number that is to
  * be retransmitted. Where there is none, sent->length is 0, and sent->sequence and `out` are as they were. Call it until
  * then.
  *
- * With `min_resend` or a `deadline` it is the least one that fits the time. What is to be retransmitted below it and does not
- * fit is passed over, and counted: it may be named again.
+ * With `min_resend` or a `deadline` it is the least one that fits the time. What is to be retransmitted below it and does
+ * not fit is passed over, and counted: it may be named again.
  *
  *   75  room is less than the retransmission has; GOZDRIT_MAX_DATAGRAM is enough for any. With `min_resend` or a `deadline`:
  *       room is less than GOZDRIT_MAX_DATAGRAM
@@ -467,18 +509,19 @@ int32_t gozdrit_feedback(gozdrit_sender *sender, const uint8_t *octets, size_t l
 int32_t gozdrit_retransmit(gozdrit_sender *sender, gozdrit_sent *sent, uint8_t *out, size_t room);
 
 /*
- * For a sender that falls silent: its newest packet is to be retransmitted, as if a NACK had named it, so that a receiver that
- * takes it notices all that it lacks below it. One that took nothing and did not begin refuses it (33), and so does one that is
- * still to learn the SSRC of the retransmissions (38). `marked` gets 1, or 0 where that was so already, where the packet was
- * retransmitted as often as it may be, or where nothing was sent.
+ * For a sender that falls silent: its newest packet is to be retransmitted, as if a NACK had named it, so that a receiver
+ * that takes it notices all that it lacks below it. One that took nothing and did not begin refuses it (33), and so does
+ * one that is still to learn the SSRC of the retransmissions (38). It is a tail loss probe (RFC 8985, section 7). `queued`
+ * gets 1, or 0 where that was so already, where the packet was retransmitted as often as it may be, or where nothing was
+ * sent.
  */
-int32_t gozdrit_mark_last(gozdrit_sender *sender, uint32_t *marked);
+int32_t gozdrit_tail_loss_probe(gozdrit_sender *sender, uint32_t *queued);
 
 /*
- * Tells the moment of what is sent and retransmitted from now on, which is 0 before the first call. Only `min_resend` and
+ * Tells the time of what is sent and retransmitted from now on, which is 0 before the first call. Only `min_resend` and
  * `deadline` look at it.
  */
-int32_t gozdrit_sender_time(gozdrit_sender *sender, uint64_t now);
+int32_t gozdrit_sender_set_time(gozdrit_sender *sender, uint64_t now);
 
 /* What it counted. */
 int32_t gozdrit_sender_counts(const gozdrit_sender *sender, gozdrit_send_counts *counts);
@@ -486,17 +529,20 @@ int32_t gozdrit_sender_counts(const gozdrit_sender *sender, gozdrit_send_counts 
 /* ---- the receiving end */
 
 /*
- * Fills a configuration: a window of 512 packets, a patience of 200 ms, a reorder delay of 20 ms, NACKs 40 ms apart and 4 for
- * one packet at most, the usual numbers of a jump, and all else 0. The session is to be set.
+ * Fills a configuration: a window of 512 packets, a latency of 200 ms, a reorder delay of 20 ms, NACKs 40 ms apart and 4 for
+ * one packet at most, the usual numbers of a jump, and all else 0, also what lies behind the fields that this library knows.
+ * `size` is sizeof(gozdrit_receiver_config), and becomes the struct's. The session is to be set.
+ *
+ *   77  size is less than the struct had in version 2.0
  */
-int32_t gozdrit_receiver_defaults(gozdrit_receiver_config *config);
+int32_t gozdrit_receiver_defaults(gozdrit_receiver_config *config, size_t size);
 
 /*
  * Makes a receiver that took nothing so far, and puts it into the handle. It takes the memory for twice `window` packets,
  * some 200 octets more than GOZDRIT_MAX_PAYLOAD each, of which it touches what follows the most packets that it held.
  *
  *   51, 52  the session, as gozdrit_session says
- *   53      window is not in 1 to GOZDRIT_MAX_STORE, or retry or nacks is 0, or follows is not 0, 1 or 2
+ *   53      window is not in 1 to GOZDRIT_MAX_STORE, or nack_interval or max_nacks is 0, or adaptive is not 0, 1 or 2
  *   73      there is no memory for it
  */
 int32_t gozdrit_receiver_new(const gozdrit_receiver_config *config, gozdrit_receiver *receiver);
@@ -507,41 +553,41 @@ int32_t gozdrit_receiver_free(gozdrit_receiver *receiver);
 /*
  * Takes a datagram that came from the sender's side, whatever it is, copies what a packet of its carries, and tells what it
  * was. The first media packet starts the receiver: what lies before it is never missing, unless gozdrit_begin said so. A
- * packet that lies `window` or more above the next one to play drops what it leaves no room for: heard->overrun.
+ * packet that lies `window` or more above the next one to play drops what it leaves no room for: received->overrun.
  *
  * A packet that is all padding is taken as one with an empty payload.
  *
  * A receiver that learns takes as a retransmission what a NACK of its named, under any SSRC but the media's and its own;
- * the SSRC of the first that it takes is the one of the retransmissions from then on, until the receiver restarts.
+ * the SSRC of the first that it takes is the one of the retransmissions from then on, until the receiver is reset.
  *
- * heard->refusal, where heard->kind is GOZDRIT_NOT_TAKEN, is the first of:
+ * received->refusal, where received->kind is GOZDRIT_REFUSED, is the first of:
  *
  *   1 to 5  the octets are no RTP packet
  *   31      the SSRC is neither that of the media nor that of the retransmissions; where the latter is not learnt so
  *           far, it is the receiver's own
  *   32      the payload type is not that of the SSRC's stream
  *   6       a retransmission without an original sequence number
- *   37      the payload has more than GOZDRIT_MAX_PAYLOAD octets, or the extension more than GOZDRIT_MAX_WORDS words
- *   33      a retransmission, before any media packet and gozdrit_begin
- *   34, 39  the sequence number stands for none near the highest one
- *   38      the SSRC is to be learnt, and the packet is not one that is missing and that a NACK named
+ *   37      the payload has more than GOZDRIT_MAX_PAYLOAD octets, or the extension more than GOZDRIT_MAX_EXTENSION_WORDS
+ *   words 33      a retransmission, before any media packet and gozdrit_begin 34, 39  the sequence number stands for none
+ *   near the highest one 38      the SSRC is to be learnt, and the packet is not one that is missing and that a NACK named
  *   35, 36  the packet lies below the next one to play, or is held already
  */
 int32_t gozdrit_receive(gozdrit_receiver *receiver, const uint8_t *octets, size_t length, uint64_t now,
-                        gozdrit_heard *heard);
+                        gozdrit_received *received);
 
 /*
  * Plays the next packet, gives it up, or waits. played->kind says which:
  *
  *   GOZDRIT_PACKET  it was held. Its extended sequence number, the payload's length and the header stand in `played`, its
  *                   payload at the front of `payload`. The header's arrays behind their counts are as they were. Where
- *                   has_extension is 0, word_count is too, and profile is as it was.
- *   GOZDRIT_GAP     it was missing, and its patience, or what GOZDRIT_FOLLOWS_SENT left of it, has passed. Its extended sequence number stands in `played`; all else
- *                   of it, and `payload`, is as it was.
- *   GOZDRIT_WAIT    it is missing, and its patience has not passed, or nothing is held. All else of `played`, and
+ *                   has_extension is 0, extension_words is too, and extension_profile is as it was.
+ *   GOZDRIT_GAP     it was missing, and the latency, or what GOZDRIT_ADAPTIVE_SEND_TIME left of it, has passed. Its extended
+ *                   sequence number stands in `played`; all else of it, and `payload`, is as it was.
+ *   GOZDRIT_WAIT    it is missing, and the latency has not passed, or nothing is held. All else of `played`, and
  *                   `payload`, is as it was.
  *
- * Packets are played or given up in their order, each once, until the receiver restarts. Call it until it waits.
+ * Packets are played or given up in their order, each once, until the receiver is reset or the stream restarts. Call it
+ * until it waits.
  *
  *   75  room is less than the payload has; GOZDRIT_MAX_PAYLOAD is enough for any
  */
@@ -549,21 +595,21 @@ int32_t gozdrit_play(gozdrit_receiver *receiver, uint64_t now, gozdrit_played *p
 
 /*
  * Writes a datagram with one generic NACK to the front of `out`, for missing packets that are due, and its length to
- * `length`. A packet is due that was named fewer than `nacks` times, and never, and `delay` milliseconds ago or more
- * it was noticed, or at least `retry` milliseconds ago. It names `most` packets at most; GOZDRIT_MOST is as many as
- * it can. Where none is due, `length` is 0, and `out` is as it was. One datagram may leave some that are due: call it
- * until then, or as often as feedback may be sent (RFC 4585, section 3.5).
+ * `length`. A packet is due that was named fewer than `max_nacks` times, and never, and `reorder_delay` milliseconds ago or
+ * more it was noticed, or at least `nack_interval` milliseconds ago. It names `most` packets at most; GOZDRIT_MAX_NACKED is
+ * as many as it can. Where none is due, `length` is 0, and `out` is as it was. One datagram may leave some that are due:
+ * call it until then, or as often as feedback may be sent (RFC 4585, section 3.5).
  *
- *   75  room is less than the datagram has; GOZDRIT_MAX_NACK is enough for any
+ *   75  room is less than the datagram has; GOZDRIT_MAX_NACK_DATAGRAM is enough for any
  */
 int32_t gozdrit_nack(gozdrit_receiver *receiver, uint64_t now, size_t most, size_t *length, uint8_t *out, size_t room);
 
 /*
- * The least moment from which on gozdrit_play does not wait or gozdrit_nack, for one packet or more, makes a datagram, if
+ * The least time from which on gozdrit_play does not wait or gozdrit_nack, for one packet or more, makes a datagram, if
  * nothing more comes and the times stay: a loop sleeps until then, or until a datagram comes. Where there is none,
- * moment->known is 0, and moment->moment is as it was. A moment in the past is one that has come.
+ * timeout->known is 0, and timeout->time is as it was. A time in the past is one that has come.
  */
-int32_t gozdrit_next_moment(const gozdrit_receiver *receiver, gozdrit_moment *moment);
+int32_t gozdrit_next_timeout(const gozdrit_receiver *receiver, gozdrit_timeout *timeout);
 
 /*
  * Begins at a sequence number that was signalled, before any packet came: what is lost of the first packets is then missing
@@ -573,32 +619,33 @@ int32_t gozdrit_next_moment(const gozdrit_receiver *receiver, gozdrit_moment *mo
  */
 int32_t gozdrit_begin(gozdrit_receiver *receiver, uint16_t first);
 
-/* Makes the receiver one that took nothing, with the same memory. What it holds is gone, and in no count; the counts go on, and
- * so do the times, and the round trip that was measured. */
-int32_t gozdrit_restart(gozdrit_receiver *receiver);
+/* Makes the receiver one that took nothing, with the same memory. What it holds is gone, and in no count; the counts go on,
+ * and so do the times, and the round trip that was measured. */
+int32_t gozdrit_reset(gozdrit_receiver *receiver);
 
 /*
- * Sets the three times, as a round-trip time changes. What was noticed, and what NACKs named, stays. Ask gozdrit_next_moment
- * again. One that follows the path has `delay` and `retry` follow it again when the next datagram comes.
+ * Sets the three times, as a round-trip time changes. What was noticed, and what NACKs named, stays. Ask
+ * gozdrit_next_timeout again. One that is adaptive has the last two follow the path again when the next datagram comes.
  *
- *   53  retry is 0
+ *   53  nack_interval is 0
  */
-int32_t gozdrit_set_times(gozdrit_receiver *receiver, uint64_t patience, uint64_t delay, uint64_t retry);
+int32_t gozdrit_set_times(gozdrit_receiver *receiver, uint64_t latency, uint64_t reorder_delay, uint64_t nack_interval);
 
 /*
- * What follows the path from now on: config->follows. Where the times of NACKs do again, they follow what was measured before when
- * the next datagram comes; where they don't, `delay` and `retry` stay as they are until they are set. Ask gozdrit_next_moment again.
+ * What follows the path from now on: config->adaptive. Where the times of NACKs do again, they follow what was measured
+ * before when the next datagram comes; where they don't, they stay as they are until they are set. Ask gozdrit_next_timeout
+ * again.
  *
- *   53  follows is not 0, 1 or 2
+ *   53  adaptive is not 0, 1 or 2
  */
-int32_t gozdrit_follow(gozdrit_receiver *receiver, uint8_t follows);
+int32_t gozdrit_set_adaptive(gozdrit_receiver *receiver, uint8_t adaptive);
 
 /* How many packets are missing. */
 int32_t gozdrit_missing(const gozdrit_receiver *receiver, size_t *count);
 
 /* The SSRC of the retransmissions: the session's, or the one that was learnt, where the receiver learns it. Until it
- * has, source->known is 0, and source->ssrc is as it was. */
-int32_t gozdrit_rtx_source(const gozdrit_receiver *receiver, gozdrit_source *source);
+ * has, ssrc->known is 0, and ssrc->ssrc is as it was. */
+int32_t gozdrit_rtx_ssrc(const gozdrit_receiver *receiver, gozdrit_ssrc *ssrc);
 
 /* The extended sequence number of the next packet to play. Before the first packet, and before gozdrit_begin,
  * sequence->known is 0, and sequence->sequence is as it was. */
@@ -614,17 +661,17 @@ int32_t gozdrit_receiver_times(const gozdrit_receiver *receiver, gozdrit_times *
 /* What it counted. */
 int32_t gozdrit_receiver_counts(const gozdrit_receiver *receiver, gozdrit_receive_counts *counts);
 
-/* Of which kind that was. */
-int32_t gozdrit_receiver_kinds(const gozdrit_receiver *receiver, gozdrit_receive_kinds *kinds);
+/* What of that nobody asked for. */
+int32_t gozdrit_receiver_probe_counts(const gozdrit_receiver *receiver, gozdrit_probe_counts *counts);
 
 /* ---- one RTP packet, for programs that have one to hand on (RFC 3550, section 5.1) */
 
 /*
  * Reads an RTP packet: its header, its numbers, and where its payload lies. The header's arrays behind their counts are as
- * they were, and so is profile where there is no extension.
+ * they were, and so is extension_profile where there is no extension.
  *
  *   1 to 5  the octets are no RTP packet
- *   37      the header extension has more than GOZDRIT_MAX_WORDS words
+ *   37      the header extension has more than GOZDRIT_MAX_EXTENSION_WORDS words
  */
 int32_t gozdrit_rtp_read(const uint8_t *octets, size_t length, gozdrit_packet *packet);
 
@@ -639,43 +686,6 @@ int32_t gozdrit_rtp_read(const uint8_t *octets, size_t length, gozdrit_packet *p
  */
 int32_t gozdrit_rtp_write(const gozdrit_packet *packet, const uint8_t *payload, size_t length, size_t *written,
                           uint8_t *out, size_t room);
-
-/* ---- calls of version 0.9, for programs that have them: over those above. What is passed over or held back answers 0, with
- * 0 in `place` and `marked`. */
-
-typedef struct gozdrit_taken {
-    uint64_t place;
-    uint64_t overrun;
-} gozdrit_taken;
-
-static inline int32_t gozdrit_on_media(gozdrit_receiver *receiver, const uint8_t *octets, size_t length, uint64_t now,
-                                       gozdrit_taken *taken) {
-    gozdrit_heard heard;
-    int32_t number = gozdrit_receive(receiver, octets, length, now, &heard);
-    if (number != GOZDRIT_OK) return number;
-    if (heard.kind == GOZDRIT_NOT_TAKEN) return heard.refusal;
-    taken->place = heard.sequence;
-    taken->overrun = heard.overrun;
-    return GOZDRIT_OK;
-}
-
-static inline int32_t gozdrit_on_feedback(gozdrit_sender *sender, const uint8_t *octets, size_t length,
-                                          uint32_t *marked) {
-    gozdrit_told told;
-    int32_t number = gozdrit_feedback(sender, octets, length, &told);
-    if (number != GOZDRIT_OK) return number;
-    if (told.kind == GOZDRIT_NOT_TAKEN) return told.refusal;
-    *marked = told.marked;
-    return GOZDRIT_OK;
-}
-
-static inline int32_t gozdrit_next_repair(gozdrit_sender *sender, gozdrit_sent *sent, uint8_t *out, size_t room) {
-    return gozdrit_retransmit(sender, sent, out, room);
-}
-
-static inline int32_t gozdrit_ask(gozdrit_receiver *receiver, uint64_t now, size_t *length, uint8_t *out, size_t room) {
-    return gozdrit_nack(receiver, now, GOZDRIT_MOST, length, out, room);
-}
 
 #ifdef __cplusplus
 }

@@ -16,7 +16,7 @@ enum {
     BURST = 64,     /* datagrams taken at once at most */
     SLEEP = 100,    /* milliseconds that are slept at most where nothing is to be done */
     GOODBYES = 40,  /* how often BYE is said, since some of them may be lost */
-    PATIENCE = 5000 /* milliseconds that a missing packet is waited for: long, since a busy machine may halt `send` */
+    LATENCY = 5000  /* milliseconds that a missing packet is waited for: long, since a busy machine may halt `send` */
 };
 
 typedef struct receiving {
@@ -36,11 +36,12 @@ static void take_packets(receiving *r, uint64_t now) {
     for (int i = 0; i < BURST; i++) {
         struct sockaddr_storage from;
         socklen_t size = sizeof from;
-        gozdrit_heard heard;
+        gozdrit_received received = GOZDRIT_RECEIVED_INIT;
         ssize_t length = recvfrom(r->at, octets, sizeof octets, MSG_DONTWAIT, (struct sockaddr *)&from, &size);
-        if (length < 0 || gozdrit_receive(&r->end, octets, (size_t)length, now, &heard) != GOZDRIT_OK) return;
-        if (heard.overrun > 0) fprintf(stderr, "overrun: %" PRIu64 " packets\n", heard.overrun);
-        if (heard.kind != GOZDRIT_NOT_TAKEN && !r->heard) r->heard = connect(r->at, (struct sockaddr *)&from, size) == 0;
+        if (length < 0 || gozdrit_receive(&r->end, octets, (size_t)length, now, &received) != GOZDRIT_OK) return;
+        if (received.overrun > 0) fprintf(stderr, "overrun: %" PRIu64 " packets\n", received.overrun);
+        bool taken = received.kind == GOZDRIT_MEDIA || received.kind == GOZDRIT_RETRANSMISSION;
+        if (taken && !r->heard) r->heard = connect(r->at, (struct sockaddr *)&from, size) == 0;
     }
 }
 
@@ -58,12 +59,12 @@ static void write_packet(receiving *r, const gozdrit_played *played, const uint8
 /* Plays what can be played. */
 static int32_t play(receiving *r, uint64_t now) {
     while (!r->ended) {
-        gozdrit_played played;
+        gozdrit_played played = GOZDRIT_PLAYED_INIT;
         uint8_t payload[GOZDRIT_MAX_PAYLOAD];
         int32_t number = gozdrit_play(&r->end, now, &played, payload, sizeof payload);
         if (number != GOZDRIT_OK || played.kind == GOZDRIT_WAIT) return number;
         if (played.kind == GOZDRIT_PACKET) write_packet(r, &played, payload);
-        else fprintf(stderr, "gap: %" PRIu64 "\n", played.sequence);
+        else if (played.kind == GOZDRIT_GAP) fprintf(stderr, "gap: %" PRIu64 "\n", played.sequence);
     }
     return GOZDRIT_OK;
 }
@@ -71,9 +72,9 @@ static int32_t play(receiving *r, uint64_t now) {
 /* Sends the NACKs that are due. */
 static int32_t send_nacks(receiving *r, uint64_t now) {
     for (;;) {
-        uint8_t out[GOZDRIT_MAX_NACK];
+        uint8_t out[GOZDRIT_MAX_NACK_DATAGRAM];
         size_t length;
-        int32_t number = gozdrit_nack(&r->end, now, GOZDRIT_MOST, &length, out, sizeof out);
+        int32_t number = gozdrit_nack(&r->end, now, GOZDRIT_MAX_NACKED, &length, out, sizeof out);
         if (number != GOZDRIT_OK || length == 0) return number;
         lossy_send(r->at, &r->chosen, out, length);
     }
@@ -81,17 +82,17 @@ static int32_t send_nacks(receiving *r, uint64_t now) {
 
 /* How many milliseconds nothing is to be done, if nothing comes. */
 static int sleep_from(const receiving *r, uint64_t now) {
-    gozdrit_moment next;
-    if (gozdrit_next_moment(&r->end, &next) != GOZDRIT_OK || !next.known || next.moment > now + SLEEP) return SLEEP;
-    return next.moment <= now ? 0 : (int)(next.moment - now);
+    gozdrit_timeout next;
+    if (gozdrit_next_timeout(&r->end, &next) != GOZDRIT_OK || !next.known || next.time > now + SLEEP) return SLEEP;
+    return next.time <= now ? 0 : (int)(next.time - now);
 }
 
 /* Receives until the file has ended, the time is over, or something fails. */
 static void receive_file(receiving *r) {
-    uint64_t start = moment(), now = start;
+    uint64_t start = milliseconds(), now = start;
     while (!r->ended && now - start < r->chosen.seconds * 1000) {
         wait_for_datagram(r->at, sleep_from(r, now));
-        now = moment();
+        now = milliseconds();
         take_packets(r, now);
         int32_t number = play(r, now);
         if (number == GOZDRIT_OK) number = send_nacks(r, now);
@@ -116,12 +117,12 @@ static void say_goodbye(receiving *r) {
 /* Makes the receiver, and begins at the first packet's number, so that what is lost of the first packets is missed. */
 static int32_t make_receiver(receiving *r) {
     gozdrit_receiver_config config;
-    gozdrit_receiver_defaults(&config);
+    gozdrit_receiver_defaults(&config, sizeof config);
     config.session = SESSION;
-    config.patience = PATIENCE;
-    config.delay = 0; /* this network reorders nothing */
-    config.retry = 20;
-    config.nacks = 255;
+    config.latency = LATENCY;
+    config.reorder_delay = 0; /* this network reorders nothing */
+    config.nack_interval = 20;
+    config.max_nacks = 255;
     config.window = 4096;
     int32_t number = gozdrit_receiver_new(&config, &r->end);
     return number == GOZDRIT_OK ? gozdrit_begin(&r->end, FIRST) : number;
@@ -129,7 +130,7 @@ static int32_t make_receiver(receiving *r) {
 
 /* Receives the file, tells the counts, and gives the memory back. */
 static void run(receiving *r) {
-    gozdrit_receive_counts counts;
+    gozdrit_receive_counts counts = GOZDRIT_RECEIVE_COUNTS_INIT;
     int32_t number = make_receiver(r);
     if (number != GOZDRIT_OK) {
         tell_refusal("gozdrit_receiver_new", number);

@@ -7,7 +7,7 @@
  *
  * How a file becomes packets: CHUNK octets a packet, whose timestamp says where in the file they begin, modulo 2^32. Behind
  * them comes a packet without payload, whose marker is set. A receiver notices only what is missing below the highest
- * packet that it got: so the sender, once it is silent, marks its last packet again and again until the receiver says
+ * packet that it got: so the sender, once it is silent, probes with its last packet again and again until the receiver says
  * BYE (RFC 3550, section 6.6), and that retransmission shows what is missing at the end.
  *
  * The status is 0 where that BYE says that the whole file was received, 2 for a wrong command line, and else 1. */
@@ -19,7 +19,7 @@
 enum {
     CHUNK = 1000, /* octets of the file in a packet: with its headers less than the MTU of most networks */
     BURST = 4,    /* datagrams sent in a millisecond at most */
-    PACE = 20     /* milliseconds between two marks of the last packet */
+    PACE = 20     /* milliseconds between two probes with the last packet */
 };
 
 typedef struct sending {
@@ -28,7 +28,7 @@ typedef struct sending {
     FILE *file;
     int at;
     options chosen;
-    uint64_t marked; /* when the last packet was marked */
+    uint64_t probed; /* when it last probed with the last packet */
     bool ended, whole;
 } sending;
 
@@ -36,10 +36,11 @@ typedef struct sending {
 static void take_feedback(sending *s) {
     static uint8_t octets[65536];
     for (int i = 0; i < BURST; i++) {
-        gozdrit_told told;
+        gozdrit_outcome outcome = GOZDRIT_OUTCOME_INIT;
         ssize_t length = recv(s->at, octets, sizeof octets, MSG_DONTWAIT);
         if (length < 0) return;
-        if (gozdrit_feedback(&s->end, octets, (size_t)length, &told) != GOZDRIT_OK || told.kind != GOZDRIT_REPORTS) continue;
+        if (gozdrit_feedback(&s->end, octets, (size_t)length, &outcome) != GOZDRIT_OK) return;
+        if (outcome.kind != GOZDRIT_REPORTS) continue;
         s->whole = is_same(octets, (size_t)length, BYE_WHOLE);
         s->ended = s->whole || is_same(octets, (size_t)length, BYE_BROKEN);
         if (s->ended) return;
@@ -58,15 +59,15 @@ static int32_t send_next(sending *s, gozdrit_sent *sent, uint8_t *out, size_t ro
     return number;
 }
 
-/* Once all was sent: marks the last packet from time to time. Where it was retransmitted as often as it may be, another one
- * like it follows. */
-static int32_t mark_last(sending *s, uint64_t now, gozdrit_sent *sent, uint8_t *out, size_t room) {
-    uint32_t marked;
+/* Once all was sent: probes with the last packet from time to time. Where it was retransmitted as often as it may be,
+ * another one like it follows. */
+static int32_t probe(sending *s, uint64_t now, gozdrit_sent *sent, uint8_t *out, size_t room) {
+    uint32_t queued;
     sent->length = 0;
-    if (now - s->marked < PACE) return GOZDRIT_OK;
-    s->marked = now;
-    int32_t number = gozdrit_mark_last(&s->end, &marked);
-    if (number != GOZDRIT_OK || marked > 0) return number;
+    if (now - s->probed < PACE) return GOZDRIT_OK;
+    s->probed = now;
+    int32_t number = gozdrit_tail_loss_probe(&s->end, &queued);
+    if (number != GOZDRIT_OK || queued > 0) return number;
     return gozdrit_send(&s->end, &s->header, NULL, 0, 0, sent, out, room);
 }
 
@@ -74,10 +75,10 @@ static int32_t mark_last(sending *s, uint64_t now, gozdrit_sent *sent, uint8_t *
 static int32_t send_burst(sending *s, uint64_t now) {
     for (int i = 0; i < BURST; i++) {
         uint8_t out[GOZDRIT_MAX_DATAGRAM];
-        gozdrit_sent sent;
+        gozdrit_sent sent = GOZDRIT_SENT_INIT;
         int32_t number = gozdrit_retransmit(&s->end, &sent, out, sizeof out);
         if (number == GOZDRIT_OK && sent.length == 0) {
-            number = s->header.marker ? mark_last(s, now, &sent, out, sizeof out) : send_next(s, &sent, out, sizeof out);
+            number = s->header.marker ? probe(s, now, &sent, out, sizeof out) : send_next(s, &sent, out, sizeof out);
         }
         if (number != GOZDRIT_OK) return number;
         if (sent.length > 0) lossy_send(s->at, &s->chosen, out, sent.length);
@@ -87,11 +88,11 @@ static int32_t send_burst(sending *s, uint64_t now) {
 
 /* Sends the file until the receiver has ended, the time is over, or something fails. */
 static void send_file(sending *s) {
-    uint64_t start = moment(), last = start;
-    while (!s->ended && moment() - start < s->chosen.seconds * 1000) {
+    uint64_t start = milliseconds(), last = start;
+    while (!s->ended && milliseconds() - start < s->chosen.seconds * 1000) {
         wait_for_datagram(s->at, 1);
         take_feedback(s);
-        uint64_t now = moment();
+        uint64_t now = milliseconds();
         if (now == last) continue;
         last = now;
         int32_t number = send_burst(s, now);
@@ -110,12 +111,12 @@ static void send_file(sending *s) {
 /* Makes the sender, sends the file with it, and gives its memory back. */
 static void run(sending *s) {
     gozdrit_sender_config config;
-    gozdrit_send_counts counts;
-    gozdrit_sender_defaults(&config);
+    gozdrit_send_counts counts = GOZDRIT_SEND_COUNTS_INIT;
+    gozdrit_sender_defaults(&config, sizeof config);
     config.session = SESSION;
     config.history = GOZDRIT_MAX_STORE;
-    config.first = FIRST;
-    config.repeats = 255;
+    config.first_sequence = FIRST;
+    config.max_retransmissions = 255;
     int32_t number = gozdrit_sender_new(&config, &s->end);
     if (number != GOZDRIT_OK) {
         tell_refusal("gozdrit_sender_new", number);

@@ -31,7 +31,7 @@ static inline bool is_same(const uint8_t *octets, size_t length, const uint8_t *
 }
 
 /* Milliseconds of a clock that nobody sets back. */
-static inline uint64_t moment(void) {
+static inline uint64_t milliseconds(void) {
     struct timespec t;
     clock_gettime(CLOCK_MONOTONIC, &t);
     return (uint64_t)t.tv_sec * 1000 + (uint64_t)t.tv_nsec / 1000000;
@@ -52,9 +52,9 @@ static inline void lossy_send(int at, options *o, const uint8_t *octets, size_t 
 }
 
 /* Waits for a datagram, so many milliseconds at most. */
-static inline void wait_for_datagram(int at, int milliseconds) {
+static inline void wait_for_datagram(int at, int most) {
     struct pollfd one = {at, POLLIN, 0};
-    poll(&one, 1, milliseconds);
+    poll(&one, 1, most);
 }
 
 /* A whole number in decimal of 0 to the largest one. */

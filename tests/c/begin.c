@@ -1,8 +1,9 @@
-/* A receiver that begins at a number that was signalled, and one that is made to restart. */
+/* A receiver that begins at a number that was signalled, and one that is reset. */
 #include "checks.h"
 
 static const gozdrit_receiver_config CONFIG = {
-    .session = SESSION, .patience = 100, .retry = 20, .window = 16, .nacks = 2};
+    .size = sizeof(gozdrit_receiver_config), .session = SESSION, .latency = 100, .nack_interval = 20, .window = 16,
+    .max_nacks = 2};
 
 static gozdrit_receiver receiver_of(const gozdrit_receiver_config *config) {
     gozdrit_receiver r = {NULL, 0};
@@ -17,7 +18,7 @@ static void begins(uint16_t first, uint64_t sequence) {
     TELLS(&r, sequence, sequence - 1, 0);
     CALLS_AT(&r, false, 0);
     PLAYS(&r, 1000, GOZDRIT_WAIT, 0, 0);
-    NACKS(&r, 0, GOZDRIT_MOST, NO_PAIR);
+    NACKS(&r, 0, GOZDRIT_MAX_NACKED, NO_PAIR);
     CHECK(is_counted(&r, (gozdrit_receive_counts){.media = 0}));
     ANSWERS(GOZDRIT_HAS_STARTED, gozdrit_begin(&r, first));
     ANSWERS(GOZDRIT_HAS_STARTED, gozdrit_begin(&r, (uint16_t)(first + 1)));
@@ -25,7 +26,7 @@ static void begins(uint16_t first, uint64_t sequence) {
     HEARS_MEDIA(&r, (uint16_t)(first - 1), 4, NOT_HEARD(GOZDRIT_LATE));
     HEARS_MEDIA(&r, (uint16_t)(first + 2), 5, MEDIA(sequence + 2));
     TELLS(&r, sequence, sequence + 2, 2);
-    NACKS(&r, 5, GOZDRIT_MOST, PAIR(first, 1));
+    NACKS(&r, 5, GOZDRIT_MAX_NACKED, PAIR(first, 1));
     ANSWERS(GOZDRIT_HAS_STARTED, gozdrit_begin(&r, first));
     HEARS_RTX(&r, 0x22222222, (uint16_t)(first + 1), 6, RETRANSMITTED(sequence + 1));
     TELLS(&r, sequence, sequence + 2, 1);
@@ -53,45 +54,45 @@ static void test_first(void) {
     ANSWERS(GOZDRIT_OK, gozdrit_receiver_free(&r));
 }
 
-/* A restart leaves all that was taken and learnt, and what was held back; the counts and the times go on. */
-static void test_restart(void) {
+/* A reset leaves all that was taken and learnt, and what was held back; the counts and the times go on. */
+static void test_reset(void) {
     gozdrit_receiver_config config = CONFIG;
-    config.learns = 1;
+    config.learn_rtx_ssrc = 1;
     gozdrit_receiver r = receiver_of(&config);
-    gozdrit_source source;
-    ANSWERS(GOZDRIT_OK, gozdrit_restart(&r)); /* there is nothing to leave */
+    gozdrit_ssrc ssrc;
+    ANSWERS(GOZDRIT_OK, gozdrit_reset(&r)); /* there is nothing to leave */
     HEARS_MEDIA(&r, 100, 0, MEDIA(65636));
     HEARS_MEDIA(&r, 103, 0, MEDIA(65639));
-    NACKS(&r, 0, GOZDRIT_MOST, PAIR(101, 1));
+    NACKS(&r, 0, GOZDRIT_MAX_NACKED, PAIR(101, 1));
     HEARS_RTX(&r, 0x55555555, 101, 1, RETRANSMITTED(65637));
     HEARS_MEDIA(&r, 10000, 1, HELD_BACK(1));
     ANSWERS(GOZDRIT_OK, gozdrit_set_times(&r, 100, 7, 20));
     const state before = state_of(&r);
-    ANSWERS(GOZDRIT_OK, gozdrit_restart(&r));
+    ANSWERS(GOZDRIT_OK, gozdrit_reset(&r));
     TELLS(&r, 0, 0, 0);
     CALLS_AT(&r, false, 0);
-    FILL(source);
-    ANSWERS(GOZDRIT_OK, gozdrit_rtx_source(&r, &source));
-    CHECK(source.known == 0 && UNTOUCHED(source.ssrc));
+    FILL(ssrc);
+    ANSWERS(GOZDRIT_OK, gozdrit_rtx_ssrc(&r, &ssrc));
+    CHECK(ssrc.known == 0 && UNTOUCHED(ssrc.ssrc));
     CHECK(is_counted(&r, before.counts));
     PLAYS(&r, 1000, GOZDRIT_WAIT, 0, 0);
     HEARS_RTX(&r, 0x55555555, 102, 1, NOT_HEARD(GOZDRIT_NOT_STARTED));
     ANSWERS(GOZDRIT_OK, gozdrit_begin(&r, 10001));
     HEARS_MEDIA(&r, 10002, 2, MEDIA(75538)); /* the number after the one that was held back is no run any more */
     TELLS(&r, 75537, 75538, 1);
-    NACKS(&r, 8, GOZDRIT_MOST, NO_PAIR);
-    NACKS(&r, 9, GOZDRIT_MOST, PAIR(10001, 0));
+    NACKS(&r, 8, GOZDRIT_MAX_NACKED, NO_PAIR);
+    NACKS(&r, 9, GOZDRIT_MAX_NACKED, PAIR(10001, 0));
     CHECK(is_counted(&r, (gozdrit_receive_counts){.media = 3, .retransmissions = 1, .held_back = 1, .refused = 1,
                                                   .nacks = 2, .nacked = 3}));
     ANSWERS(GOZDRIT_OK, gozdrit_receiver_free(&r));
 }
 
-/* One packet of a run that is held back, a restart, and the next of it: it is the first packet of a new stream. */
-static void test_restart_of_a_run(void) {
+/* One packet of a run that is held back, a reset, and the next of it: it is the first packet of a new stream. */
+static void test_reset_of_a_run(void) {
     gozdrit_receiver r = receiver_of(&CONFIG);
     HEARS_MEDIA(&r, 100, 0, MEDIA(65636));
     HEARS_MEDIA(&r, 10000, 0, HELD_BACK(1));
-    ANSWERS(GOZDRIT_OK, gozdrit_restart(&r));
+    ANSWERS(GOZDRIT_OK, gozdrit_reset(&r));
     HEARS_MEDIA(&r, 7000, 0, MEDIA(72536));
     HEARS_MEDIA(&r, 10001, 0, HELD_BACK(1));
     HEARS_MEDIA(&r, 10002, 0, RESTARTED(75538, 2, 1));
@@ -99,12 +100,12 @@ static void test_restart_of_a_run(void) {
 }
 
 /* A session's own SSRC of the retransmissions is not forgotten. */
-static void test_restart_of_source(void) {
+static void test_reset_of_ssrc(void) {
     gozdrit_receiver r = receiver_of(&CONFIG);
-    gozdrit_source source;
-    ANSWERS(GOZDRIT_OK, gozdrit_restart(&r));
-    ANSWERS(GOZDRIT_OK, gozdrit_rtx_source(&r, &source));
-    CHECK(source.known == 1 && source.ssrc == 0x22222222);
+    gozdrit_ssrc ssrc;
+    ANSWERS(GOZDRIT_OK, gozdrit_reset(&r));
+    ANSWERS(GOZDRIT_OK, gozdrit_rtx_ssrc(&r, &ssrc));
+    CHECK(ssrc.known == 1 && ssrc.ssrc == 0x22222222);
     ANSWERS(GOZDRIT_OK, gozdrit_receiver_free(&r));
 }
 
@@ -114,7 +115,7 @@ void test_begin(void) {
     begins(65534, 131070);
     begins(65535, 131071);
     test_first();
-    test_restart();
-    test_restart_of_a_run();
-    test_restart_of_source();
+    test_reset();
+    test_reset_of_a_run();
+    test_reset_of_ssrc();
 }

@@ -88,8 +88,8 @@ int main(void) {
     test_sessions();
     test_queries();
     test_rtp();
-    test_old();
     test_null();
+    test_sizes();
     test_memory();
     test_names();
     printf("%d checks, %d failed\n", checks, failures);

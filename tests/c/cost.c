@@ -24,15 +24,16 @@ static int is_below(const void *a, const void *b) {
 /* Takes and plays the packets of a round: one datagram, which gets the next number each time. */
 static bool take(gozdrit_receiver *receiver, uint16_t *seq, uint32_t *sum) {
     static uint8_t datagram[LENGTH] = {0x80, 96, 0, 0, 0, 0, 0, 0, 0, 0, 0, 1};
+    gozdrit_received received = GOZDRIT_RECEIVED_INIT;
+    gozdrit_played played = GOZDRIT_PLAYED_INIT;
     for (int i = 0; i < PACKETS; i++) {
-        gozdrit_heard heard;
-        gozdrit_played played;
         uint8_t payload[GOZDRIT_MAX_PAYLOAD];
         ++*seq;
         datagram[2] = (uint8_t)(*seq >> 8);
         datagram[3] = (uint8_t)*seq;
         datagram[LENGTH - 1] = (uint8_t)i;
-        if (gozdrit_receive(receiver, datagram, sizeof datagram, 0, &heard) || heard.kind != GOZDRIT_MEDIA) return false;
+        if (gozdrit_receive(receiver, datagram, sizeof datagram, 0, &received)) return false;
+        if (received.kind != GOZDRIT_MEDIA) return false;
         if (gozdrit_play(receiver, 0, &played, payload, sizeof payload) || played.kind != GOZDRIT_PACKET) return false;
         *sum += payload[played.length - 1];
     }
@@ -46,7 +47,7 @@ int main(void) {
     gozdrit_receiver receiver = {NULL, 0};
     uint16_t seq = 0;
     uint32_t sum = 0;
-    if (gozdrit_receiver_defaults(&config)) return 1;
+    if (gozdrit_receiver_defaults(&config, sizeof config)) return 1;
     config.session = session;
     config.window = 1024;
     if (gozdrit_receiver_new(&config, &receiver)) return 1;

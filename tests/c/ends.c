@@ -1,73 +1,78 @@
 /* Calls of an end with all that each of them must give. A call that writes is tried with one octet less room than it needs
- * first, which it refuses, and then with just enough. One that writes nothing needs none, and leaves what it is lent. */
+ * first, which it refuses, and then with just enough. One that writes nothing needs none, and leaves what it is lent. None
+ * changes the size that a struct says. */
 #include "checks.h"
 
 #include <stdlib.h>
 
-static bool is_heard(const gozdrit_heard *a, const gozdrit_heard *b) {
+static bool is_received(const gozdrit_received *a, const gozdrit_received *b) {
     return a->kind == b->kind && a->refusal == b->refusal && a->sequence == b->sequence && a->overrun == b->overrun
-           && a->abandoned == b->abandoned && a->held == b->held;
+           && a->abandoned == b->abandoned && a->held_back == b->held_back;
 }
 
 void hears(const char *file, int line, gozdrit_receiver *r, const uint8_t *octets, size_t length, uint64_t now,
-           gozdrit_heard expected) {
+           gozdrit_received expected) {
     uint8_t *lent = boxed(octets, length);
-    gozdrit_heard heard;
-    FILL(heard);
-    check_answer(GOZDRIT_OK, gozdrit_receive(r, lent, length, now, &heard), "gozdrit_receive", file, line);
-    check_answer(expected.kind, heard.kind, "the kind of what was heard", file, line);
-    check_answer(expected.refusal, heard.refusal, "the refusal of what was heard", file, line);
-    check(is_heard(&expected, &heard), "what was heard", file, line);
+    gozdrit_received received;
+    FILL_SIZED(received);
+    check_answer(GOZDRIT_OK, gozdrit_receive(r, lent, length, now, &received), "gozdrit_receive", file, line);
+    check_answer(expected.kind, received.kind, "the kind of what was received", file, line);
+    check_answer(expected.refusal, received.refusal, "the refusal of what was received", file, line);
+    check(is_received(&expected, &received) && received.size == sizeof received, "what was received", file, line);
     free(lent);
 }
 
-void hears_media(const char *file, int line, gozdrit_receiver *r, uint16_t seq, uint64_t now, gozdrit_heard expected) {
+void hears_media(const char *file, int line, gozdrit_receiver *r, uint16_t seq, uint64_t now, gozdrit_received expected) {
     const uint8_t octet = (uint8_t)seq;
     uint8_t packet[13];
     hears(file, line, r, packet, write_rtp(packet, 96, seq, 0x11111111, &octet, 1), now, expected);
 }
 
 void hears_rtx(const char *file, int line, gozdrit_receiver *r, uint32_t ssrc, uint16_t original, uint64_t now,
-               gozdrit_heard expected) {
+               gozdrit_received expected) {
     const uint8_t octets[3] = {(uint8_t)(original >> 8), (uint8_t)original, (uint8_t)original};
     uint8_t packet[15];
     hears(file, line, r, packet, write_rtp(packet, 97, 9000, ssrc, octets, sizeof octets), now, expected);
 }
 
-void is_told(const char *file, int line, gozdrit_sender *s, const uint8_t *octets, size_t length, gozdrit_told expected) {
+void is_told(const char *file, int line, gozdrit_sender *s, const uint8_t *octets, size_t length, gozdrit_outcome expected) {
     uint8_t *lent = boxed(octets, length);
-    gozdrit_told told;
-    FILL(told);
-    check_answer(GOZDRIT_OK, gozdrit_feedback(s, lent, length, &told), "gozdrit_feedback", file, line);
-    check_answer(expected.kind, told.kind, "the kind of what was told", file, line);
-    check_answer(expected.refusal, told.refusal, "the refusal of what was told", file, line);
-    check(expected.marked == told.marked, "what became marked", file, line);
-    check(expected.nacks == told.nacks && expected.others == told.others, "the NACKs that were told", file, line);
-    check(expected.numbers == told.numbers && expected.unknown == told.unknown && expected.exhausted == told.exhausted,
-          "the numbers that were told", file, line);
+    gozdrit_outcome outcome;
+    FILL_SIZED(outcome);
+    check_answer(GOZDRIT_OK, gozdrit_feedback(s, lent, length, &outcome), "gozdrit_feedback", file, line);
+    check_answer(expected.kind, outcome.kind, "the kind of an outcome", file, line);
+    check_answer(expected.refusal, outcome.refusal, "the refusal of an outcome", file, line);
+    check(expected.queued == outcome.queued && outcome.size == sizeof outcome, "what is to be retransmitted", file, line);
+    check(expected.nacks == outcome.nacks && expected.other_nacks == outcome.other_nacks, "the NACKs of an outcome", file,
+          line);
+    check(expected.nacked == outcome.nacked && expected.not_in_history == outcome.not_in_history
+              && expected.exhausted == outcome.exhausted,
+          "the numbers of an outcome", file, line);
     free(lent);
 }
 
 static bool is_plain(const gozdrit_header *h) {
-    return h->timestamp == 0 && h->marker == 0 && h->source_count == 0 && h->has_extension == 0 && h->word_count == 0
-           && UNTOUCHED(h->profile) && UNTOUCHED(h->sources) && UNTOUCHED(h->words);
+    return h->timestamp == 0 && h->marker == 0 && h->csrc_count == 0 && h->has_extension == 0 && h->extension_words == 0
+           && UNTOUCHED(h->extension_profile) && UNTOUCHED(h->csrcs) && UNTOUCHED(h->extension);
 }
 
 void plays(const char *file, int line, gozdrit_receiver *r, uint64_t now, uint8_t kind, uint64_t sequence, uint8_t octet) {
     const bool packet = kind == GOZDRIT_PACKET;
     gozdrit_played played;
     uint8_t payload[2];
-    FILL(played);
+    FILL_SIZED(played);
     FILL(payload);
     if (packet) {
         check_answer(GOZDRIT_NO_ROOM, gozdrit_play(r, now, &played, NULL, 0), "gozdrit_play", file, line);
         check_answer(GOZDRIT_NO_ROOM, gozdrit_play(r, now, &played, payload, 0), "gozdrit_play", file, line);
-        check(UNTOUCHED(played) && UNTOUCHED(payload), "what a play without room leaves", file, line);
+        check(UNTOUCHED_SIZED(played) && UNTOUCHED(payload), "what a play without room leaves", file, line);
     }
     if (kind == GOZDRIT_WAIT) check_answer(GOZDRIT_OK, gozdrit_play(r, now, &played, NULL, 0), "gozdrit_play", file, line);
     check_answer(GOZDRIT_OK, gozdrit_play(r, now, &played, payload, packet ? 1 : 2), "gozdrit_play", file, line);
     check_answer(kind, played.kind, "the kind of what was played", file, line);
-    check(kind == GOZDRIT_WAIT ? UNTOUCHED(played.sequence) : played.sequence == sequence, "what was played", file, line);
+    check(played.size == sizeof played
+              && (kind == GOZDRIT_WAIT ? UNTOUCHED(played.sequence) : played.sequence == sequence),
+          "what was played", file, line);
     if (packet) {
         check(played.length == 1 && payload[0] == octet && payload[1] == PATTERN, "the payload", file, line);
         check(is_plain(&played.header), "the header of what was played", file, line);
@@ -79,7 +84,7 @@ void plays(const char *file, int line, gozdrit_receiver *r, uint64_t now, uint8_
 
 void nacks(const char *file, int line, gozdrit_receiver *r, uint64_t now, size_t most, const uint16_t *pairs,
            size_t count) {
-    uint8_t out[GOZDRIT_MAX_NACK + 1], expected[GOZDRIT_MAX_NACK];
+    uint8_t out[GOZDRIT_MAX_NACK_DATAGRAM + 1], expected[GOZDRIT_MAX_NACK_DATAGRAM];
     const size_t room = count > 0 ? write_pairs(expected, 0x33333333, 0x11111111, pairs, count) : 0;
     size_t length;
     FILL(out);
@@ -100,21 +105,23 @@ void nacks(const char *file, int line, gozdrit_receiver *r, uint64_t now, size_t
 state state_of(const gozdrit_receiver *r) {
     state s;
     memset(&s, 0, sizeof s);
+    s.counts.size = sizeof s.counts;
+    s.probes.size = sizeof s.probes;
     ANSWERS(GOZDRIT_OK, gozdrit_next_sequence(r, &s.next));
     ANSWERS(GOZDRIT_OK, gozdrit_highest_sequence(r, &s.highest));
-    ANSWERS(GOZDRIT_OK, gozdrit_rtx_source(r, &s.source));
-    ANSWERS(GOZDRIT_OK, gozdrit_next_moment(r, &s.moment));
+    ANSWERS(GOZDRIT_OK, gozdrit_rtx_ssrc(r, &s.ssrc));
+    ANSWERS(GOZDRIT_OK, gozdrit_next_timeout(r, &s.timeout));
     ANSWERS(GOZDRIT_OK, gozdrit_missing(r, &s.missing));
     ANSWERS(GOZDRIT_OK, gozdrit_receiver_counts(r, &s.counts));
-    ANSWERS(GOZDRIT_OK, gozdrit_receiver_kinds(r, &s.kinds));
+    ANSWERS(GOZDRIT_OK, gozdrit_receiver_probe_counts(r, &s.probes));
     return s;
 }
 
 bool is_same_state(const state *a, const state *b) {
     return a->next.known == b->next.known && a->next.sequence == b->next.sequence
            && a->highest.known == b->highest.known && a->highest.sequence == b->highest.sequence
-           && a->source.known == b->source.known && a->source.ssrc == b->source.ssrc
-           && a->moment.known == b->moment.known && a->moment.moment == b->moment.moment && a->missing == b->missing;
+           && a->ssrc.known == b->ssrc.known && a->ssrc.ssrc == b->ssrc.ssrc
+           && a->timeout.known == b->timeout.known && a->timeout.time == b->timeout.time && a->missing == b->missing;
 }
 
 static bool is_sequence(const gozdrit_sequence *came, uint64_t sequence) {
@@ -135,32 +142,35 @@ void tells(const char *file, int line, const gozdrit_receiver *r, uint64_t next,
     check(count == missing, "how many are missing", file, line);
 }
 
-void calls_at(const char *file, int line, const gozdrit_receiver *r, bool known, uint64_t moment) {
-    gozdrit_moment came;
+void calls_at(const char *file, int line, const gozdrit_receiver *r, bool known, uint64_t time) {
+    gozdrit_timeout came;
     FILL(came);
-    check_answer(GOZDRIT_OK, gozdrit_next_moment(r, &came), "gozdrit_next_moment", file, line);
-    check(came.known == known, "whether there is a next moment", file, line);
-    check(known ? came.moment == moment : UNTOUCHED(came.moment), "the next moment", file, line);
+    check_answer(GOZDRIT_OK, gozdrit_next_timeout(r, &came), "gozdrit_next_timeout", file, line);
+    check(came.known == known, "whether there is a next timeout", file, line);
+    check(known ? came.time == time : UNTOUCHED(came.time), "the next timeout", file, line);
 }
 
 /* The counts have no octets between their fields. */
 bool is_counted(const gozdrit_receiver *r, gozdrit_receive_counts expected) {
     gozdrit_receive_counts counts;
-    FILL(counts);
+    FILL_SIZED(counts);
+    expected.size = sizeof expected;
     ANSWERS(GOZDRIT_OK, gozdrit_receiver_counts(r, &counts));
     return memcmp(&counts, &expected, sizeof counts) == 0;
 }
 
-bool is_told_apart(const gozdrit_receiver *r, gozdrit_receive_kinds expected) {
-    gozdrit_receive_kinds kinds;
-    FILL(kinds);
-    ANSWERS(GOZDRIT_OK, gozdrit_receiver_kinds(r, &kinds));
-    return memcmp(&kinds, &expected, sizeof kinds) == 0;
+bool is_told_apart(const gozdrit_receiver *r, gozdrit_probe_counts expected) {
+    gozdrit_probe_counts counts;
+    FILL_SIZED(counts);
+    expected.size = sizeof expected;
+    ANSWERS(GOZDRIT_OK, gozdrit_receiver_probe_counts(r, &counts));
+    return memcmp(&counts, &expected, sizeof counts) == 0;
 }
 
 bool is_counted_sent(const gozdrit_sender *s, gozdrit_send_counts expected) {
     gozdrit_send_counts counts;
-    FILL(counts);
+    FILL_SIZED(counts);
+    expected.size = sizeof expected;
     ANSWERS(GOZDRIT_OK, gozdrit_sender_counts(s, &counts));
     return memcmp(&counts, &expected, sizeof counts) == 0;
 }

@@ -3,7 +3,8 @@
 
 /* It keeps 4 packets, retransmits each twice at most, and starts at 131071, whose number is 65535. */
 static const gozdrit_sender_config CONFIG = {
-    .session = SESSION, .history = 4, .first = 65535, .rtx_first = 7, .repeats = 2};
+    .size = sizeof(gozdrit_sender_config), .session = SESSION, .history = 4, .first_sequence = 65535,
+    .rtx_first_sequence = 7, .max_retransmissions = 2};
 static const gozdrit_sender NONE = {NULL, 0};
 
 /* A sender of so many packets: the first has everything, and the others a payload of one octet. */
@@ -13,12 +14,12 @@ static gozdrit_sender sender_of(const gozdrit_sender_config *config, int packets
     static const uint8_t payload[3] = {0xd1, 0xd2, 0xd3};
     uint8_t out[GOZDRIT_MAX_DATAGRAM];
     gozdrit_sender sender = NONE;
-    gozdrit_sent sent;
+    gozdrit_sent sent = GOZDRIT_SENT_INIT;
     ANSWERS(GOZDRIT_OK, gozdrit_sender_new(config, &sender));
     for (int i = 0; i < packets; i++) {
         if (i == 0) ANSWERS(GOZDRIT_OK, gozdrit_send(&sender, &full, payload, 3, 4, &sent, out, sizeof out));
         else ANSWERS(GOZDRIT_OK, gozdrit_send(&sender, &plain, payload, 1, 0, &sent, out, sizeof out));
-        CHECK(sent.sequence == 65536 + (uint64_t)config->first + (uint64_t)i);
+        CHECK(sent.sequence == 65536 + (uint64_t)config->first_sequence + (uint64_t)i);
     }
     return sender;
 }
@@ -28,10 +29,10 @@ static void repeats_nothing(gozdrit_sender *sender) {
     uint8_t out[GOZDRIT_MAX_DATAGRAM];
     gozdrit_sent sent;
     FILL(out);
-    FILL(sent);
+    FILL_SIZED(sent);
     ANSWERS(GOZDRIT_OK, gozdrit_retransmit(sender, &sent, NULL, 0));
     CHECK(sent.length == 0 && UNTOUCHED(sent.sequence));
-    FILL(sent);
+    FILL_SIZED(sent);
     ANSWERS(GOZDRIT_OK, gozdrit_retransmit(sender, &sent, out, sizeof out));
     CHECK(sent.length == 0 && UNTOUCHED(sent.sequence) && UNTOUCHED(out));
 }
@@ -41,10 +42,10 @@ static void repeats(gozdrit_sender *sender, uint64_t sequence, const uint8_t *oc
     uint8_t out[GOZDRIT_MAX_DATAGRAM];
     gozdrit_sent sent;
     FILL(out);
-    FILL(sent);
+    FILL_SIZED(sent);
     ANSWERS(GOZDRIT_NO_ROOM, gozdrit_retransmit(sender, &sent, NULL, 0));
     ANSWERS(GOZDRIT_NO_ROOM, gozdrit_retransmit(sender, &sent, out, length - 1));
-    CHECK(UNTOUCHED(sent) && UNTOUCHED(out));
+    CHECK(UNTOUCHED_SIZED(sent) && UNTOUCHED(out));
     ANSWERS(GOZDRIT_OK, gozdrit_retransmit(sender, &sent, out, room));
     CHECK(sent.sequence == sequence && sent.length == length);
     CHECK(memcmp(out, octets, length) == 0 && is_pattern(out + length, sizeof out - length));
@@ -57,7 +58,7 @@ static void repeats_plain(gozdrit_sender *sender, uint64_t sequence, uint8_t num
     repeats(sender, sequence, octets, sizeof octets, GOZDRIT_MAX_DATAGRAM);
 }
 
-/* Feedback that is refused, each by its number. Nothing is marked by it, and it is counted. */
+/* Feedback that is refused, each by its number. Nothing is to be retransmitted by it, and it is counted. */
 static void test_refused(void) {
     static const struct {
         uint8_t octets[32];
@@ -111,7 +112,7 @@ static void test_passed(void) {
     };
     gozdrit_sender sender = sender_of(&CONFIG, 1);
     for (size_t i = 0; i < sizeof rows / sizeof *rows; i++) {
-        TOLD(&sender, rows[i].octets, rows[i].length, (gozdrit_told){.kind = rows[i].kind});
+        TOLD(&sender, rows[i].octets, rows[i].length, (gozdrit_outcome){.kind = rows[i].kind});
     }
     CHECK(is_counted_sent(&sender, (gozdrit_send_counts){.sent = 1, .octets = 3, .media = 5, .reports = 6}));
     repeats_nothing(&sender);
@@ -127,18 +128,18 @@ static void test_retransmissions(void) {
     uint8_t nack[NACK_LENGTH];
     write_nack(nack, 0x33333333, 0x11111111, 65535, 1);
     for (uint8_t i = 0; i < 2; i++) {
-        TOLD(&sender, nack, sizeof nack, (gozdrit_told){.kind = GOZDRIT_FEEDBACK, .marked = 2, .nacks = 1, .numbers = 2});
-        TOLD(&sender, nack, sizeof nack, (gozdrit_told){.kind = GOZDRIT_FEEDBACK, .nacks = 1, .numbers = 2});
+        TOLD(&sender, nack, sizeof nack, (gozdrit_outcome){.kind = GOZDRIT_FEEDBACK, .queued = 2, .nacks = 1, .nacked = 2});
+        TOLD(&sender, nack, sizeof nack, (gozdrit_outcome){.kind = GOZDRIT_FEEDBACK, .nacks = 1, .nacked = 2});
         full[3] = (uint8_t)(7 + 2 * i);
         repeats(&sender, 131071, full, sizeof full, sizeof full);
         repeats_plain(&sender, 131072, (uint8_t)(8 + 2 * i));
         repeats_nothing(&sender);
     }
     TOLD(&sender, nack, sizeof nack,
-         (gozdrit_told){.kind = GOZDRIT_FEEDBACK, .nacks = 1, .numbers = 2, .exhausted = 2});
+         (gozdrit_outcome){.kind = GOZDRIT_FEEDBACK, .nacks = 1, .nacked = 2, .exhausted = 2});
     repeats_nothing(&sender);
     CHECK(is_counted_sent(&sender, (gozdrit_send_counts){.sent = 2, .octets = 4, .retransmissions = 4, .nacks = 5,
-                                                         .numbers = 10, .exhausted = 2}));
+                                                         .nacked = 10, .exhausted = 2}));
     ANSWERS(GOZDRIT_OK, gozdrit_sender_free(&sender));
 }
 
@@ -149,7 +150,7 @@ static void test_history(void) {
     uint8_t nack[12 + 12];
     /* 65535 to 15, of which 0 to 3 are there, and 2 is named three times */
     TOLD(&sender, nack, write_pairs(nack, 0x33333333, 0x11111111, pairs, 3),
-         (gozdrit_told){.kind = GOZDRIT_FEEDBACK, .marked = 4, .nacks = 1, .numbers = 19, .unknown = 13});
+         (gozdrit_outcome){.kind = GOZDRIT_FEEDBACK, .queued = 4, .nacks = 1, .nacked = 19, .not_in_history = 13});
     for (uint64_t sequence = 131072; sequence <= 131075; sequence++) {
         repeats_plain(&sender, sequence, (uint8_t)(sequence - 131065));
     }
@@ -171,53 +172,53 @@ static void test_shared(void) {
     write_nack(at + 2 * NACK_LENGTH, 0x33333333, 0x11111111, 0, 1);
     write_nack(at + 3 * NACK_LENGTH, 0x33333333, 0x11111111, 0, 0);
     TOLD(&sender, octets, sizeof octets,
-         (gozdrit_told){.kind = GOZDRIT_FEEDBACK, .marked = 2, .nacks = 2, .others = 2, .numbers = 3});
+         (gozdrit_outcome){.kind = GOZDRIT_FEEDBACK, .queued = 2, .nacks = 2, .other_nacks = 2, .nacked = 3});
     TOLD(&hears_all, octets, sizeof octets,
-         (gozdrit_told){.kind = GOZDRIT_FEEDBACK, .marked = 3, .nacks = 3, .others = 1, .numbers = 4});
+         (gozdrit_outcome){.kind = GOZDRIT_FEEDBACK, .queued = 3, .nacks = 3, .other_nacks = 1, .nacked = 4});
     repeats_plain(&sender, 131072, 7);
     repeats_plain(&sender, 131073, 8);
     repeats_nothing(&sender);
     CHECK(is_counted_sent(&sender, (gozdrit_send_counts){.sent = 3, .octets = 5, .retransmissions = 2, .nacks = 2,
-                                                         .others = 2, .numbers = 3}));
+                                                         .other_nacks = 2, .nacked = 3}));
     /* none of the first two is this sender's; to the other one the second is */
     TOLD(&sender, octets, sizeof report + NACK_LENGTH, NOT_TOLD(GOZDRIT_WRONG_MEDIA));
     TOLD(&sender, at + NACK_LENGTH, NACK_LENGTH, NOT_TOLD(GOZDRIT_WRONG_REPORTER));
     TOLD(&hears_all, octets, sizeof report + NACK_LENGTH, NOT_TOLD(GOZDRIT_WRONG_MEDIA));
     TOLD(&hears_all, at + NACK_LENGTH, NACK_LENGTH,
-         (gozdrit_told){.kind = GOZDRIT_FEEDBACK, .nacks = 1, .numbers = 1});
+         (gozdrit_outcome){.kind = GOZDRIT_FEEDBACK, .nacks = 1, .nacked = 1});
     ANSWERS(GOZDRIT_OK, gozdrit_sender_free(&sender));
     ANSWERS(GOZDRIT_OK, gozdrit_sender_free(&hears_all));
 }
 
-static void marks_last(gozdrit_sender *sender, uint32_t expected) {
-    uint32_t marked;
-    FILL(marked);
-    ANSWERS(GOZDRIT_OK, gozdrit_mark_last(sender, &marked));
-    CHECK(marked == expected);
+static void probes(gozdrit_sender *sender, uint32_t expected) {
+    uint32_t queued;
+    FILL(queued);
+    ANSWERS(GOZDRIT_OK, gozdrit_tail_loss_probe(sender, &queued));
+    CHECK(queued == expected);
 }
 
-/* The newest packet is marked as a NACK would mark it, and as often; it is no NACK to the counts. */
-static void test_mark_last(void) {
+/* The newest packet is retransmitted as if a NACK had named it, and as often; it is no NACK to the counts. */
+static void test_tail_loss_probe(void) {
     gozdrit_sender sender = sender_of(&CONFIG, 0);
     uint8_t nack[NACK_LENGTH];
-    marks_last(&sender, 0);
+    probes(&sender, 0);
     repeats_nothing(&sender);
     ANSWERS(GOZDRIT_OK, gozdrit_sender_free(&sender));
     sender = sender_of(&CONFIG, 2);
     write_nack(nack, 0x33333333, 0x11111111, 0, 0);
-    marks_last(&sender, 1);
-    marks_last(&sender, 0);
-    TOLD(&sender, nack, sizeof nack, (gozdrit_told){.kind = GOZDRIT_FEEDBACK, .nacks = 1, .numbers = 1});
+    probes(&sender, 1);
+    probes(&sender, 0);
+    TOLD(&sender, nack, sizeof nack, (gozdrit_outcome){.kind = GOZDRIT_FEEDBACK, .nacks = 1, .nacked = 1});
     repeats_plain(&sender, 131072, 7);
     repeats_nothing(&sender);
-    TOLD(&sender, nack, sizeof nack, (gozdrit_told){.kind = GOZDRIT_FEEDBACK, .marked = 1, .nacks = 1, .numbers = 1});
-    marks_last(&sender, 0);
+    TOLD(&sender, nack, sizeof nack, (gozdrit_outcome){.kind = GOZDRIT_FEEDBACK, .queued = 1, .nacks = 1, .nacked = 1});
+    probes(&sender, 0);
     repeats_plain(&sender, 131072, 8);
-    marks_last(&sender, 0); /* it was retransmitted twice */
-    TOLD(&sender, nack, sizeof nack, (gozdrit_told){.kind = GOZDRIT_FEEDBACK, .nacks = 1, .numbers = 1, .exhausted = 1});
+    probes(&sender, 0); /* it was retransmitted twice */
+    TOLD(&sender, nack, sizeof nack, (gozdrit_outcome){.kind = GOZDRIT_FEEDBACK, .nacks = 1, .nacked = 1, .exhausted = 1});
     repeats_nothing(&sender);
     CHECK(is_counted_sent(&sender, (gozdrit_send_counts){.sent = 2, .octets = 4, .retransmissions = 2, .nacks = 3,
-                                                         .numbers = 3, .exhausted = 1}));
+                                                         .nacked = 3, .exhausted = 1}));
     ANSWERS(GOZDRIT_OK, gozdrit_sender_free(&sender));
 }
 
@@ -227,5 +228,5 @@ void test_feedback(void) {
     test_retransmissions();
     test_history();
     test_shared();
-    test_mark_last();
+    test_tail_loss_probe();
 }

@@ -2,7 +2,8 @@
 #include "checks.h"
 
 static const gozdrit_receiver_config CONFIG = {
-    .session = SESSION, .patience = 100, .retry = 20, .window = 16, .nacks = 2};
+    .size = sizeof(gozdrit_receiver_config), .session = SESSION, .latency = 100, .nack_interval = 20, .window = 16,
+    .max_nacks = 2};
 
 /* A receiver that took the packet with this number. */
 static gozdrit_receiver started(const gozdrit_receiver_config *config, uint16_t seq) {
@@ -25,7 +26,7 @@ static void test_ahead(void) {
     TELLS(&r, 68620, 68635, 15);
     HEARS_MEDIA(&r, 6100, 4, RESTARTED(71636, 2, 16));
     TELLS(&r, 71635, 71636, 0);
-    NACKS(&r, 4, GOZDRIT_MOST, NO_PAIR);
+    NACKS(&r, 4, GOZDRIT_MAX_NACKED, NO_PAIR);
     PLAYS(&r, 4, GOZDRIT_PACKET, 71635, (uint8_t)6099);
     PLAYS(&r, 4, GOZDRIT_PACKET, 71636, (uint8_t)6100);
     HEARS_MEDIA(&r, 100, 5, HELD_BACK(1)); /* the numbers of before have jumped now */
@@ -65,7 +66,7 @@ static void test_behind(void) {
 /* A configuration's own numbers, each at its bound, and where ahead ends and behind begins. */
 static void test_numbers(void) {
     gozdrit_receiver_config config = CONFIG;
-    config.max_dropout = 10, config.max_misorder = 5, config.min_ahead = 1, config.min_behind = 3;
+    config.max_dropout = 10, config.max_misorder = 5, config.min_sequential_ahead = 1, config.min_sequential_behind = 3;
     gozdrit_receiver r = started(&config, 100);
     HEARS_MEDIA(&r, 109, 0, MEDIA(65645));
     HEARS_MEDIA(&r, 104, 0, HELD_BACK(1)); /* although it is missing */
@@ -80,9 +81,9 @@ static void test_numbers(void) {
 }
 
 /* A run of three that one more packet ends or leaves: at the end it is believed, or not. */
-static void goes_on(const uint8_t *octets, size_t length, gozdrit_heard expected, bool ends) {
+static void goes_on(const uint8_t *octets, size_t length, gozdrit_received expected, bool ends) {
     gozdrit_receiver_config config = CONFIG;
-    config.min_ahead = 3;
+    config.min_sequential_ahead = 3;
     gozdrit_receiver r = started(&config, 100);
     HEARS_MEDIA(&r, 102, 0, MEDIA(65638));
     HEARS_MEDIA(&r, 5000, 0, HELD_BACK(1));
@@ -104,10 +105,10 @@ static void test_runs(void) {
     goes_on(packet, write_rtp(packet, 96, 5002, 0x11111111, zeros, sizeof zeros), NOT_HEARD(GOZDRIT_TOO_LONG), true);
     goes_on(packet, write_rtp(packet, 97, 5002, 0x22222222, "\0\145b", 3), RETRANSMITTED(65637), false);
     goes_on(packet, write_rtp(packet, 97, 5002, 0x22222222, "\0\1b", 3), NOT_HEARD(GOZDRIT_LATE), false);
-    goes_on(packet, write_rtp(packet, 96, 5002, 0x44444444, "a", 1), NOT_HEARD(GOZDRIT_UNKNOWN_SOURCE), false);
-    goes_on(packet, write_rtp(packet, 98, 5002, 0x11111111, "a", 1), NOT_HEARD(GOZDRIT_UNKNOWN_TYPE), false);
+    goes_on(packet, write_rtp(packet, 96, 5002, 0x44444444, "a", 1), NOT_HEARD(GOZDRIT_UNKNOWN_SSRC), false);
+    goes_on(packet, write_rtp(packet, 98, 5002, 0x11111111, "a", 1), NOT_HEARD(GOZDRIT_UNKNOWN_PAYLOAD_TYPE), false);
     goes_on(packet, 11, NOT_HEARD(GOZDRIT_RTP_SHORT), false);
-    goes_on(rtcp, sizeof rtcp, (gozdrit_heard){.kind = GOZDRIT_RTCP}, false);
+    goes_on(rtcp, sizeof rtcp, (gozdrit_received){.kind = GOZDRIT_RTCP}, false);
 }
 
 /* A packet that comes twice begins the run anew, and is in it once. */
@@ -123,29 +124,29 @@ static void test_twice(void) {
 /* A run of more than the window keeps: its last packets are what is left of it, and its own losses are not counted. */
 static void test_long_run(void) {
     gozdrit_receiver_config config = CONFIG;
-    config.min_ahead = 20;
+    config.min_sequential_ahead = 20;
     gozdrit_receiver r = started(&config, 100);
     for (uint16_t i = 0; i < 19; i++) HEARS_MEDIA(&r, (uint16_t)(5000 + i), 0, HELD_BACK(i + 1u));
     HEARS_MEDIA(&r, 5019, 0,
-                (gozdrit_heard){
-                    .kind = GOZDRIT_RESTARTED, .sequence = 70555, .overrun = 1, .abandoned = 1, .held = 20});
+                (gozdrit_received){
+                    .kind = GOZDRIT_RESTARTED, .sequence = 70555, .overrun = 1, .abandoned = 1, .held_back = 20});
     TELLS(&r, 70540, 70555, 0);
     CHECK(is_counted(&r, (gozdrit_receive_counts){.media = 1, .held_back = 19, .restarts = 1, .overrun = 1,
                                                   .abandoned = 1}));
     ANSWERS(GOZDRIT_OK, gozdrit_receiver_free(&r));
 }
 
-/* What is held back comes with its moments, and with the times of now. */
-static void test_moments(void) {
+/* What is held back comes with the times at which it came; the latency and the times of NACKs are those of now. */
+static void test_held_times(void) {
     gozdrit_receiver_config config = CONFIG;
-    config.min_ahead = 2;
+    config.min_sequential_ahead = 2;
     gozdrit_receiver r = started(&config, 100);
     ANSWERS(GOZDRIT_OK, gozdrit_set_times(&r, 50, 9, 20));
     HEARS_MEDIA(&r, 5000, 10, HELD_BACK(1));
     HEARS_MEDIA(&r, 5001, 20, RESTARTED(70537, 2, 1));
     HEARS_MEDIA(&r, 5003, 30, MEDIA(70539));
-    NACKS(&r, 38, GOZDRIT_MOST, NO_PAIR);
-    NACKS(&r, 39, GOZDRIT_MOST, PAIR(5002, 0));
+    NACKS(&r, 38, GOZDRIT_MAX_NACKED, NO_PAIR);
+    NACKS(&r, 39, GOZDRIT_MAX_NACKED, PAIR(5002, 0));
     PLAYS(&r, 39, GOZDRIT_PACKET, 70536, (uint8_t)5000);
     PLAYS(&r, 39, GOZDRIT_PACKET, 70537, (uint8_t)5001);
     PLAYS(&r, 79, GOZDRIT_WAIT, 0, 0);
@@ -160,10 +161,10 @@ static void test_rtcp(void) {
     static const uint8_t low[12] = {0x80, 191, 0, 1, 0, 0, 0, 0, 0x11, 0x11, 0x11, 0x11};
     gozdrit_receiver r = {NULL, 0};
     ANSWERS(GOZDRIT_OK, gozdrit_receiver_new(&CONFIG, &r));
-    for (size_t i = 0; i < 4; i++) HEARS(&r, octets[i], 4, 0, (gozdrit_heard){.kind = GOZDRIT_RTCP});
-    HEARS(&r, octets[1], 2, 0, (gozdrit_heard){.kind = GOZDRIT_RTCP});
+    for (size_t i = 0; i < 4; i++) HEARS(&r, octets[i], 4, 0, (gozdrit_received){.kind = GOZDRIT_RTCP});
+    HEARS(&r, octets[1], 2, 0, (gozdrit_received){.kind = GOZDRIT_RTCP});
     HEARS(&r, octets[1], 1, 0, NOT_HEARD(GOZDRIT_RTP_SHORT));
-    HEARS(&r, low, sizeof low, 0, NOT_HEARD(GOZDRIT_UNKNOWN_TYPE));
+    HEARS(&r, low, sizeof low, 0, NOT_HEARD(GOZDRIT_UNKNOWN_PAYLOAD_TYPE));
     HEARS(&r, rtp, sizeof rtp, 0, MEDIA(65537));
     CHECK(is_counted(&r, (gozdrit_receive_counts){.media = 1, .rtcp = 5, .refused = 2}));
     ANSWERS(GOZDRIT_OK, gozdrit_receiver_free(&r));
@@ -176,6 +177,7 @@ static void test_all_padding(void) {
     static const uint8_t repair[15] = {0xa0, 97, 0, 1, 0, 0, 0, 0, 0x22, 0x22, 0x22, 0x22, 0, 0, 3};
     gozdrit_receiver r = {NULL, 0};
     gozdrit_played played;
+    FILL_SIZED(played);
     ANSWERS(GOZDRIT_OK, gozdrit_receiver_new(&CONFIG, &r));
     HEARS(&r, packet, sizeof packet, 0, MEDIA(65636));
     HEARS(&r, more, sizeof more, 0, NOT_HEARD(GOZDRIT_RTP_PADDING));
@@ -195,30 +197,32 @@ static void test_counts(void) {
     HEARS_RTX(&r, 0x22222222, 101, 0, NOT_HEARD(GOZDRIT_DUPLICATE));
     HEARS_MEDIA(&r, 103, 0, NOT_HEARD(GOZDRIT_DUPLICATE));
     HEARS_MEDIA(&r, 90, 0, NOT_HEARD(GOZDRIT_LATE));
-    HEARS_MEDIA(&r, 19000, 0, NOT_HEARD(GOZDRIT_FAR));
-    HEARS_RTX(&r, 0x22222222, 19000, 0, NOT_HEARD(GOZDRIT_FAR));
-    HEARS_RTX(&r, 0x44444444, 102, 0, NOT_HEARD(GOZDRIT_UNKNOWN_SOURCE));
-    NACKS(&r, 0, GOZDRIT_MOST, PAIR(102, 0));
-    NACKS(&r, 20, GOZDRIT_MOST, PAIR(102, 0));
+    HEARS_MEDIA(&r, 19000, 0, NOT_HEARD(GOZDRIT_TOO_FAR));
+    HEARS_RTX(&r, 0x22222222, 19000, 0, NOT_HEARD(GOZDRIT_TOO_FAR));
+    HEARS_RTX(&r, 0x44444444, 102, 0, NOT_HEARD(GOZDRIT_UNKNOWN_SSRC));
+    NACKS(&r, 0, GOZDRIT_MAX_NACKED, PAIR(102, 0));
+    NACKS(&r, 20, GOZDRIT_MAX_NACKED, PAIR(102, 0));
     PLAYS(&r, 0, GOZDRIT_PACKET, 65636, 100);
     PLAYS(&r, 0, GOZDRIT_PACKET, 65637, 101);
     PLAYS(&r, 0, GOZDRIT_WAIT, 0, 0);
     PLAYS(&r, 100, GOZDRIT_GAP, 65638, 0);
     HEARS_MEDIA(&r, 120, 100, OVERRUNS(65656, 2)); /* 103 was held, and 104 is missing */
-    HEARS_RTX(&r, 0x22222222, 140, 100, (gozdrit_heard){.kind = GOZDRIT_RETRANSMISSION, .sequence = 65676, .overrun = 20});
+    HEARS_RTX(&r, 0x22222222, 140, 100,
+              (gozdrit_received){.kind = GOZDRIT_RETRANSMISSION, .sequence = 65676, .overrun = 20});
     HEARS_MEDIA(&r, 30000, 100, HELD_BACK(1));
     HEARS_MEDIA(&r, 30001, 100, RESTARTED(95537, 2, 16));
     CHECK(is_counted(&r, (gozdrit_receive_counts){.media = 3, .retransmissions = 2, .held_back = 1, .restarts = 1,
-                                                  .duplicate = 2, .late = 1, .far = 2, .refused = 1, .overrun = 22,
+                                                  .duplicate = 2, .late = 1, .too_far = 2, .refused = 1, .overrun = 22,
                                                   .abandoned = 16, .played = 2, .gaps = 1, .nacks = 2, .nacked = 2}));
     ANSWERS(GOZDRIT_OK, gozdrit_receiver_free(&r));
 }
 
-/* With a silence neither losses nor reordering end what is held back, a packet of the living stream does, and two are enough once
- * none of it was taken for so long. Else four are, ahead and behind alike. */
-static void test_silence(void) {
+/* With a time after which the stream is idle neither losses nor reordering end what is held back, a packet of the living
+ * stream does, and two are enough once none of it was taken for so long. Else four are, ahead and behind alike. */
+static void test_idle(void) {
     gozdrit_receiver_config config = CONFIG;
-    config.max_dropout = 10, config.max_misorder = 5, config.min_ahead = 2, config.min_behind = 4, config.silence = 200;
+    config.max_dropout = 10, config.max_misorder = 5, config.idle_after = 200;
+    config.min_sequential_ahead = 2, config.min_sequential_behind = 4;
     gozdrit_receiver r = started(&config, 100);
     HEARS_MEDIA(&r, 50000, 10, HELD_BACK(1));
     HEARS_MEDIA(&r, 50002, 20, HELD_BACK(2));
@@ -245,9 +249,9 @@ void test_jumps(void) {
     test_runs();
     test_twice();
     test_long_run();
-    test_moments();
+    test_held_times();
     test_rtcp();
     test_all_padding();
     test_counts();
-    test_silence();
+    test_idle();
 }

@@ -1,13 +1,14 @@
-/* What a sender sends that no NACK asked for is told apart: padding, and retransmissions by which it probes for bandwidth. */
+/* What a sender sends that no NACK asked for is told apart: padding, and retransmissions that probe for bandwidth. */
 #include "checks.h"
 
 static const gozdrit_receiver_config CONFIG = {
-    .session = SESSION, .patience = 100, .retry = 20, .window = 4, .nacks = 2};
+    .size = sizeof(gozdrit_receiver_config), .session = SESSION, .latency = 100, .nack_interval = 20, .window = 4,
+    .max_nacks = 2};
 
 static gozdrit_receiver receiver_of(void) {
     gozdrit_receiver r = {NULL, 0};
     ANSWERS(GOZDRIT_OK, gozdrit_receiver_new(&CONFIG, &r));
-    CHECK(is_told_apart(&r, (gozdrit_receive_kinds){.padding = 0}));
+    CHECK(is_told_apart(&r, (gozdrit_probe_counts){.padding = 0}));
     return r;
 }
 
@@ -21,31 +22,31 @@ static void test_padding(void) {
     HEARS(&r, probe, sizeof probe, 0, NOT_HEARD(GOZDRIT_NO_OSN));
     HEARS(&r, probe, sizeof probe, 0, NOT_HEARD(GOZDRIT_NO_OSN));
     HEARS(&r, cut, sizeof cut, 0, NOT_HEARD(GOZDRIT_NO_OSN));
-    HEARS(&r, strange, sizeof strange, 0, NOT_HEARD(GOZDRIT_UNKNOWN_SOURCE));
-    CHECK(is_told_apart(&r, (gozdrit_receive_kinds){.padding = 2, .refused = 2}));
+    HEARS(&r, strange, sizeof strange, 0, NOT_HEARD(GOZDRIT_UNKNOWN_SSRC));
+    CHECK(is_told_apart(&r, (gozdrit_probe_counts){.padding = 2, .refused = 2}));
     CHECK(is_counted(&r, (gozdrit_receive_counts){.media = 1, .refused = 4}));
     ANSWERS(GOZDRIT_OK, gozdrit_receiver_free(&r));
 }
 
-/* 101 is asked for, given up, and answered then; 100 and 102 were not asked for. A restart leaves what was asked for. */
+/* 101 is asked for, given up, and answered then; 100 and 102 were not asked for. A reset leaves what was asked for. */
 static void test_asked(void) {
     gozdrit_receiver r = receiver_of();
     HEARS_MEDIA(&r, 100, 0, MEDIA(65636));
     HEARS_MEDIA(&r, 102, 0, MEDIA(65638));
-    NACKS(&r, 0, GOZDRIT_MOST, PAIR(101, 0));
+    NACKS(&r, 0, GOZDRIT_MAX_NACKED, PAIR(101, 0));
     HEARS_RTX(&r, 0x22222222, 102, 1, NOT_HEARD(GOZDRIT_DUPLICATE));
     HEARS_MEDIA(&r, 102, 1, NOT_HEARD(GOZDRIT_DUPLICATE));
     PLAYS(&r, 100, GOZDRIT_PACKET, 65636, 100);
     PLAYS(&r, 100, GOZDRIT_GAP, 65637, 0);
     HEARS_RTX(&r, 0x22222222, 101, 101, NOT_HEARD(GOZDRIT_LATE));
     HEARS_RTX(&r, 0x22222222, 100, 101, NOT_HEARD(GOZDRIT_LATE));
-    CHECK(is_told_apart(&r, (gozdrit_receive_kinds){.unasked = 2, .duplicate = 1, .late = 1}));
+    CHECK(is_told_apart(&r, (gozdrit_probe_counts){.unrequested = 2, .duplicate = 1, .late = 1}));
     CHECK(is_counted(&r, (gozdrit_receive_counts){.media = 2, .duplicate = 2, .late = 2, .played = 1, .gaps = 1, .nacks = 1,
                                                   .nacked = 1}));
-    ANSWERS(GOZDRIT_OK, gozdrit_restart(&r));
+    ANSWERS(GOZDRIT_OK, gozdrit_reset(&r));
     HEARS_MEDIA(&r, 101, 200, MEDIA(65637));
     HEARS_RTX(&r, 0x22222222, 101, 200, NOT_HEARD(GOZDRIT_DUPLICATE));
-    CHECK(is_told_apart(&r, (gozdrit_receive_kinds){.unasked = 3, .duplicate = 1, .late = 1}));
+    CHECK(is_told_apart(&r, (gozdrit_probe_counts){.unrequested = 3, .duplicate = 1, .late = 1}));
     ANSWERS(GOZDRIT_OK, gozdrit_receiver_free(&r));
 }
 
@@ -54,7 +55,7 @@ static void test_forgotten(void) {
     gozdrit_receiver r = receiver_of();
     HEARS_MEDIA(&r, 100, 0, MEDIA(65636));
     HEARS_MEDIA(&r, 102, 0, MEDIA(65638));
-    NACKS(&r, 0, GOZDRIT_MOST, PAIR(101, 0));
+    NACKS(&r, 0, GOZDRIT_MAX_NACKED, PAIR(101, 0));
     PLAYS(&r, 100, GOZDRIT_PACKET, 65636, 100);
     PLAYS(&r, 100, GOZDRIT_GAP, 65637, 0);
     PLAYS(&r, 100, GOZDRIT_PACKET, 65638, 102);
@@ -62,11 +63,11 @@ static void test_forgotten(void) {
     HEARS_MEDIA(&r, 104, 100, MEDIA(65640));
     HEARS_MEDIA(&r, 106, 100, MEDIA(65642));
     HEARS_RTX(&r, 0x22222222, 101, 100, NOT_HEARD(GOZDRIT_LATE));
-    NACKS(&r, 100, GOZDRIT_MOST, PAIR(105, 0));
+    NACKS(&r, 100, GOZDRIT_MAX_NACKED, PAIR(105, 0));
     HEARS_RTX(&r, 0x22222222, 101, 101, NOT_HEARD(GOZDRIT_LATE));
     HEARS_RTX(&r, 0x22222222, 105, 101, RETRANSMITTED(65641));
     HEARS_RTX(&r, 0x22222222, 105, 101, NOT_HEARD(GOZDRIT_DUPLICATE));
-    CHECK(is_told_apart(&r, (gozdrit_receive_kinds){.unasked = 1, .duplicate = 1, .late = 1}));
+    CHECK(is_told_apart(&r, (gozdrit_probe_counts){.unrequested = 1, .duplicate = 1, .late = 1}));
     ANSWERS(GOZDRIT_OK, gozdrit_receiver_free(&r));
 }
 

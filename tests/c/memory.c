@@ -45,32 +45,32 @@ static void use_sender(gozdrit_sender *sender) {
     static const gozdrit_header header = {.timestamp = 0};
     static const uint8_t payload[GOZDRIT_MAX_PAYLOAD];
     uint8_t out[GOZDRIT_MAX_DATAGRAM], nack[NACK_LENGTH];
-    gozdrit_sent sent;
-    gozdrit_told told;
-    gozdrit_send_counts counts;
-    uint32_t marked;
+    gozdrit_sent sent = GOZDRIT_SENT_INIT;
+    gozdrit_outcome outcome = GOZDRIT_OUTCOME_INIT;
+    gozdrit_send_counts counts = GOZDRIT_SEND_COUNTS_INIT;
+    uint32_t queued;
     write_nack(nack, 0x33333333, 0x11111111, 50, 0xffff);
     for (int i = 0; i < 100; i++) {
         ANSWERS(GOZDRIT_OK, gozdrit_send(sender, &header, payload, sizeof payload, 0, &sent, out, sizeof out));
     }
-    ANSWERS(GOZDRIT_OK, gozdrit_feedback(sender, nack, sizeof nack, &told));
-    CHECK(told.marked == 17);
+    ANSWERS(GOZDRIT_OK, gozdrit_feedback(sender, nack, sizeof nack, &outcome));
+    CHECK(outcome.queued == 17);
     ANSWERS(GOZDRIT_OK, gozdrit_retransmit(sender, &sent, out, sizeof out));
-    ANSWERS(GOZDRIT_OK, gozdrit_mark_last(sender, &marked));
-    CHECK(marked == 1);
+    ANSWERS(GOZDRIT_OK, gozdrit_tail_loss_probe(sender, &queued));
+    CHECK(queued == 1);
     ANSWERS(GOZDRIT_OK, gozdrit_sender_counts(sender, &counts));
     CHECK(counts.sent == 100 && counts.retransmissions == 1);
 }
 
-/* What comes to a receiver at a moment, and what it does then. */
+/* What comes to a receiver at a time, and what it does then. */
 static void use_at(gozdrit_receiver *receiver, uint16_t seq, uint64_t now, uint8_t kind) {
     uint8_t out[GOZDRIT_MAX_DATAGRAM], payload[GOZDRIT_MAX_PAYLOAD] = {0};
-    gozdrit_heard heard;
-    gozdrit_played played;
+    gozdrit_received received = GOZDRIT_RECEIVED_INIT;
+    gozdrit_played played = GOZDRIT_PLAYED_INIT;
     size_t length = write_rtp(out, 96, seq, 0x11111111, payload, sizeof payload);
-    ANSWERS(GOZDRIT_OK, gozdrit_receive(receiver, out, length, now, &heard));
-    CHECK(heard.kind == kind);
-    ANSWERS(GOZDRIT_OK, gozdrit_nack(receiver, now, GOZDRIT_MOST, &length, out, sizeof out));
+    ANSWERS(GOZDRIT_OK, gozdrit_receive(receiver, out, length, now, &received));
+    CHECK(received.kind == kind);
+    ANSWERS(GOZDRIT_OK, gozdrit_nack(receiver, now, GOZDRIT_MAX_NACKED, &length, out, sizeof out));
     ANSWERS(GOZDRIT_OK, gozdrit_play(receiver, now, &played, payload, sizeof payload));
 }
 
@@ -82,10 +82,10 @@ static void use_receiver(gozdrit_receiver *receiver) {
     use_at(receiver, 9000, 100, GOZDRIT_HELD_BACK);
     use_at(receiver, 9001, 100, GOZDRIT_RESTARTED);
     for (uint16_t i = 0; i < 100; i++) use_at(receiver, (uint16_t)(9002 + 7 * i), 100u + i, GOZDRIT_MEDIA);
-    const state told = state_of(receiver);
-    CHECK(told.next.known && told.highest.known && told.moment.known && told.missing > 0);
-    CHECK(told.counts.media == 200 && told.counts.restarts == 1);
-    ANSWERS(GOZDRIT_OK, gozdrit_restart(receiver));
+    const state came = state_of(receiver);
+    CHECK(came.next.known && came.highest.known && came.timeout.known && came.missing > 0);
+    CHECK(came.counts.media == 200 && came.counts.restarts == 1);
+    ANSWERS(GOZDRIT_OK, gozdrit_reset(receiver));
     use_at(receiver, 1, 0, GOZDRIT_MEDIA);
 }
 
@@ -97,8 +97,8 @@ static void test_calls_without_end(void) {
     gozdrit_packet packet = {.payload_type = 96};
     uint8_t out[64];
     size_t length;
-    ANSWERS(GOZDRIT_OK, gozdrit_sender_defaults(&sending));
-    ANSWERS(GOZDRIT_OK, gozdrit_receiver_defaults(&receiving));
+    ANSWERS(GOZDRIT_OK, gozdrit_sender_defaults(&sending, sizeof sending));
+    ANSWERS(GOZDRIT_OK, gozdrit_receiver_defaults(&receiving, sizeof receiving));
     ANSWERS(GOZDRIT_OK, gozdrit_rtp_write(&packet, NULL, 0, &length, out, sizeof out));
     ANSWERS(GOZDRIT_OK, gozdrit_rtp_read(out, length, &packet));
     CHECK(gozdrit_version() > 0 && gozdrit_max_payload() > 0);
@@ -106,7 +106,8 @@ static void test_calls_without_end(void) {
 }
 
 static void test_sender_memory(uint32_t history) {
-    const gozdrit_sender_config config = {.session = SESSION, .history = history, .repeats = 1};
+    const gozdrit_sender_config config = {
+        .size = sizeof(gozdrit_sender_config), .session = SESSION, .history = history, .max_retransmissions = 1};
     const long before = held;
     gozdrit_sender sender = {NULL, 0};
     for (long given = 0; !sender.held && given < 100; given++) {
@@ -127,7 +128,8 @@ static void test_sender_memory(uint32_t history) {
 
 static void test_receiver_memory(uint32_t window) {
     const gozdrit_receiver_config config = {
-        .session = SESSION, .patience = 100, .retry = 20, .window = window, .nacks = 2};
+        .size = sizeof(gozdrit_receiver_config), .session = SESSION, .latency = 100, .nack_interval = 20,
+        .window = window, .max_nacks = 2};
     const long before = held;
     gozdrit_receiver receiver = {NULL, 0};
     for (long given = 0; !receiver.held && given < 100; given++) {

@@ -38,12 +38,13 @@ static const struct {
     {51, "BadType"},
     {52, "SameSsrc"},
     {53, "BadLimit"},
-    {71, "NoEnd"},
-    {72, "Held"},
+    {71, "EmptyHandle"},
+    {72, "HandleInUse"},
     {73, "OutOfMemory"},
     {74, "TooLarge"},
     {75, "NoRoom"},
     {76, "Null"},
+    {77, "BadSize"},
 };
 
 /* The row of a number, or null where it has none. */

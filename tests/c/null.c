@@ -4,53 +4,76 @@
 static gozdrit_sender sender = {NULL, 0};
 static gozdrit_receiver receiver = {NULL, 0};
 
-/* What the calls are lent, filled with a pattern. */
-static struct lent {
+typedef struct lent {
     gozdrit_sent sent;
-    gozdrit_heard heard;
-    gozdrit_told told;
+    gozdrit_received received;
+    gozdrit_outcome outcome;
     gozdrit_played played;
-    gozdrit_source source;
+    gozdrit_ssrc ssrc;
     gozdrit_sequence sequence;
-    gozdrit_moment moment;
+    gozdrit_timeout timeout;
     gozdrit_times times;
-    gozdrit_receive_counts received;
-    gozdrit_receive_kinds kinds;
-    gozdrit_send_counts counted;
+    gozdrit_receive_counts receiver_counts;
+    gozdrit_probe_counts probes;
+    gozdrit_send_counts sender_counts;
     gozdrit_packet packet;
     size_t length;
-    uint32_t marked;
+    uint32_t queued;
     uint8_t out[GOZDRIT_MAX_DATAGRAM];
-} l;
+} lent;
+
+static lent l;
+
+/* What the calls are lent: a pattern, and the sizes of the structs that begin with theirs. */
+static void fill(lent *at) {
+    FILL(*at);
+    at->sent.size = sizeof at->sent;
+    at->received.size = sizeof at->received;
+    at->outcome.size = sizeof at->outcome;
+    at->played.size = sizeof at->played;
+    at->times.size = sizeof at->times;
+    at->receiver_counts.size = sizeof at->receiver_counts;
+    at->probes.size = sizeof at->probes;
+    at->sender_counts.size = sizeof at->sender_counts;
+}
+
+/* Whether all of it is as it was filled. */
+static bool is_filled(const lent *at) {
+    lent before;
+    fill(&before);
+    return memcmp(&before, at, sizeof before) == 0;
+}
 
 /* Null comes before a handle that holds no end. */
 static void test_no_end(void) {
     const gozdrit_header header = {.timestamp = 0};
     ANSWERS(GOZDRIT_NULL, gozdrit_send(&sender, &header, NULL, 1, 0, &l.sent, l.out, sizeof l.out));
-    ANSWERS(GOZDRIT_NULL, gozdrit_feedback(&sender, NULL, 1, &l.told));
+    ANSWERS(GOZDRIT_NULL, gozdrit_feedback(&sender, NULL, 1, &l.outcome));
     ANSWERS(GOZDRIT_NULL, gozdrit_retransmit(&sender, NULL, l.out, sizeof l.out));
-    ANSWERS(GOZDRIT_NULL, gozdrit_mark_last(&sender, NULL));
+    ANSWERS(GOZDRIT_NULL, gozdrit_tail_loss_probe(&sender, NULL));
     ANSWERS(GOZDRIT_NULL, gozdrit_sender_counts(&sender, NULL));
-    ANSWERS(GOZDRIT_NULL, gozdrit_receive(&receiver, NULL, 1, 0, &l.heard));
+    ANSWERS(GOZDRIT_NULL, gozdrit_receive(&receiver, NULL, 1, 0, &l.received));
     ANSWERS(GOZDRIT_NULL, gozdrit_play(&receiver, 0, &l.played, NULL, sizeof l.out));
     ANSWERS(GOZDRIT_NULL, gozdrit_nack(&receiver, 0, 1, NULL, l.out, sizeof l.out));
     ANSWERS(GOZDRIT_NULL, gozdrit_missing(&receiver, NULL));
-    ANSWERS(GOZDRIT_NULL, gozdrit_next_moment(&receiver, NULL));
+    ANSWERS(GOZDRIT_NULL, gozdrit_next_timeout(&receiver, NULL));
     ANSWERS(GOZDRIT_NULL, gozdrit_receiver_counts(&receiver, NULL));
-    ANSWERS(GOZDRIT_NO_END, gozdrit_feedback(&sender, NULL, 0, &l.told));
-    ANSWERS(GOZDRIT_NO_END, gozdrit_retransmit(&sender, &l.sent, NULL, 0));
-    ANSWERS(GOZDRIT_NO_END, gozdrit_receive(&receiver, NULL, 0, 0, &l.heard));
-    ANSWERS(GOZDRIT_NO_END, gozdrit_play(&receiver, 0, &l.played, NULL, 0));
-    ANSWERS(GOZDRIT_NO_END, gozdrit_nack(&receiver, 0, 1, &l.length, NULL, 0));
-    CHECK(UNTOUCHED(l));
+    ANSWERS(GOZDRIT_EMPTY_HANDLE, gozdrit_feedback(&sender, NULL, 0, &l.outcome));
+    ANSWERS(GOZDRIT_EMPTY_HANDLE, gozdrit_retransmit(&sender, &l.sent, NULL, 0));
+    ANSWERS(GOZDRIT_EMPTY_HANDLE, gozdrit_receive(&receiver, NULL, 0, 0, &l.received));
+    ANSWERS(GOZDRIT_EMPTY_HANDLE, gozdrit_play(&receiver, 0, &l.played, NULL, 0));
+    ANSWERS(GOZDRIT_EMPTY_HANDLE, gozdrit_nack(&receiver, 0, 1, &l.length, NULL, 0));
+    CHECK(is_filled(&l));
 }
 
 static void test_new(void) {
-    const gozdrit_sender_config sending = {.session = SESSION, .history = 4, .repeats = 1};
+    const gozdrit_sender_config sending = {
+        .size = sizeof(gozdrit_sender_config), .session = SESSION, .history = 4, .max_retransmissions = 1};
     const gozdrit_receiver_config receiving = {
-        .session = SESSION, .patience = 100, .retry = 20, .window = 4, .nacks = 2};
-    ANSWERS(GOZDRIT_NULL, gozdrit_sender_defaults(NULL));
-    ANSWERS(GOZDRIT_NULL, gozdrit_receiver_defaults(NULL));
+        .size = sizeof(gozdrit_receiver_config), .session = SESSION, .latency = 100, .nack_interval = 20, .window = 4,
+        .max_nacks = 2};
+    ANSWERS(GOZDRIT_NULL, gozdrit_sender_defaults(NULL, sizeof sending));
+    ANSWERS(GOZDRIT_NULL, gozdrit_receiver_defaults(NULL, sizeof receiving));
     ANSWERS(GOZDRIT_NULL, gozdrit_sender_new(NULL, &sender));
     ANSWERS(GOZDRIT_NULL, gozdrit_sender_new(&sending, NULL));
     ANSWERS(GOZDRIT_NULL, gozdrit_sender_new(NULL, NULL));
@@ -80,19 +103,19 @@ static void test_sending(void) {
     ANSWERS(GOZDRIT_TOO_LARGE, gozdrit_send(&sender, &header, octets, sizeof octets, 0, &l.sent, NULL, 0));
     ANSWERS(GOZDRIT_NO_ROOM, gozdrit_send(&sender, &header, octets, 1, 0, &l.sent, NULL, 0));
     ANSWERS(GOZDRIT_NO_ROOM, gozdrit_send(&sender, &header, NULL, 0, 0, &l.sent, NULL, 0));
-    ANSWERS(GOZDRIT_NULL, gozdrit_feedback(NULL, octets, 1, &l.told));
-    ANSWERS(GOZDRIT_NULL, gozdrit_feedback(&sender, NULL, 1, &l.told));
+    ANSWERS(GOZDRIT_NULL, gozdrit_feedback(NULL, octets, 1, &l.outcome));
+    ANSWERS(GOZDRIT_NULL, gozdrit_feedback(&sender, NULL, 1, &l.outcome));
     ANSWERS(GOZDRIT_NULL, gozdrit_feedback(&sender, octets, 1, NULL));
     ANSWERS(GOZDRIT_NULL, gozdrit_retransmit(NULL, &l.sent, l.out, sizeof l.out));
     ANSWERS(GOZDRIT_NULL, gozdrit_retransmit(&sender, NULL, l.out, sizeof l.out));
     ANSWERS(GOZDRIT_NULL, gozdrit_retransmit(&sender, &l.sent, NULL, 1));
     ANSWERS(GOZDRIT_NULL, gozdrit_retransmit(&sender, &l.sent, NULL, sizeof l.out));
-    ANSWERS(GOZDRIT_NULL, gozdrit_mark_last(NULL, &l.marked));
-    ANSWERS(GOZDRIT_NULL, gozdrit_sender_time(NULL, 1));
-    ANSWERS(GOZDRIT_NULL, gozdrit_mark_last(&sender, NULL));
-    ANSWERS(GOZDRIT_NULL, gozdrit_sender_counts(NULL, &l.counted));
+    ANSWERS(GOZDRIT_NULL, gozdrit_tail_loss_probe(NULL, &l.queued));
+    ANSWERS(GOZDRIT_NULL, gozdrit_sender_set_time(NULL, 1));
+    ANSWERS(GOZDRIT_NULL, gozdrit_tail_loss_probe(&sender, NULL));
+    ANSWERS(GOZDRIT_NULL, gozdrit_sender_counts(NULL, &l.sender_counts));
     ANSWERS(GOZDRIT_NULL, gozdrit_sender_counts(&sender, NULL));
-    CHECK(UNTOUCHED(l));
+    CHECK(is_filled(&l));
     /* nothing was sent so far, and no datagram was heard */
     CHECK(is_counted_sent(&sender, (gozdrit_send_counts){.sent = 0}));
     ANSWERS(GOZDRIT_OK, gozdrit_send(&sender, &header, NULL, 0, 0, &l.sent, l.out, sizeof l.out));
@@ -101,8 +124,8 @@ static void test_sending(void) {
 
 static void test_receiving(void) {
     static const uint8_t octets[12];
-    ANSWERS(GOZDRIT_NULL, gozdrit_receive(NULL, octets, sizeof octets, 0, &l.heard));
-    ANSWERS(GOZDRIT_NULL, gozdrit_receive(&receiver, NULL, 1, 0, &l.heard));
+    ANSWERS(GOZDRIT_NULL, gozdrit_receive(NULL, octets, sizeof octets, 0, &l.received));
+    ANSWERS(GOZDRIT_NULL, gozdrit_receive(&receiver, NULL, 1, 0, &l.received));
     ANSWERS(GOZDRIT_NULL, gozdrit_receive(&receiver, octets, sizeof octets, 0, NULL));
     ANSWERS(GOZDRIT_NULL, gozdrit_play(NULL, 0, &l.played, l.out, sizeof l.out));
     ANSWERS(GOZDRIT_NULL, gozdrit_play(&receiver, 0, NULL, l.out, sizeof l.out));
@@ -113,32 +136,32 @@ static void test_receiving(void) {
     ANSWERS(GOZDRIT_NULL, gozdrit_nack(&receiver, 0, 1, &l.length, NULL, 1));
     ANSWERS(GOZDRIT_NULL, gozdrit_nack(&receiver, 0, 0, &l.length, NULL, sizeof l.out));
     ANSWERS(GOZDRIT_NULL, gozdrit_begin(NULL, 1));
-    ANSWERS(GOZDRIT_NULL, gozdrit_restart(NULL));
+    ANSWERS(GOZDRIT_NULL, gozdrit_reset(NULL));
     ANSWERS(GOZDRIT_NULL, gozdrit_set_times(NULL, 1, 1, 1));
     ANSWERS(GOZDRIT_NULL, gozdrit_set_times(NULL, 1, 1, 0));
-    CHECK(UNTOUCHED(l));
+    CHECK(is_filled(&l));
     CHECK(is_counted(&receiver, (gozdrit_receive_counts){.media = 0}));
 }
 
 static void test_asking(void) {
     ANSWERS(GOZDRIT_NULL, gozdrit_missing(NULL, &l.length));
     ANSWERS(GOZDRIT_NULL, gozdrit_missing(&receiver, NULL));
-    ANSWERS(GOZDRIT_NULL, gozdrit_rtx_source(NULL, &l.source));
-    ANSWERS(GOZDRIT_NULL, gozdrit_rtx_source(&receiver, NULL));
+    ANSWERS(GOZDRIT_NULL, gozdrit_rtx_ssrc(NULL, &l.ssrc));
+    ANSWERS(GOZDRIT_NULL, gozdrit_rtx_ssrc(&receiver, NULL));
     ANSWERS(GOZDRIT_NULL, gozdrit_next_sequence(NULL, &l.sequence));
     ANSWERS(GOZDRIT_NULL, gozdrit_next_sequence(&receiver, NULL));
     ANSWERS(GOZDRIT_NULL, gozdrit_highest_sequence(NULL, &l.sequence));
     ANSWERS(GOZDRIT_NULL, gozdrit_highest_sequence(&receiver, NULL));
-    ANSWERS(GOZDRIT_NULL, gozdrit_next_moment(NULL, &l.moment));
-    ANSWERS(GOZDRIT_NULL, gozdrit_next_moment(&receiver, NULL));
-    ANSWERS(GOZDRIT_NULL, gozdrit_follow(NULL, 1));
+    ANSWERS(GOZDRIT_NULL, gozdrit_next_timeout(NULL, &l.timeout));
+    ANSWERS(GOZDRIT_NULL, gozdrit_next_timeout(&receiver, NULL));
+    ANSWERS(GOZDRIT_NULL, gozdrit_set_adaptive(NULL, 1));
     ANSWERS(GOZDRIT_NULL, gozdrit_receiver_times(NULL, &l.times));
     ANSWERS(GOZDRIT_NULL, gozdrit_receiver_times(&receiver, NULL));
-    ANSWERS(GOZDRIT_NULL, gozdrit_receiver_kinds(NULL, &l.kinds));
-    ANSWERS(GOZDRIT_NULL, gozdrit_receiver_kinds(&receiver, NULL));
-    ANSWERS(GOZDRIT_NULL, gozdrit_receiver_counts(NULL, &l.received));
+    ANSWERS(GOZDRIT_NULL, gozdrit_receiver_probe_counts(NULL, &l.probes));
+    ANSWERS(GOZDRIT_NULL, gozdrit_receiver_probe_counts(&receiver, NULL));
+    ANSWERS(GOZDRIT_NULL, gozdrit_receiver_counts(NULL, &l.receiver_counts));
     ANSWERS(GOZDRIT_NULL, gozdrit_receiver_counts(&receiver, NULL));
-    CHECK(UNTOUCHED(l));
+    CHECK(is_filled(&l));
 }
 
 /* A packet's pointers, also where its payload type is bad. */
@@ -155,35 +178,35 @@ static void test_packet(void) {
     ANSWERS(GOZDRIT_NULL, gozdrit_rtp_write(&good, octets, 1, &l.length, NULL, 1));
     ANSWERS(GOZDRIT_NULL, gozdrit_rtp_write(&bad, NULL, 1, &l.length, l.out, sizeof l.out));
     ANSWERS(GOZDRIT_NULL, gozdrit_rtp_write(&bad, octets, 1, NULL, l.out, 0));
-    ANSWERS(GOZDRIT_BAD_TYPE, gozdrit_rtp_write(&bad, NULL, 0, &l.length, l.out, sizeof l.out));
+    ANSWERS(GOZDRIT_BAD_PAYLOAD_TYPE, gozdrit_rtp_write(&bad, NULL, 0, &l.length, l.out, sizeof l.out));
     ANSWERS(GOZDRIT_NO_ROOM, gozdrit_rtp_write(&good, NULL, 0, &l.length, NULL, 0));
-    CHECK(UNTOUCHED(l));
+    CHECK(is_filled(&l));
 }
 
 /* An empty datagram behind a null pointer is a datagram, and where nothing is to be written no buffer is wanted. */
 static void test_nothing(void) {
-    ANSWERS(GOZDRIT_OK, gozdrit_feedback(&sender, NULL, 0, &l.told));
-    CHECK(l.told.kind == GOZDRIT_MEDIA && l.told.refusal == 0);
+    ANSWERS(GOZDRIT_OK, gozdrit_feedback(&sender, NULL, 0, &l.outcome));
+    CHECK(l.outcome.kind == GOZDRIT_MEDIA && l.outcome.refusal == 0);
     ANSWERS(GOZDRIT_OK, gozdrit_retransmit(&sender, &l.sent, NULL, 0));
     CHECK(l.sent.length == 0);
-    ANSWERS(GOZDRIT_OK, gozdrit_receive(&receiver, NULL, 0, 0, &l.heard));
-    CHECK(l.heard.kind == GOZDRIT_NOT_TAKEN && l.heard.refusal == GOZDRIT_RTP_SHORT);
+    ANSWERS(GOZDRIT_OK, gozdrit_receive(&receiver, NULL, 0, 0, &l.received));
+    CHECK(l.received.kind == GOZDRIT_REFUSED && l.received.refusal == GOZDRIT_RTP_SHORT);
     ANSWERS(GOZDRIT_OK, gozdrit_play(&receiver, 0, &l.played, NULL, 0));
     CHECK(l.played.kind == GOZDRIT_WAIT);
-    ANSWERS(GOZDRIT_OK, gozdrit_nack(&receiver, 0, GOZDRIT_MOST, &l.length, NULL, 0));
+    ANSWERS(GOZDRIT_OK, gozdrit_nack(&receiver, 0, GOZDRIT_MAX_NACKED, &l.length, NULL, 0));
     CHECK(l.length == 0);
     CHECK(is_counted(&receiver, (gozdrit_receive_counts){.refused = 1}));
 }
 
 void test_null(void) {
-    FILL(l);
+    fill(&l);
     test_no_end();
     test_new();
     test_receiving();
     test_asking();
     test_packet();
     test_sending();
-    FILL(l);
+    fill(&l);
     test_nothing();
     ANSWERS(GOZDRIT_OK, gozdrit_sender_free(&sender));
     ANSWERS(GOZDRIT_OK, gozdrit_receiver_free(&receiver));

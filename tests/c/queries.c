@@ -13,7 +13,7 @@ static uint32_t draw(uint32_t below) {
 
 /* Whether two receivers counted the same. */
 static bool has_counted_same(const state *a, const state *b) {
-    return memcmp(&a->counts, &b->counts, sizeof a->counts) == 0 && memcmp(&a->kinds, &b->kinds, sizeof a->kinds) == 0;
+    return memcmp(&a->counts, &b->counts, sizeof a->counts) == 0 && memcmp(&a->probes, &b->probes, sizeof a->probes) == 0;
 }
 
 /* Asks a receiver all that can be asked. Its handle is lent as a constant. */
@@ -26,7 +26,8 @@ static void ask_receiver(const gozdrit_receiver *r) {
 
 static void ask_sender(const gozdrit_sender *s) {
     const gozdrit_sender before = *s;
-    gozdrit_send_counts once, twice;
+    gozdrit_send_counts once = GOZDRIT_SEND_COUNTS_INIT, twice;
+    FILL_SIZED(twice); /* so that both are the same only where all is written */
     ANSWERS(GOZDRIT_OK, gozdrit_sender_counts(s, &once));
     ANSWERS(GOZDRIT_OK, gozdrit_sender_counts(s, &twice));
     CHECK(memcmp(&once, &twice, sizeof once) == 0);
@@ -38,24 +39,26 @@ typedef struct step {
     uint32_t what;
     uint16_t seq;
     uint64_t now;
-    uint8_t came[GOZDRIT_MAX_NACK];
+    uint8_t came[GOZDRIT_MAX_NACK_DATAGRAM];
 } step;
 
 static void take_step(gozdrit_receiver *r, step *s) {
     const uint8_t payload[3] = {(uint8_t)(s->seq >> 8), (uint8_t)s->seq, 1};
     uint8_t packet[15];
-    gozdrit_heard heard;
+    gozdrit_received received;
     gozdrit_played played;
     size_t length = 0;
     memset(s->came, 0, sizeof s->came);
     memset(packet, 0, sizeof packet);
-    memset(&heard, 0, sizeof heard);
+    memset(&received, 0, sizeof received);
     memset(&played, 0, sizeof played);
+    received.size = sizeof received;
+    played.size = sizeof played;
     if (s->what < 5) {
         if (s->what < 4) length = write_rtp(packet, 96, s->seq, 0x11111111, payload, sizeof payload);
         else length = write_rtp(packet, 97, 1, 0x22222222, payload, sizeof payload);
-        ANSWERS(GOZDRIT_OK, gozdrit_receive(r, packet, length, s->now, &heard));
-        memcpy(s->came, &heard, offsetof(gozdrit_heard, refusal) + 1); /* no octets behind its last field */
+        ANSWERS(GOZDRIT_OK, gozdrit_receive(r, packet, length, s->now, &received));
+        memcpy(s->came, &received, offsetof(gozdrit_received, refusal) + 1); /* no octets behind its last field */
     } else if (s->what < 8) {
         ANSWERS(GOZDRIT_OK, gozdrit_play(r, s->now, &played, packet, sizeof packet));
         memcpy(s->came, &played, sizeof played);
@@ -67,7 +70,8 @@ static void take_step(gozdrit_receiver *r, step *s) {
 
 static void test_receivers(void) {
     const gozdrit_receiver_config config = {
-        .session = SESSION, .patience = 5, .retry = 2, .window = 16, .nacks = 2, .delay = 1};
+        .size = sizeof(gozdrit_receiver_config), .session = SESSION, .latency = 5, .nack_interval = 2, .window = 16,
+        .max_nacks = 2, .reorder_delay = 1};
     gozdrit_receiver asked = {NULL, 0}, left = {NULL, 0};
     uint32_t highest = 40000;
     ANSWERS(GOZDRIT_OK, gozdrit_receiver_new(&config, &asked));
@@ -93,7 +97,8 @@ static void test_receivers(void) {
 }
 
 static void test_senders(void) {
-    const gozdrit_sender_config config = {.session = SESSION, .history = 16, .first = 65000, .repeats = 2};
+    const gozdrit_sender_config config = {.size = sizeof(gozdrit_sender_config), .session = SESSION, .history = 16,
+                                          .first_sequence = 65000, .max_retransmissions = 2};
     const gozdrit_header header = {.timestamp = 9};
     gozdrit_sender ends[2] = {{NULL, 0}, {NULL, 0}};
     for (int e = 0; e < 2; e++) ANSWERS(GOZDRIT_OK, gozdrit_sender_new(&config, &ends[e]));
@@ -103,18 +108,19 @@ static void test_senders(void) {
         memset(outs, 0, sizeof outs);
         write_nack(nack, 0x33333333, 0x11111111, (uint16_t)(65000 + i - draw(20)), (uint16_t)(blp & draw(65536)));
         for (int e = 0; e < 2; e++) {
-            gozdrit_sent sent;
-            gozdrit_told told;
+            gozdrit_sent sent = GOZDRIT_SENT_INIT;
+            gozdrit_outcome outcome = GOZDRIT_OUTCOME_INIT;
             if (e == 0) ask_sender(&ends[0]);
             ANSWERS(GOZDRIT_OK, gozdrit_send(&ends[e], &header, nack, 15, 0, &sent, outs[e][0], 64));
             if (e == 0) ask_sender(&ends[0]);
-            ANSWERS(GOZDRIT_OK, gozdrit_feedback(&ends[e], nack, sizeof nack, &told));
+            ANSWERS(GOZDRIT_OK, gozdrit_feedback(&ends[e], nack, sizeof nack, &outcome));
             if (e == 0) ask_sender(&ends[0]);
             for (int k = 1; k < 4; k++) ANSWERS(GOZDRIT_OK, gozdrit_retransmit(&ends[e], &sent, outs[e][k], 64));
         }
         CHECK(memcmp(outs[0], outs[1], sizeof outs[0]) == 0);
     }
-    gozdrit_send_counts one, two;
+    gozdrit_send_counts one = GOZDRIT_SEND_COUNTS_INIT, two;
+    FILL_SIZED(two);
     ANSWERS(GOZDRIT_OK, gozdrit_sender_counts(&ends[0], &one));
     ANSWERS(GOZDRIT_OK, gozdrit_sender_counts(&ends[1], &two));
     CHECK(memcmp(&one, &two, sizeof one) == 0 && one.retransmissions > 500 && one.exhausted > 100);

@@ -2,8 +2,9 @@
 #include "checks.h"
 
 /* No media packet jumps far enough to be held back, so that those far away are refused. */
-static const gozdrit_receiver_config CONFIG = {.session = SESSION, .patience = 100, .retry = 20, .window = 4, .nacks = 2,
-                                               .max_dropout = 65535, .max_misorder = 65535};
+static const gozdrit_receiver_config CONFIG = {
+    .size = sizeof(gozdrit_receiver_config), .session = SESSION, .latency = 100, .nack_interval = 20, .window = 4,
+    .max_nacks = 2, .max_dropout = 65535, .max_misorder = 65535};
 static const gozdrit_receiver NONE = {NULL, 0};
 
 /* Whether one more datagram was counted, where this number is. */
@@ -11,7 +12,7 @@ static bool is_one_more(const gozdrit_receive_counts *before, const gozdrit_rece
     gozdrit_receive_counts expected = *before;
     if (number == GOZDRIT_DUPLICATE) expected.duplicate++;
     else if (number == GOZDRIT_LATE) expected.late++;
-    else if (number == GOZDRIT_FAR) expected.far++;
+    else if (number == GOZDRIT_TOO_FAR) expected.too_far++;
     else expected.refused++;
     return memcmp(&expected, after, sizeof expected) == 0;
 }
@@ -55,24 +56,24 @@ static void test_malformed(gozdrit_receiver *r) {
 
 /* An extension of one word more than there may be, in a media packet. */
 static void test_long_extension(gozdrit_receiver *r) {
-    uint8_t packet[12 + 4 + (GOZDRIT_MAX_WORDS + 1) * 4] = {
-        0x90, 96, 0, 101, 0, 0, 0, 0, 0x11, 0x11, 0x11, 0x11, 1, 2, 0, GOZDRIT_MAX_WORDS + 1};
+    uint8_t packet[12 + 4 + (GOZDRIT_MAX_EXTENSION_WORDS + 1) * 4] = {
+        0x90, 96, 0, 101, 0, 0, 0, 0, 0x11, 0x11, 0x11, 0x11, 1, 2, 0, GOZDRIT_MAX_EXTENSION_WORDS + 1};
     refuses(r, GOZDRIT_TOO_LONG, packet, sizeof packet);
 }
 
 /* Of what could be refused for more than one reason, the first of the header's list is told. */
 static void test_order(gozdrit_receiver *r) {
-    refuses_rtp(r, GOZDRIT_UNKNOWN_SOURCE, 98, 100, 0x33333333, GOZDRIT_MAX_PAYLOAD + 1);
-    refuses_rtp(r, GOZDRIT_UNKNOWN_TYPE, 98, 20000, 0x11111111, GOZDRIT_MAX_PAYLOAD + 1);
-    refuses_rtp(r, GOZDRIT_UNKNOWN_TYPE, 96, 100, 0x22222222, 0);
+    refuses_rtp(r, GOZDRIT_UNKNOWN_SSRC, 98, 100, 0x33333333, GOZDRIT_MAX_PAYLOAD + 1);
+    refuses_rtp(r, GOZDRIT_UNKNOWN_PAYLOAD_TYPE, 98, 20000, 0x11111111, GOZDRIT_MAX_PAYLOAD + 1);
+    refuses_rtp(r, GOZDRIT_UNKNOWN_PAYLOAD_TYPE, 96, 100, 0x22222222, 0);
     refuses_rtp(r, GOZDRIT_NO_OSN, 97, 1, 0x22222222, 1);
     refuses_rtp(r, GOZDRIT_TOO_LONG, 97, 1, 0x22222222, GOZDRIT_MAX_PAYLOAD + 3);
 }
 
 static void test_far(gozdrit_receiver *r) {
-    refuses_rtp(r, GOZDRIT_FAR, 96, 102 + 16384, 0x11111111, 1);
-    refuses_rtp(r, GOZDRIT_FAR, 96, 102 + 32768, 0x11111111, 1);
-    refuses_rtp(r, GOZDRIT_FAR, 96, 49254, 0x11111111, 1); /* 16384 below 102 */
+    refuses_rtp(r, GOZDRIT_TOO_FAR, 96, 102 + 16384, 0x11111111, 1);
+    refuses_rtp(r, GOZDRIT_TOO_FAR, 96, 102 + 32768, 0x11111111, 1);
+    refuses_rtp(r, GOZDRIT_TOO_FAR, 96, 49254, 0x11111111, 1); /* 16384 below 102 */
     refuses_rtp(r, GOZDRIT_LATE, 96, 49255, 0x11111111, 1);
     refuses_rtp(r, GOZDRIT_LATE, 96, 99, 0x11111111, 1);
     refuses_rtp(r, GOZDRIT_LATE, 97, 1, 0x22222222, 2); /* its original number is 0 */
@@ -101,10 +102,10 @@ void test_refused_media(void) {
     test_malformed(&r);
     test_order(&r);
     test_long_extension(&r);
-    refuses_rtp(&r, GOZDRIT_UNKNOWN_SOURCE, 96, 101, 0x12345678, 1);
-    refuses_rtp(&r, GOZDRIT_UNKNOWN_SOURCE, 97, 101, 0x33333333, 3);
-    refuses_rtp(&r, GOZDRIT_UNKNOWN_TYPE, 97, 101, 0x11111111, 1);
-    refuses_rtp(&r, GOZDRIT_UNKNOWN_TYPE, 96, 1, 0x22222222, 3);
+    refuses_rtp(&r, GOZDRIT_UNKNOWN_SSRC, 96, 101, 0x12345678, 1);
+    refuses_rtp(&r, GOZDRIT_UNKNOWN_SSRC, 97, 101, 0x33333333, 3);
+    refuses_rtp(&r, GOZDRIT_UNKNOWN_PAYLOAD_TYPE, 97, 101, 0x11111111, 1);
+    refuses_rtp(&r, GOZDRIT_UNKNOWN_PAYLOAD_TYPE, 96, 1, 0x22222222, 3);
     refuses_rtp(&r, GOZDRIT_NO_OSN, 97, 1, 0x22222222, 0);
     refuses_rtp(&r, GOZDRIT_TOO_LONG, 96, 101, 0x11111111, GOZDRIT_MAX_PAYLOAD + 1);
     test_far(&r);
@@ -122,25 +123,25 @@ void test_refused_media(void) {
 static void test_learning_anew(void) {
     gozdrit_receiver_config config = CONFIG;
     gozdrit_receiver r = NONE;
-    gozdrit_source source;
-    config.learns = 1, config.max_dropout = 1000, config.max_misorder = 1000;
+    gozdrit_ssrc ssrc;
+    config.learn_rtx_ssrc = 1, config.max_dropout = 1000, config.max_misorder = 1000;
     ANSWERS(GOZDRIT_OK, gozdrit_receiver_new(&config, &r));
     HEARS_MEDIA(&r, 100, 0, MEDIA(65636));
     HEARS_MEDIA(&r, 102, 0, MEDIA(65638));
-    NACKS(&r, 0, GOZDRIT_MOST, PAIR(101, 0));
+    NACKS(&r, 0, GOZDRIT_MAX_NACKED, PAIR(101, 0));
     HEARS_RTX(&r, 0x55555555, 101, 0, RETRANSMITTED(65637));
     HEARS_MEDIA(&r, 1102, 0, HELD_BACK(1));
-    ANSWERS(GOZDRIT_OK, gozdrit_rtx_source(&r, &source));
-    CHECK(source.known == 1 && source.ssrc == 0x55555555);
+    ANSWERS(GOZDRIT_OK, gozdrit_rtx_ssrc(&r, &ssrc));
+    CHECK(ssrc.known == 1 && ssrc.ssrc == 0x55555555);
     HEARS_MEDIA(&r, 1103, 0, RESTARTED(66639, 2, 3));
-    FILL(source);
-    ANSWERS(GOZDRIT_OK, gozdrit_rtx_source(&r, &source));
-    CHECK(source.known == 0 && UNTOUCHED(source.ssrc));
+    FILL(ssrc);
+    ANSWERS(GOZDRIT_OK, gozdrit_rtx_ssrc(&r, &ssrc));
+    CHECK(ssrc.known == 0 && UNTOUCHED(ssrc.ssrc));
     HEARS_MEDIA(&r, 1105, 0, MEDIA(66641));
-    NACKS(&r, 0, GOZDRIT_MOST, PAIR(1104, 0));
+    NACKS(&r, 0, GOZDRIT_MAX_NACKED, PAIR(1104, 0));
     HEARS_RTX(&r, 0x66666666, 1104, 0, RETRANSMITTED(66640));
-    ANSWERS(GOZDRIT_OK, gozdrit_rtx_source(&r, &source));
-    CHECK(source.known == 1 && source.ssrc == 0x66666666);
+    ANSWERS(GOZDRIT_OK, gozdrit_rtx_ssrc(&r, &ssrc));
+    CHECK(ssrc.known == 1 && ssrc.ssrc == 0x66666666);
     ANSWERS(GOZDRIT_OK, gozdrit_receiver_free(&r));
 }
 
@@ -148,27 +149,27 @@ static void test_learning_anew(void) {
 void test_learning(void) {
     gozdrit_receiver_config config = CONFIG;
     gozdrit_receiver r = NONE;
-    gozdrit_source source;
+    gozdrit_ssrc ssrc;
     uint8_t unasked[16];
     const size_t unasked_length = write_rtp(unasked, 97, 1, 0x55555555, "\0\145b", 3);
-    config.learns = 1;
+    config.learn_rtx_ssrc = 1;
     ANSWERS(GOZDRIT_OK, gozdrit_receiver_new(&config, &r));
-    FILL(source);
-    ANSWERS(GOZDRIT_OK, gozdrit_rtx_source(&r, &source));
-    CHECK(source.known == 0 && UNTOUCHED(source.ssrc));
+    FILL(ssrc);
+    ANSWERS(GOZDRIT_OK, gozdrit_rtx_ssrc(&r, &ssrc));
+    CHECK(ssrc.known == 0 && UNTOUCHED(ssrc.ssrc));
     refuses(&r, GOZDRIT_NOT_STARTED, unasked, unasked_length);
     HEARS_MEDIA(&r, 100, 50, MEDIA(65636));
     HEARS_MEDIA(&r, 102, 50, MEDIA(65638));
     refuses(&r, GOZDRIT_UNASKED, unasked, unasked_length);
-    NACKS(&r, 50, GOZDRIT_MOST, PAIR(101, 0));
+    NACKS(&r, 50, GOZDRIT_MAX_NACKED, PAIR(101, 0));
     refuses_rtp(&r, GOZDRIT_UNASKED, 97, 1, 0x55555555, 2); /* its original number is 0 */
-    refuses_rtp(&r, GOZDRIT_UNKNOWN_SOURCE, 97, 1, 0x33333333, 3);
-    refuses_rtp(&r, GOZDRIT_UNKNOWN_TYPE, 96, 1, 0x55555555, 3);
+    refuses_rtp(&r, GOZDRIT_UNKNOWN_SSRC, 97, 1, 0x33333333, 3);
+    refuses_rtp(&r, GOZDRIT_UNKNOWN_PAYLOAD_TYPE, 96, 1, 0x55555555, 3);
     HEARS_RTX(&r, 0x55555555, 102, 50, NOT_HEARD(GOZDRIT_UNASKED)); /* it is held */
     HEARS(&r, unasked, unasked_length, 50, RETRANSMITTED(65637));
-    ANSWERS(GOZDRIT_OK, gozdrit_rtx_source(&r, &source));
-    CHECK(source.known == 1 && source.ssrc == 0x55555555);
-    refuses_rtp(&r, GOZDRIT_UNKNOWN_SOURCE, 97, 1, 0x22222222, 3);
+    ANSWERS(GOZDRIT_OK, gozdrit_rtx_ssrc(&r, &ssrc));
+    CHECK(ssrc.known == 1 && ssrc.ssrc == 0x55555555);
+    refuses_rtp(&r, GOZDRIT_UNKNOWN_SSRC, 97, 1, 0x22222222, 3);
     refuses(&r, GOZDRIT_DUPLICATE, unasked, unasked_length);
     ANSWERS(GOZDRIT_OK, gozdrit_receiver_free(&r));
     test_learning_anew();

@@ -1,17 +1,19 @@
 /* Which retransmissions fit the time: none again too soon, and none past its deadline. */
 #include "checks.h"
 
-/* It keeps 4 packets from 65736 on, retransmits none within 50 ms of its last retransmission, and none 200 ms after it was sent. */
+/* It keeps 4 packets from 65736 on, retransmits none within 50 ms of its last retransmission, and none 200 ms after it was
+ * sent. */
 static const gozdrit_sender_config CONFIG = {
-    .session = SESSION, .history = 4, .first = 200, .rtx_first = 7, .repeats = 9, .min_resend = 50, .deadline = 200};
+    .size = sizeof(gozdrit_sender_config), .session = SESSION, .history = 4, .first_sequence = 200,
+    .rtx_first_sequence = 7, .max_retransmissions = 9, .min_resend = 50, .deadline = 200};
 
-static void at(gozdrit_sender *sender, uint64_t now) { ANSWERS(GOZDRIT_OK, gozdrit_sender_time(sender, now)); }
+static void at(gozdrit_sender *sender, uint64_t now) { ANSWERS(GOZDRIT_OK, gozdrit_sender_set_time(sender, now)); }
 
 static void sends(gozdrit_sender *sender, uint64_t now, uint64_t sequence) {
     static const gozdrit_header plain = {.timestamp = 100};
     const uint8_t octet = 0xd1;
     uint8_t out[GOZDRIT_MAX_DATAGRAM];
-    gozdrit_sent sent;
+    gozdrit_sent sent = GOZDRIT_SENT_INIT;
     at(sender, now);
     ANSWERS(GOZDRIT_OK, gozdrit_send(sender, &plain, &octet, 1, 0, &sent, out, sizeof out));
     CHECK(sent.sequence == sequence);
@@ -19,25 +21,26 @@ static void sends(gozdrit_sender *sender, uint64_t now, uint64_t sequence) {
 
 static void names(gozdrit_sender *sender, uint16_t pid, uint16_t blp) {
     uint8_t nack[NACK_LENGTH];
-    gozdrit_told told;
+    gozdrit_outcome outcome = GOZDRIT_OUTCOME_INIT;
     write_nack(nack, 0x33333333, 0x11111111, pid, blp);
-    ANSWERS(GOZDRIT_OK, gozdrit_feedback(sender, nack, sizeof nack, &told));
-    CHECK(told.kind == GOZDRIT_FEEDBACK);
+    ANSWERS(GOZDRIT_OK, gozdrit_feedback(sender, nack, sizeof nack, &outcome));
+    CHECK(outcome.kind == GOZDRIT_FEEDBACK);
 }
 
-/* The next retransmission at a moment is that of this sequence number, or none where it is 0. Less room than any datagram may need
- * is refused, and passes nothing over. */
+/* The next retransmission at a time is that of this sequence number, or none where it is 0. Less room than any datagram may
+ * need is refused, and passes nothing over. */
 static void repeats(gozdrit_sender *sender, uint64_t now, uint64_t sequence) {
     uint8_t out[GOZDRIT_MAX_DATAGRAM];
-    gozdrit_send_counts before, after;
+    gozdrit_send_counts before = GOZDRIT_SEND_COUNTS_INIT, after;
     gozdrit_sent sent;
-    FILL(sent);
+    FILL_SIZED(after);
+    FILL_SIZED(sent);
     FILL(out);
     at(sender, now);
     ANSWERS(GOZDRIT_OK, gozdrit_sender_counts(sender, &before));
     ANSWERS(GOZDRIT_NO_ROOM, gozdrit_retransmit(sender, &sent, out, sizeof out - 1));
     ANSWERS(GOZDRIT_OK, gozdrit_sender_counts(sender, &after));
-    CHECK(UNTOUCHED(sent) && UNTOUCHED(out) && memcmp(&before, &after, sizeof before) == 0);
+    CHECK(UNTOUCHED_SIZED(sent) && UNTOUCHED(out) && memcmp(&before, &after, sizeof before) == 0);
     ANSWERS(GOZDRIT_OK, gozdrit_retransmit(sender, &sent, out, sizeof out));
     CHECK(sequence == 0 ? sent.length == 0 && UNTOUCHED(sent.sequence) : sent.length == 15 && sent.sequence == sequence);
 }
@@ -54,7 +57,7 @@ static void test_too_soon(gozdrit_sender *sender) {
     names(sender, 200, 0);
     repeats(sender, 1090, 65736);
     CHECK(is_counted_sent(sender, (gozdrit_send_counts){.sent = 2, .octets = 2, .retransmissions = 3, .nacks = 3,
-                                                        .numbers = 4, .early = 1}));
+                                                        .nacked = 4, .early = 1}));
 }
 
 /* At 1210 the second is 200 ms old, and fits still; the first does not. At 1211 neither does. */
@@ -64,14 +67,14 @@ static void test_too_late(gozdrit_sender *sender) {
     names(sender, 201, 0);
     repeats(sender, 1260, 0);
     CHECK(is_counted_sent(sender, (gozdrit_send_counts){.sent = 2, .octets = 2, .retransmissions = 4, .nacks = 5,
-                                                        .numbers = 7, .early = 1, .expired = 2}));
+                                                        .nacked = 7, .early = 1, .expired = 2}));
 }
 
-/* Without either rule the moment makes no difference. */
+/* Without either rule the time makes no difference. */
 static void test_no_rule(void) {
     gozdrit_sender_config config = CONFIG;
     gozdrit_sender sender = {NULL, 0};
-    gozdrit_sent sent;
+    gozdrit_sent sent = GOZDRIT_SENT_INIT;
     uint8_t out[15];
     config.min_resend = config.deadline = 0;
     ANSWERS(GOZDRIT_OK, gozdrit_sender_new(&config, &sender));
@@ -87,7 +90,7 @@ static void test_no_rule(void) {
 
 void test_resend(void) {
     gozdrit_sender sender = {NULL, 0};
-    ANSWERS(GOZDRIT_NO_END, gozdrit_sender_time(&sender, 1));
+    ANSWERS(GOZDRIT_EMPTY_HANDLE, gozdrit_sender_set_time(&sender, 1));
     ANSWERS(GOZDRIT_OK, gozdrit_sender_new(&CONFIG, &sender));
     test_too_soon(&sender);
     test_too_late(&sender);

@@ -24,18 +24,18 @@ static void test_read(void) {
     ANSWERS(GOZDRIT_OK, gozdrit_rtp_read(FULL, sizeof FULL, &p));
     CHECK(p.payload == 28 && p.length == 3 && p.padding == 4);
     CHECK(p.ssrc == 0x11223344 && p.sequence == 65534 && p.payload_type == 96);
-    CHECK(p.header.timestamp == 0x01020304 && p.header.marker == 1 && p.header.source_count == 2);
-    CHECK(p.header.sources[0] == 0xa1a2a3a4 && p.header.sources[1] == 0xb1b2b3b4);
-    CHECK(p.header.has_extension == 1 && p.header.profile == 0xbede && p.header.word_count == 1);
-    CHECK(p.header.words[0] == 0xc1c2c3c4);
-    CHECK(is_pattern(p.header.sources + 2, 13 * 4) && is_pattern(p.header.words + 1, 15 * 4));
+    CHECK(p.header.timestamp == 0x01020304 && p.header.marker == 1 && p.header.csrc_count == 2);
+    CHECK(p.header.csrcs[0] == 0xa1a2a3a4 && p.header.csrcs[1] == 0xb1b2b3b4);
+    CHECK(p.header.has_extension == 1 && p.header.extension_profile == 0xbede && p.header.extension_words == 1);
+    CHECK(p.header.extension[0] == 0xc1c2c3c4);
+    CHECK(is_pattern(p.header.csrcs + 2, 13 * 4) && is_pattern(p.header.extension + 1, 15 * 4));
     FILL(p);
     ANSWERS(GOZDRIT_OK, gozdrit_rtp_read(plain, sizeof plain, &p));
     CHECK(p.payload == 12 && p.length == 1 && p.padding == 0);
     CHECK(p.ssrc == 3 && p.sequence == 1 && p.payload_type == 33);
-    CHECK(p.header.timestamp == 2 && p.header.marker == 0 && p.header.source_count == 0);
-    CHECK(p.header.has_extension == 0 && p.header.word_count == 0 && UNTOUCHED(p.header.profile));
-    CHECK(UNTOUCHED(p.header.sources) && UNTOUCHED(p.header.words));
+    CHECK(p.header.timestamp == 2 && p.header.marker == 0 && p.header.csrc_count == 0);
+    CHECK(p.header.has_extension == 0 && p.header.extension_words == 0 && UNTOUCHED(p.header.extension_profile));
+    CHECK(UNTOUCHED(p.header.csrcs) && UNTOUCHED(p.header.extension));
     FILL(p);
     ANSWERS(GOZDRIT_OK, gozdrit_rtp_read(plain, 12, &p));
     CHECK(p.payload == 12 && p.length == 0);
@@ -43,14 +43,15 @@ static void test_read(void) {
 
 /* A payload may be longer than an end would take it; an extension may not. */
 static void test_read_limits(void) {
-    static uint8_t packet[12 + 4 + (GOZDRIT_MAX_WORDS + 1) * 4 + GOZDRIT_MAX_PAYLOAD + 1] = {
-        0x90, 96, 0, 101, 0, 0, 0, 0, 0x11, 0x11, 0x11, 0x11, 1, 2, 0, GOZDRIT_MAX_WORDS};
+    static uint8_t packet[12 + 4 + (GOZDRIT_MAX_EXTENSION_WORDS + 1) * 4 + GOZDRIT_MAX_PAYLOAD + 1] = {
+        0x90, 96, 0, 101, 0, 0, 0, 0, 0x11, 0x11, 0x11, 0x11, 1, 2, 0, GOZDRIT_MAX_EXTENSION_WORDS};
     gozdrit_packet p;
     FILL(p);
-    packet[16 + 4 * GOZDRIT_MAX_WORDS - 1] = 7;
+    packet[16 + 4 * GOZDRIT_MAX_EXTENSION_WORDS - 1] = 7;
     ANSWERS(GOZDRIT_OK, gozdrit_rtp_read(packet, sizeof packet, &p));
-    CHECK(p.header.word_count == GOZDRIT_MAX_WORDS && p.header.words[GOZDRIT_MAX_WORDS - 1] == 7);
-    CHECK(p.payload == 16 + 4 * GOZDRIT_MAX_WORDS && p.length == sizeof packet - p.payload);
+    CHECK(p.header.extension_words == GOZDRIT_MAX_EXTENSION_WORDS
+          && p.header.extension[GOZDRIT_MAX_EXTENSION_WORDS - 1] == 7);
+    CHECK(p.payload == 16 + 4 * GOZDRIT_MAX_EXTENSION_WORDS && p.length == sizeof packet - p.payload);
     packet[15]++;
     FILL(p);
     ANSWERS(GOZDRIT_TOO_LONG, gozdrit_rtp_read(packet, sizeof packet, &p));
@@ -109,14 +110,15 @@ static void test_write(void) {
 static void test_write_types(void) {
     gozdrit_packet said = {.sequence = 1, .ssrc = 3};
     uint8_t expected[12] = {0x80, 0, 0, 1, 0, 0, 0, 0, 0, 0, 0, 3};
-    said.header.word_count = 255;
+    said.header.extension_words = 255;
     for (unsigned type = 0; type < 256; type++) {
         const bool good = type < 128;
         lent l;
         FILL(l);
         said.payload_type = (uint8_t)type;
         expected[1] = (uint8_t)type;
-        ANSWERS(good ? GOZDRIT_OK : GOZDRIT_BAD_TYPE, gozdrit_rtp_write(&said, NULL, 0, &l.written, l.out, sizeof l.out));
+        ANSWERS(good ? GOZDRIT_OK : GOZDRIT_BAD_PAYLOAD_TYPE,
+                gozdrit_rtp_write(&said, NULL, 0, &l.written, l.out, sizeof l.out));
         CHECK(good ? l.written == 12 && memcmp(l.out, expected, 12) == 0 : UNTOUCHED(l));
     }
 }
@@ -126,17 +128,17 @@ static void test_write_order(void) {
     gozdrit_packet said = {.payload_type = 128, .padding = 1};
     lent l;
     FILL(l);
-    said.header.source_count = GOZDRIT_MAX_SOURCES + 1;
+    said.header.csrc_count = GOZDRIT_MAX_CSRCS + 1;
     ANSWERS(GOZDRIT_TOO_LARGE, gozdrit_rtp_write(&said, NULL, 0, &l.written, l.out, 11));
-    said.header.source_count = GOZDRIT_MAX_SOURCES;
+    said.header.csrc_count = GOZDRIT_MAX_CSRCS;
     ANSWERS(GOZDRIT_NO_ROOM, gozdrit_rtp_write(&said, NULL, 0, &l.written, l.out, 11));
-    ANSWERS(GOZDRIT_BAD_TYPE, gozdrit_rtp_write(&said, NULL, 0, &l.written, l.out, sizeof l.out));
+    ANSWERS(GOZDRIT_BAD_PAYLOAD_TYPE, gozdrit_rtp_write(&said, NULL, 0, &l.written, l.out, sizeof l.out));
     said.payload_type = 127;
     ANSWERS(GOZDRIT_PADDED_EMPTY, gozdrit_rtp_write(&said, NULL, 0, &l.written, l.out, sizeof l.out));
     CHECK(UNTOUCHED(l));
     said.padding = 0;
     ANSWERS(GOZDRIT_OK, gozdrit_rtp_write(&said, NULL, 0, &l.written, l.out, sizeof l.out));
-    CHECK(l.written == 12 + 4 * GOZDRIT_MAX_SOURCES);
+    CHECK(l.written == 12 + 4 * GOZDRIT_MAX_CSRCS);
 }
 
 static void test_write_refused(void) {
@@ -147,26 +149,27 @@ static void test_write_refused(void) {
     ANSWERS(GOZDRIT_PADDED_EMPTY, gozdrit_rtp_write(&said, payload, 0, &l.written, l.out, sizeof l.out));
     ANSWERS(GOZDRIT_TOO_LARGE, gozdrit_rtp_write(&said, payload, sizeof payload, &l.written, l.out, sizeof l.out));
     ANSWERS(GOZDRIT_TOO_LARGE, gozdrit_rtp_write(&said, payload, sizeof payload, &l.written, NULL, 0));
-    said.header.source_count = GOZDRIT_MAX_SOURCES + 1;
+    said.header.csrc_count = GOZDRIT_MAX_CSRCS + 1;
     ANSWERS(GOZDRIT_TOO_LARGE, gozdrit_rtp_write(&said, payload, 1, &l.written, l.out, sizeof l.out));
-    said.header.source_count = GOZDRIT_MAX_SOURCES, said.header.word_count = GOZDRIT_MAX_WORDS + 1;
+    said.header.csrc_count = GOZDRIT_MAX_CSRCS, said.header.extension_words = GOZDRIT_MAX_EXTENSION_WORDS + 1;
     ANSWERS(GOZDRIT_TOO_LARGE, gozdrit_rtp_write(&said, payload, 1, &l.written, l.out, sizeof l.out));
-    said.header.word_count = 255;
+    said.header.extension_words = 255;
     ANSWERS(GOZDRIT_TOO_LARGE, gozdrit_rtp_write(&said, payload, 1, &l.written, l.out, sizeof l.out));
-    said.header.word_count = GOZDRIT_MAX_WORDS, said.payload_type = 128;
-    ANSWERS(GOZDRIT_BAD_TYPE, gozdrit_rtp_write(&said, payload, 1, &l.written, l.out, sizeof l.out));
+    said.header.extension_words = GOZDRIT_MAX_EXTENSION_WORDS, said.payload_type = 128;
+    ANSWERS(GOZDRIT_BAD_PAYLOAD_TYPE, gozdrit_rtp_write(&said, payload, 1, &l.written, l.out, sizeof l.out));
     CHECK(UNTOUCHED(l));
 }
 
 /* The largest packet. */
 static void test_write_limits(void) {
     static const uint8_t payload[GOZDRIT_MAX_PAYLOAD] = {1};
-    const size_t front = 12 + 4 * GOZDRIT_MAX_SOURCES + 4 + 4 * GOZDRIT_MAX_WORDS;
+    const size_t front = 12 + 4 * GOZDRIT_MAX_CSRCS + 4 + 4 * GOZDRIT_MAX_EXTENSION_WORDS;
     const size_t largest = front + GOZDRIT_MAX_PAYLOAD + 255;
     gozdrit_packet said = SAID;
     lent l;
     FILL(l);
-    said.header.source_count = GOZDRIT_MAX_SOURCES, said.header.word_count = GOZDRIT_MAX_WORDS, said.padding = 255;
+    said.header.csrc_count = GOZDRIT_MAX_CSRCS, said.header.extension_words = GOZDRIT_MAX_EXTENSION_WORDS;
+    said.padding = 255;
     ANSWERS(GOZDRIT_NO_ROOM, gozdrit_rtp_write(&said, payload, sizeof payload, &l.written, l.out, largest - 1));
     CHECK(UNTOUCHED(l));
     ANSWERS(GOZDRIT_OK, gozdrit_rtp_write(&said, payload, sizeof payload, &l.written, l.out, largest));
@@ -175,7 +178,7 @@ static void test_write_limits(void) {
 }
 
 static void test_version(void) {
-    CHECK(gozdrit_version() == GOZDRIT_VERSION && GOZDRIT_VERSION == 10100);
+    CHECK(gozdrit_version() == GOZDRIT_VERSION && GOZDRIT_VERSION == 20000);
     CHECK(gozdrit_max_payload() == GOZDRIT_MAX_PAYLOAD);
 }
 

@@ -3,16 +3,17 @@
 
 /* It waits for 100 ms, and names a packet twice, 30 ms after its notice and 20 ms after that. */
 static const gozdrit_receiver_config CONFIG = {
-    .session = SESSION, .patience = 100, .retry = 20, .window = 16, .nacks = 2, .delay = 30};
+    .size = sizeof(gozdrit_receiver_config), .session = SESSION, .latency = 100, .nack_interval = 20, .window = 16,
+    .max_nacks = 2, .reorder_delay = 30};
 
-/* A receiver that took 100 at moment 0 and 103 at moment 10, and so misses 101 and 102. */
+/* A receiver that took 100 at 0 and 103 at 10, and so misses 101 and 102. */
 static gozdrit_receiver missing_two(void) {
     gozdrit_receiver r = {NULL, 0};
     ANSWERS(GOZDRIT_OK, gozdrit_receiver_new(&CONFIG, &r));
     CALLS_AT(&r, false, 0);
     HEARS_MEDIA(&r, 100, 0, MEDIA(65636));
     HEARS_MEDIA(&r, 103, 10, MEDIA(65639));
-    CALLS_AT(&r, true, 0); /* one is held, and can be played at any moment */
+    CALLS_AT(&r, true, 0); /* one is held, and can be played at any time */
     PLAYS(&r, 0, GOZDRIT_PACKET, 65636, 100);
     return r;
 }
@@ -20,16 +21,16 @@ static gozdrit_receiver missing_two(void) {
 static void test_delay(void) {
     gozdrit_receiver r = missing_two();
     CALLS_AT(&r, true, 40);
-    NACKS(&r, 9, GOZDRIT_MOST, NO_PAIR);
-    NACKS(&r, 39, GOZDRIT_MOST, NO_PAIR);
-    NACKS(&r, 40, GOZDRIT_MOST, PAIR(101, 1));
+    NACKS(&r, 9, GOZDRIT_MAX_NACKED, NO_PAIR);
+    NACKS(&r, 39, GOZDRIT_MAX_NACKED, NO_PAIR);
+    NACKS(&r, 40, GOZDRIT_MAX_NACKED, PAIR(101, 1));
     CALLS_AT(&r, true, 60);
-    NACKS(&r, 59, GOZDRIT_MOST, NO_PAIR);
+    NACKS(&r, 59, GOZDRIT_MAX_NACKED, NO_PAIR);
     NACKS(&r, 60, 0, NO_PAIR);
     NACKS(&r, 60, 1, PAIR(101, 0));
     CALLS_AT(&r, true, 60); /* 102 is due still */
     NACKS(&r, 61, SIZE_MAX, PAIR(102, 0));
-    CALLS_AT(&r, true, 110); /* both were named twice, so patience is what is left */
+    CALLS_AT(&r, true, 110); /* both were named twice, so the latency is what is left */
     PLAYS(&r, 109, GOZDRIT_WAIT, 0, 0);
     PLAYS(&r, 110, GOZDRIT_GAP, 65637, 0);
     CALLS_AT(&r, true, 110);
@@ -44,12 +45,12 @@ static void test_delay(void) {
 /* A NACK that has more room than it needs leaves the rest of it, and a packet that is given up needs none. */
 static void test_room(void) {
     gozdrit_receiver r = missing_two();
-    gozdrit_played played;
-    uint8_t out[GOZDRIT_MAX_NACK], nack[NACK_LENGTH];
+    gozdrit_played played = GOZDRIT_PLAYED_INIT;
+    uint8_t out[GOZDRIT_MAX_NACK_DATAGRAM], nack[NACK_LENGTH];
     size_t length;
     FILL(out);
     write_nack(nack, 0x33333333, 0x11111111, 101, 1);
-    ANSWERS(GOZDRIT_OK, gozdrit_nack(&r, 40, GOZDRIT_MOST, &length, out, sizeof out));
+    ANSWERS(GOZDRIT_OK, gozdrit_nack(&r, 40, GOZDRIT_MAX_NACKED, &length, out, sizeof out));
     CHECK(length == sizeof nack && memcmp(out, nack, sizeof nack) == 0);
     CHECK(is_pattern(out + sizeof nack, sizeof out - sizeof nack));
     ANSWERS(GOZDRIT_OK, gozdrit_play(&r, 110, &played, NULL, 0));
@@ -64,30 +65,30 @@ static void test_set_times(void) {
     ANSWERS(GOZDRIT_BAD_LIMIT, gozdrit_set_times(&r, 1, 1, 0));
     const state after = state_of(&r);
     CHECK(is_same_state(&before, &after));
-    NACKS(&r, 39, GOZDRIT_MOST, NO_PAIR);
+    NACKS(&r, 39, GOZDRIT_MAX_NACKED, NO_PAIR);
     ANSWERS(GOZDRIT_OK, gozdrit_set_times(&r, 50, 5, 7));
     CALLS_AT(&r, true, 15);
-    NACKS(&r, 14, GOZDRIT_MOST, NO_PAIR);
+    NACKS(&r, 14, GOZDRIT_MAX_NACKED, NO_PAIR);
     NACKS(&r, 15, 1, PAIR(101, 0));
-    NACKS(&r, 20, GOZDRIT_MOST, PAIR(102, 0));
+    NACKS(&r, 20, GOZDRIT_MAX_NACKED, PAIR(102, 0));
     CALLS_AT(&r, true, 22);
     ANSWERS(GOZDRIT_OK, gozdrit_set_times(&r, 50, 5, 1));
     CALLS_AT(&r, true, 16);
     ANSWERS(GOZDRIT_OK, gozdrit_set_times(&r, 3, 5, 7));
-    CALLS_AT(&r, true, 13); /* in the past: patience has passed */
+    CALLS_AT(&r, true, 13); /* in the past: the latency has passed */
     PLAYS(&r, 13, GOZDRIT_GAP, 65637, 0);
     ANSWERS(GOZDRIT_OK, gozdrit_set_times(&r, 0, 0, UINT64_MAX));
-    PLAYS(&r, 10, GOZDRIT_GAP, 65638, 0); /* no patience at all */
+    PLAYS(&r, 10, GOZDRIT_GAP, 65638, 0); /* no latency at all */
     PLAYS(&r, 10, GOZDRIT_PACKET, 65639, 103);
     ANSWERS(GOZDRIT_OK, gozdrit_receiver_free(&r));
 }
 
-/* A moment that is 2^64 or later never comes. */
+/* A time that is 2^64 or later never comes. */
 static void test_never(void) {
     gozdrit_receiver r = missing_two();
     ANSWERS(GOZDRIT_OK, gozdrit_set_times(&r, UINT64_MAX, UINT64_MAX, UINT64_MAX));
     CALLS_AT(&r, false, 0);
-    NACKS(&r, UINT64_MAX, GOZDRIT_MOST, NO_PAIR);
+    NACKS(&r, UINT64_MAX, GOZDRIT_MAX_NACKED, NO_PAIR);
     PLAYS(&r, UINT64_MAX, GOZDRIT_WAIT, 0, 0);
     ANSWERS(GOZDRIT_OK, gozdrit_set_times(&r, UINT64_MAX - 10, UINT64_MAX, UINT64_MAX));
     CALLS_AT(&r, true, UINT64_MAX);
@@ -100,7 +101,7 @@ static void test_never(void) {
 static gozdrit_receiver wide(void) {
     gozdrit_receiver r = {NULL, 0};
     gozdrit_receiver_config config = CONFIG;
-    config.window = GOZDRIT_MAX_STORE, config.delay = 0, config.nacks = 1;
+    config.window = GOZDRIT_MAX_STORE, config.reorder_delay = 0, config.max_nacks = 1;
     ANSWERS(GOZDRIT_OK, gozdrit_receiver_new(&config, &r));
     return r;
 }
@@ -127,11 +128,11 @@ static void test_most(void) {
     pairs[3] = 0;
     NACKS(&r, 0, 18, pairs, 2);
     fill_pairs(pairs, 39, 64);
-    NACKS(&r, 0, SIZE_MAX, pairs, 64); /* 39 to 1126: GOZDRIT_MOST of them, in GOZDRIT_MAX_NACK octets */
+    NACKS(&r, 0, SIZE_MAX, pairs, 64); /* 39 to 1126: GOZDRIT_MAX_NACKED of them, in GOZDRIT_MAX_NACK_DATAGRAM octets */
     fill_pairs(pairs, 1127, 52);
     pairs[103] = 0x001f; /* 51 pairs name 1127 to 1993, and the last one 1994 to 1999 */
-    NACKS(&r, 0, GOZDRIT_MOST, pairs, 52);
-    NACKS(&r, 0, GOZDRIT_MOST, NO_PAIR);
+    NACKS(&r, 0, GOZDRIT_MAX_NACKED, pairs, 52);
+    NACKS(&r, 0, GOZDRIT_MAX_NACKED, NO_PAIR);
     CHECK(is_counted(&r, (gozdrit_receive_counts){.media = 2, .nacks = 5, .nacked = 1999}));
     ANSWERS(GOZDRIT_OK, gozdrit_receiver_free(&r));
 }
@@ -145,10 +146,10 @@ static void test_pairs(void) {
     }
     for (size_t i = 0; i < 64; i++) pairs[2 * i] = (uint16_t)(17 * (i + 1)), pairs[2 * i + 1] = 0;
     TELLS(&r, 65536, 65536 + 70 * 17 + 1, 70);
-    NACKS(&r, 0, GOZDRIT_MOST, pairs, 64);
+    NACKS(&r, 0, GOZDRIT_MAX_NACKED, pairs, 64);
     for (size_t i = 0; i < 6; i++) pairs[2 * i] = (uint16_t)(17 * (i + 65)), pairs[2 * i + 1] = 0;
-    NACKS(&r, 0, GOZDRIT_MOST, pairs, 6);
-    NACKS(&r, 0, GOZDRIT_MOST, NO_PAIR);
+    NACKS(&r, 0, GOZDRIT_MAX_NACKED, pairs, 6);
+    NACKS(&r, 0, GOZDRIT_MAX_NACKED, NO_PAIR);
     CHECK(is_counted(&r, (gozdrit_receive_counts){.media = 1122, .nacks = 2, .nacked = 70}));
     ANSWERS(GOZDRIT_OK, gozdrit_receiver_free(&r));
 }

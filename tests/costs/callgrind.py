@@ -10,6 +10,8 @@ from pathlib import Path
 # Callgrind counts `rep movsb` as one instruction for each octet: the C library is told to move and fill without it.
 PLAIN_MOVES = "glibc.cpu.x86_rep_movsb_threshold=1000000:glibc.cpu.x86_rep_stosb_threshold=1000000"
 NAMED = re.compile(r"c?fn=\((\d+)\)(?: (.*))?")
+# Calls that version 1 of the header names otherwise, which the older of two trees may have.
+OLD_NAMES = {"gozdrit_next_moment": "gozdrit_next_timeout"}
 
 
 class Broken(Exception):
@@ -17,7 +19,7 @@ class Broken(Exception):
 
 
 def calls_of(path, prefix="gozdrit_"):
-    """The instructions of a phase by the call that they were in, with all below it."""
+    """The instructions of a phase by the call that they were in, with all below it, by the names of version 2."""
     names, taken, caller, called, is_cost = {}, {}, "", "", False
     for line in path.read_text().splitlines():
         if is_cost:
@@ -25,7 +27,7 @@ def calls_of(path, prefix="gozdrit_"):
             if called.startswith(prefix) and not caller.startswith(prefix):
                 taken[called] = taken.get(called, 0) + int(line.split()[-1])
         elif found := NAMED.fullmatch(line):
-            name = names.setdefault(found[1], found[2])
+            name = names.setdefault(found[1], OLD_NAMES.get(found[2], found[2]))
             if line[0] == "c":
                 called = name
             else:

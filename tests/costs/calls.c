@@ -12,7 +12,7 @@ static const gozdrit_session SESSION = {0x11111111, 0x22222222, 0x33333333, 96, 
 
 static gozdrit_sender sender;
 static gozdrit_receiver receiver;
-static uint8_t payload[OCTETS], datagram[ROOM], nack[GOZDRIT_MAX_NACK], room[GOZDRIT_MAX_PAYLOAD];
+static uint8_t payload[OCTETS], datagram[ROOM], nack[GOZDRIT_MAX_NACK_DATAGRAM], room[GOZDRIT_MAX_PAYLOAD];
 static uint64_t now;
 static uint16_t number;
 
@@ -28,43 +28,43 @@ static uint16_t number;
 
 static void make_sender(uint32_t history) {
     gozdrit_sender_config config;
-    EXPECT(!gozdrit_sender_defaults(&config));
+    EXPECT(!gozdrit_sender_defaults(&config, sizeof config));
     config.session = SESSION;
     config.history = history;
-    config.repeats = 255;
+    config.max_retransmissions = 255;
     EXPECT(!gozdrit_sender_new(&config, &sender));
 }
 
 static void make_receiver(void) {
     gozdrit_receiver_config config;
-    EXPECT(!gozdrit_receiver_defaults(&config));
+    EXPECT(!gozdrit_receiver_defaults(&config, sizeof config));
     config.session = SESSION;
     config.window = STORE;
-    config.patience = FAR;
-    config.retry = 20;
-    config.nacks = 255;
-    config.delay = 0;
+    config.latency = FAR;
+    config.nack_interval = 20;
+    config.max_nacks = 255;
+    config.reorder_delay = 0;
     EXPECT(!gozdrit_receiver_new(&config, &receiver));
 }
 
 /* Sends the next packet, and answers the datagram's length. */
 static size_t send_next(void) {
     gozdrit_header header = {.timestamp = (uint32_t)now};
-    gozdrit_sent sent;
+    gozdrit_sent sent = GOZDRIT_SENT_INIT;
     payload[2] = (uint8_t)(number >> 8), payload[3] = (uint8_t)number;
     number++;
     EXPECT(!gozdrit_send(&sender, &header, payload, OCTETS, 0, &sent, datagram, ROOM));
     return sent.length;
 }
 
-static gozdrit_heard take(size_t length) {
-    gozdrit_heard heard;
-    EXPECT(!gozdrit_receive(&receiver, datagram, length, now, &heard));
-    return heard;
+static gozdrit_received take(size_t length) {
+    gozdrit_received received = GOZDRIT_RECEIVED_INIT;
+    EXPECT(!gozdrit_receive(&receiver, datagram, length, now, &received));
+    return received;
 }
 
 /* Takes the packet of a number, which no sender made. */
-static gozdrit_heard take_number(uint16_t of) {
+static gozdrit_received take_number(uint16_t of) {
     memset(datagram, 0, 12 + OCTETS);
     datagram[0] = 0x80, datagram[1] = 96, datagram[2] = (uint8_t)(of >> 8), datagram[3] = (uint8_t)of;
     memset(datagram + 8, 0x11, 4);
@@ -72,26 +72,26 @@ static gozdrit_heard take_number(uint16_t of) {
 }
 
 static uint8_t play(void) {
-    gozdrit_played played;
+    gozdrit_played played = GOZDRIT_PLAYED_INIT;
     EXPECT(!gozdrit_play(&receiver, now, &played, room, sizeof room));
     return played.kind;
 }
 
 static size_t ask(void) {
     size_t length;
-    EXPECT(!gozdrit_nack(&receiver, now, GOZDRIT_MOST, &length, nack, sizeof nack));
+    EXPECT(!gozdrit_nack(&receiver, now, GOZDRIT_MAX_NACKED, &length, nack, sizeof nack));
     return length;
 }
 
 static uint32_t hear(size_t length) {
-    gozdrit_told told;
-    EXPECT(!gozdrit_feedback(&sender, nack, length, &told) && told.kind == GOZDRIT_FEEDBACK);
-    return told.marked;
+    gozdrit_outcome outcome = GOZDRIT_OUTCOME_INIT;
+    EXPECT(!gozdrit_feedback(&sender, nack, length, &outcome) && outcome.kind == GOZDRIT_FEEDBACK);
+    return outcome.queued;
 }
 
 /* Writes the next retransmission, and answers its length: 0 where there is none. */
 static size_t retransmit(void) {
-    gozdrit_sent sent;
+    gozdrit_sent sent = GOZDRIT_SENT_INIT;
     EXPECT(!gozdrit_retransmit(&sender, &sent, datagram, ROOM));
     return sent.length;
 }
@@ -145,8 +145,8 @@ static void ask_for_hundred(void) {
 static void begin_missing(void) { fill_window(10, 1000); }
 
 static void read_next(void) {
-    gozdrit_moment next;
-    EXPECT(!gozdrit_next_moment(&receiver, &next) && !next.known);
+    gozdrit_timeout timeout;
+    EXPECT(!gozdrit_next_timeout(&receiver, &timeout) && !timeout.known);
 }
 
 /* A NACK of 64 full pairs, and the 1088 retransmissions that it brings. The packets that they retransmit are of `begin_pairs`. */
@@ -154,12 +154,12 @@ static void read_pairs(void) {
     static const uint8_t head[12] = {0x81, 205, 0, 66, 0x33, 0x33, 0x33, 0x33, 0x11, 0x11, 0x11, 0x11};
     memcpy(nack, head, sizeof head);
     for (uint16_t i = 0; i < 64; i++) {
-        const uint16_t first = (uint16_t)(number - GOZDRIT_MOST + 17 * i);
+        const uint16_t first = (uint16_t)(number - GOZDRIT_MAX_NACKED + 17 * i);
         const uint8_t pair[4] = {(uint8_t)(first >> 8), (uint8_t)first, 0xff, 0xff};
         memcpy(nack + 12 + 4 * i, pair, sizeof pair);
     }
-    EXPECT(hear(sizeof head + 4 * 64) == GOZDRIT_MOST);
-    for (int i = 0; i < GOZDRIT_MOST; i++) EXPECT(retransmit() == 14 + OCTETS);
+    EXPECT(hear(sizeof head + 4 * 64) == GOZDRIT_MAX_NACKED);
+    for (int i = 0; i < GOZDRIT_MAX_NACKED; i++) EXPECT(retransmit() == 14 + OCTETS);
     EXPECT(retransmit() == 0);
 }
 

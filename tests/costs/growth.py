@@ -3,7 +3,7 @@ from callgrind import count
 
 # A packet comes each turn, nothing can be played, nothing is to be asked for yet, and the next moment is read.
 WAITS = "window=8192 asked=1 retry=100000 step=1 asks=1 payload=1200 turns=200"
-CALLS = {"the next moment": "gozdrit_next_moment", "a NACK": "gozdrit_nack", "a play": "gozdrit_play", "a turn": ""}
+CALLS = {"the next moment": "gozdrit_next_timeout", "a NACK": "gozdrit_nack", "a play": "gozdrit_play", "a turn": ""}
 LEVEL, BESIDE_NONE = 1.3, 1.5  # times what they take with a hundred missing; times what a turn takes with none
 
 

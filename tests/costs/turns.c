@@ -11,6 +11,29 @@
 #include <stdlib.h>
 #include <string.h>
 
+/* The program is written for version 2 of the header, and `search` builds it with that of an older tree too. In version 1 no
+ * struct says its size, and these numbers, types, calls, and then fields have other names. */
+#if GOZDRIT_VERSION_MAJOR >= 2
+#define DEFAULTS(config) gozdrit_receiver_defaults(config, sizeof *(config))
+#else
+#define DEFAULTS(config) gozdrit_receiver_defaults(config)
+#define GOZDRIT_PLAYED_INIT {0}
+#define GOZDRIT_RECEIVED_INIT {0}
+#define GOZDRIT_RECEIVE_COUNTS_INIT {0}
+#define GOZDRIT_MAX_NACKED GOZDRIT_MOST
+#define GOZDRIT_MAX_NACK_DATAGRAM GOZDRIT_MAX_NACK
+#define gozdrit_received gozdrit_heard
+#define gozdrit_timeout gozdrit_moment
+#define gozdrit_next_timeout gozdrit_next_moment
+#define held_back held
+#define time moment
+#define latency patience
+#define reorder_delay delay
+#define nack_interval retry
+#define max_nacks nacks
+#define adaptive follows
+#endif
+
 typedef struct turns {
     /* the receiver */
     uint64_t window, patience, delay, retry, nacks, payload, follows;
@@ -43,8 +66,8 @@ static const struct {
     FIELD(window, 512), FIELD(patience, 1000000), FIELD(delay, 0), FIELD(retry, 20), FIELD(nacks, 255), FIELD(payload, 20),
     FIELD(follows, 0), FIELD(burst, 0), FIELD(lone, 0), FIELD(apart, 2), FIELD(drawn, 0), FIELD(share, 500), FIELD(asked, 0),
     FIELD(silence, 0), FIELD(turns, 20), FIELD(step, 20), FIELD(sends, 1), FIELD(skips, 0), FIELD(lost, 0), FIELD(run, 1),
-    FIELD(late, 0), FIELD(behind, 10), FIELD(answers, 0), FIELD(trip, 100), FIELD(asks, 0), FIELD(most, GOZDRIT_MOST), FIELD(each, 0),
-    FIELD(plays, 1), FIELD(reads, 1), FIELD(calls, 5000), FIELD(seed, 1),
+    FIELD(late, 0), FIELD(behind, 10), FIELD(answers, 0), FIELD(trip, 100), FIELD(asks, 0), FIELD(most, GOZDRIT_MAX_NACKED),
+    FIELD(each, 0), FIELD(plays, 1), FIELD(reads, 1), FIELD(calls, 5000), FIELD(seed, 1),
 };
 enum { COUNT = sizeof FIELDS / sizeof *FIELDS, AHEAD = 1 << 16 };
 
@@ -90,7 +113,7 @@ static bool is_drawn(uint64_t share) {
 
 static void play_all(void) {
     static uint8_t payload[GOZDRIT_MAX_PAYLOAD];
-    gozdrit_played played;
+    gozdrit_played played = GOZDRIT_PLAYED_INIT;
     do {
         made++;
         if (gozdrit_play(&receiver, now, &played, payload, sizeof payload)) fail("play");
@@ -118,7 +141,7 @@ static void answer(const uint8_t *nack, size_t length) {
 
 /* Asks so often at most, or where that is 0 until nothing is due. */
 static void ask(uint64_t times) {
-    static uint8_t nack[GOZDRIT_MAX_NACK];
+    static uint8_t nack[GOZDRIT_MAX_NACK_DATAGRAM];
     size_t length = 1;
     for (uint64_t i = 0; length != 0 && (times == 0 || i < times) && made < given.calls; i++) {
         made++;
@@ -130,11 +153,11 @@ static void ask(uint64_t times) {
 }
 
 static void read_next(void) {
-    gozdrit_moment next;
+    gozdrit_timeout timeout;
     made++;
-    if (gozdrit_next_moment(&receiver, &next)) fail("next moment");
-    tell(next.known);
-    if (next.known) tell(next.moment);
+    if (gozdrit_next_timeout(&receiver, &timeout)) fail("next timeout");
+    tell(timeout.known);
+    if (timeout.known) tell(timeout.time);
 }
 
 /* What follows a datagram, or all datagrams of a turn. */
@@ -149,13 +172,14 @@ static void take(uint16_t of, bool again) {
     const uint8_t ssrc = again ? 0x22 : 0x11;
     const uint16_t shown = again ? rtx_number++ : of;
     const size_t head = again ? 14 : 12, length = given.payload < 2 ? 2 : given.payload;
-    gozdrit_heard heard;
+    gozdrit_received received = GOZDRIT_RECEIVED_INIT;
     memcpy(datagram, (uint8_t[]){0x80, again ? 97 : 96, (uint8_t)(shown >> 8), (uint8_t)shown, 0, 0, (uint8_t)(of >> 8), (uint8_t)of,
                                  ssrc, ssrc, ssrc, ssrc, (uint8_t)(of >> 8), (uint8_t)of}, 14);
     memcpy(datagram + head, (uint8_t[]){(uint8_t)(of >> 8), (uint8_t)of}, 2);
     made++;
-    if (gozdrit_receive(&receiver, datagram, head + length, now, &heard)) fail("receive");
-    tell(heard.kind), tell(heard.refusal), tell(heard.sequence), tell(heard.overrun), tell(heard.held), tell(heard.abandoned);
+    if (gozdrit_receive(&receiver, datagram, head + length, now, &received)) fail("receive");
+    tell(received.kind), tell(received.refusal), tell(received.sequence), tell(received.overrun);
+    tell(received.held_back), tell(received.abandoned);
 }
 
 /* ---- the network */
@@ -205,14 +229,14 @@ __attribute__((noinline)) void counted(void) {
 
 static void make_receiver(void) {
     gozdrit_receiver_config config;
-    if (gozdrit_receiver_defaults(&config)) fail("defaults");
+    if (DEFAULTS(&config)) fail("defaults");
     config.session = (gozdrit_session){0x11111111, 0x22222222, 0x33333333, 96, 97, 0};
     config.window = (uint32_t)given.window;
-    config.patience = given.patience;
-    config.delay = given.delay;
-    config.retry = given.retry;
-    config.nacks = (uint8_t)given.nacks;
-    config.follows = (uint8_t)given.follows;
+    config.latency = given.patience;
+    config.reorder_delay = given.delay;
+    config.nack_interval = given.retry;
+    config.max_nacks = (uint8_t)given.nacks;
+    config.adaptive = (uint8_t)given.follows;
     if (gozdrit_receiver_new(&config, &receiver)) fail("a configuration");
 }
 
@@ -240,7 +264,7 @@ static void begin(void) {
 
 /* Answers how many packets are missing. */
 static size_t end(void) {
-    gozdrit_receive_counts counts;
+    gozdrit_receive_counts counts = GOZDRIT_RECEIVE_COUNTS_INIT;
     size_t missing;
     if (gozdrit_missing(&receiver, &missing) || gozdrit_receiver_counts(&receiver, &counts)) fail("counts");
     if (gozdrit_receiver_free(&receiver)) fail("the end");

@@ -32,10 +32,10 @@ typedef struct far_end {
 static void take_packets(far_end *f, uint64_t now) {
     static uint8_t octets[65536];
     for (int i = 0; i < BURST; i++) {
-        gozdrit_heard heard;
+        gozdrit_received received = GOZDRIT_RECEIVED_INIT;
         ssize_t length = recv(f->at, octets, sizeof octets, MSG_DONTWAIT);
-        if (length < 0 || gozdrit_receive(&f->end, octets, (size_t)length, now, &heard) != GOZDRIT_OK) return;
-        if (heard.kind == GOZDRIT_MEDIA || heard.kind == GOZDRIT_RETRANSMISSION) f->taken = now;
+        if (length < 0 || gozdrit_receive(&f->end, octets, (size_t)length, now, &received) != GOZDRIT_OK) return;
+        if (received.kind == GOZDRIT_MEDIA || received.kind == GOZDRIT_RETRANSMISSION) f->taken = now;
     }
 }
 
@@ -67,7 +67,7 @@ static bool hand_on(far_end *f, const gozdrit_played *played, const uint8_t *pay
 
 static void play(far_end *f, uint64_t now) {
     while (!f->broken) {
-        gozdrit_played played;
+        gozdrit_played played = GOZDRIT_PLAYED_INIT;
         uint8_t payload[GOZDRIT_MAX_PAYLOAD];
         int32_t number = gozdrit_play(&f->end, now, &played, payload, sizeof payload);
         if (number != GOZDRIT_OK) f->broken = true;
@@ -78,19 +78,19 @@ static void play(far_end *f, uint64_t now) {
 
 static void ask(far_end *f, uint64_t now) {
     while (f->nacks > 0) {
-        uint8_t out[GOZDRIT_MAX_NACK];
+        uint8_t out[GOZDRIT_MAX_NACK_DATAGRAM];
         size_t length;
-        if (gozdrit_nack(&f->end, now, GOZDRIT_MOST, &length, out, sizeof out) != GOZDRIT_OK || length == 0) return;
+        if (gozdrit_nack(&f->end, now, GOZDRIT_MAX_NACKED, &length, out, sizeof out) != GOZDRIT_OK || length == 0) return;
         send_to(f->at, f->to, out, length);
     }
 }
 
 /* How long nothing is to be done. Where no NACKs are made those that are due stay so, and nothing is to be done for them. */
 static int sleep_from(const far_end *f, uint64_t now) {
-    gozdrit_moment next;
+    gozdrit_timeout timeout;
     if (f->nacks == 0) return 10;
-    if (gozdrit_next_moment(&f->end, &next) != GOZDRIT_OK || !next.known || next.moment > now + SLEEP) return SLEEP;
-    return next.moment <= now ? 0 : (int)(next.moment - now);
+    if (gozdrit_next_timeout(&f->end, &timeout) != GOZDRIT_OK || !timeout.known || timeout.time > now + SLEEP) return SLEEP;
+    return timeout.time <= now ? 0 : (int)(timeout.time - now);
 }
 
 /* Whether the stream is over: no new packet comes, and none is missing. */
@@ -113,17 +113,19 @@ static void receive(far_end *f) {
 }
 
 static void tell(far_end *f) {
-    gozdrit_receive_counts c;
-    gozdrit_receive_kinds k;
-    gozdrit_times t = {0};
-    if (gozdrit_receiver_counts(&f->end, &c) != GOZDRIT_OK || gozdrit_receiver_kinds(&f->end, &k) != GOZDRIT_OK) return;
+    gozdrit_receive_counts c = GOZDRIT_RECEIVE_COUNTS_INIT;
+    gozdrit_probe_counts p = GOZDRIT_PROBE_COUNTS_INIT;
+    gozdrit_times t = GOZDRIT_TIMES_INIT;
+    if (gozdrit_receiver_counts(&f->end, &c) != GOZDRIT_OK) return;
+    if (gozdrit_receiver_probe_counts(&f->end, &p) != GOZDRIT_OK) return;
     gozdrit_receiver_times(&f->end, &t);
     fprintf(stderr, "far media %" PRIu64 " retransmissions %" PRIu64 " duplicate %" PRIu64 " late %" PRIu64, c.media,
             c.retransmissions, c.duplicate, c.late);
-    fprintf(stderr, " far %" PRIu64 " refused %" PRIu64 " rtcp %" PRIu64 " overrun %" PRIu64, c.far, c.refused, c.rtcp, c.overrun);
+    fprintf(stderr, " far %" PRIu64 " refused %" PRIu64 " rtcp %" PRIu64 " overrun %" PRIu64, c.too_far, c.refused,
+            c.rtcp, c.overrun);
     fprintf(stderr, " held_back %" PRIu64 " restarts %" PRIu64, c.held_back, c.restarts);
-    fprintf(stderr, " padding %" PRIu64 " unasked %" PRIu64 " too_late %" PRIu64 " rtt %" PRIu64, k.padding, k.unasked, k.late,
-            t.round_trip);
+    fprintf(stderr, " padding %" PRIu64 " unasked %" PRIu64 " too_late %" PRIu64 " rtt %" PRIu64, p.padding, p.unrequested,
+            p.late, t.round_trip);
     fprintf(stderr, " played %" PRIu64 " gaps %" PRIu64 " nacks %" PRIu64 " nacked %" PRIu64 "\n", c.played, c.gaps, c.nacks,
             c.nacked);
 }
@@ -137,11 +139,13 @@ static bool make_far(far_end *f, char **words) {
     if (!words || !words[0] || !words[1] || !words[2] || !stream_of(words[2], &f->of)) return false;
     f->at = bound_at(port_of(words[0]));
     f->to = port_of(words[1]);
-    gozdrit_receiver_defaults(&config);
+    gozdrit_receiver_defaults(&config, sizeof config);
     config.session = (gozdrit_session){f->of.media, f->of.rtx, f->of.reporter, (uint8_t)f->of.type, (uint8_t)f->of.rtx_type, 1};
-    config.patience = f->patience, config.delay = f->delay, config.retry = f->retry;
-    config.nacks = f->nacks == 0 ? 1 : (uint8_t)f->nacks;
-    config.follows = (uint8_t)f->follows;
+    config.latency = f->patience;
+    config.reorder_delay = f->delay;
+    config.nack_interval = f->retry;
+    config.max_nacks = f->nacks == 0 ? 1 : (uint8_t)f->nacks;
+    config.adaptive = (uint8_t)f->follows;
     config.window = 4096;
     return f->at >= 0 && f->to > 0 && gozdrit_receiver_new(&config, &f->end) == GOZDRIT_OK
            && gozdrit_begin(&f->end, (uint16_t)f->of.first) == GOZDRIT_OK;

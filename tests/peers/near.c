@@ -5,7 +5,8 @@
  * Each STREAM (net.h) is a session of its own, whose encoder sends RTP to the port IN. A packet keeps its timestamp, marker, CSRCs
  * and extension, and gets the session's numbers. All that is sent leaves from the port AT to the port TO, and feedback comes
  * to AT: each datagram is handed to each session's sender. Retransmissions are paced: --rate N (4) a millisecond at most.
- * Where the encoder is silent for --silence N (150) milliseconds, the last packet is marked, and again after as many.
+ * Where the encoder is silent for --silence N (150) milliseconds, its last packet is the probe of a tail loss, and again after
+ * as many.
  *
  * It ends by SIGTERM, or after --seconds N (60), and tells its counts: a line of each session and a line of the whole. */
 #define _POSIX_C_SOURCE 200809L
@@ -20,9 +21,9 @@ enum { MAX_ENDS = 4, BURST = 64, SLEEP = 100 };
 typedef struct session {
     gozdrit_sender end;
     int in;
-    uint64_t heard;            /* when the encoder sent its last packet, or the last one was marked since */
+    uint64_t heard;            /* when the encoder sent its last packet, or a probe was made since */
     uint64_t taken, bad, gaps; /* packets of the encoder: those that were sent, those that were not, and numbers passed over */
-    uint64_t marks;
+    uint64_t probes;
     uint16_t next; /* the encoder's next number */
 } session;
 
@@ -39,7 +40,7 @@ typedef struct near_end {
 static void send_media(near_end *n, session *s, const uint8_t *octets, size_t length) {
     uint8_t out[GOZDRIT_MAX_DATAGRAM];
     gozdrit_packet packet;
-    gozdrit_sent sent;
+    gozdrit_sent sent = GOZDRIT_SENT_INIT;
     if (gozdrit_rtp_read(octets, length, &packet) != GOZDRIT_OK
         || gozdrit_send(&s->end, &packet.header, octets + packet.payload, packet.length, 0, &sent, out, sizeof out)
                != GOZDRIT_OK) {
@@ -71,10 +72,10 @@ static void take_feedback(near_end *n) {
         if (length < 0) return;
         n->feedback++;
         for (size_t k = 0; k < n->count; k++) {
-            gozdrit_told told;
-            if (gozdrit_feedback(&n->sessions[k].end, octets, (size_t)length, &told) != GOZDRIT_OK) continue;
-            hearing += told.kind == GOZDRIT_FEEDBACK;
-            taking += told.kind != GOZDRIT_NOT_TAKEN;
+            gozdrit_outcome outcome = GOZDRIT_OUTCOME_INIT;
+            if (gozdrit_feedback(&n->sessions[k].end, octets, (size_t)length, &outcome) != GOZDRIT_OK) continue;
+            hearing += outcome.kind == GOZDRIT_FEEDBACK;
+            taking += outcome.kind != GOZDRIT_REFUSED;
         }
         n->shared += hearing > 1;
         n->neither += taking == 0;
@@ -86,7 +87,7 @@ static bool retransmit(near_end *n) {
     uint64_t left = n->rate;
     for (size_t k = 0; k < n->count; k++) {
         uint8_t out[GOZDRIT_MAX_DATAGRAM];
-        gozdrit_sent sent;
+        gozdrit_sent sent = GOZDRIT_SENT_INIT;
         while (left > 0 && gozdrit_retransmit(&n->sessions[k].end, &sent, out, sizeof out) == GOZDRIT_OK && sent.length > 0) {
             send_to(n->at, n->to, out, sent.length);
             left--;
@@ -95,13 +96,13 @@ static bool retransmit(near_end *n) {
     return left == 0;
 }
 
-/* Marks the last packet of each session whose encoder is silent. */
-static void mark_silent(near_end *n, uint64_t now) {
+/* Probes for a tail loss in each session whose encoder is silent. */
+static void probe_silent(near_end *n, uint64_t now) {
     for (size_t k = 0; k < n->count; k++) {
         session *s = &n->sessions[k];
-        uint32_t marked = 0;
+        uint32_t queued = 0;
         if (s->taken == 0 || now - s->heard < n->silence) continue;
-        if (gozdrit_mark_last(&s->end, &marked) == GOZDRIT_OK) s->marks += marked;
+        if (gozdrit_tail_loss_probe(&s->end, &queued) == GOZDRIT_OK) s->probes += queued;
         s->heard = now;
     }
 }
@@ -117,7 +118,7 @@ static void serve(near_end *n) {
         now = moment();
         for (size_t k = 0; k < n->count; k++) take_media(n, &n->sessions[k], now);
         take_feedback(n);
-        mark_silent(n, now);
+        probe_silent(n, now);
         if (more && now == spent) continue;
         more = retransmit(n);
         spent = now;
@@ -127,14 +128,14 @@ static void serve(near_end *n) {
 static void tell(near_end *n) {
     for (size_t k = 0; k < n->count; k++) {
         const session *s = &n->sessions[k];
-        gozdrit_send_counts c;
+        gozdrit_send_counts c = GOZDRIT_SEND_COUNTS_INIT;
         if (gozdrit_sender_counts(&s->end, &c) != GOZDRIT_OK) continue;
         printf("session taken %" PRIu64 " bad %" PRIu64 " gaps %" PRIu64 " marks %" PRIu64 " sent %" PRIu64, s->taken, s->bad,
-               s->gaps, s->marks, c.sent);
+               s->gaps, s->probes, c.sent);
         printf(" retransmissions %" PRIu64 " nacks %" PRIu64 " numbers %" PRIu64 " others %" PRIu64, c.retransmissions, c.nacks,
-               c.numbers, c.others);
-        printf(" unknown %" PRIu64 " exhausted %" PRIu64 " reports %" PRIu64 " refused %" PRIu64 "\n", c.unknown, c.exhausted,
-               c.reports, c.refused);
+               c.nacked, c.other_nacks);
+        printf(" unknown %" PRIu64 " exhausted %" PRIu64 " reports %" PRIu64 " refused %" PRIu64 "\n",
+               c.not_in_history, c.exhausted, c.reports, c.refused);
         gozdrit_sender_free(&n->sessions[k].end);
     }
     printf("near feedback %" PRIu64 " shared %" PRIu64 " neither %" PRIu64 "\n", n->feedback, n->shared, n->neither);
@@ -146,15 +147,15 @@ static bool add_session(near_end *n, const char *in, const char *word) {
     gozdrit_sender_config config;
     stream of;
     if (n->count == MAX_ENDS || !stream_of(word, &of)) return false;
-    gozdrit_sender_defaults(&config);
+    gozdrit_sender_defaults(&config, sizeof config);
     /* An SSRC of nobody, where NACKs of anybody are heard. */
     config.session = (gozdrit_session){of.media, of.rtx, of.reporter ? of.reporter : ~(of.media ^ of.rtx), (uint8_t)of.type,
                                        (uint8_t)of.rtx_type, 1};
     config.any_reporter = of.reporter == 0;
-    config.first = (uint16_t)of.first;
-    config.rtx_first = 65500; /* so that these numbers wrap */
+    config.first_sequence = (uint16_t)of.first;
+    config.rtx_first_sequence = 65500; /* so that these numbers wrap */
     config.history = 2048;
-    config.repeats = 255;
+    config.max_retransmissions = 255;
     if (gozdrit_sender_new(&config, &s->end) != GOZDRIT_OK) return false;
     s->in = bound_at(port_of(in));
     n->count++;

@@ -4,7 +4,7 @@
 --     leave        the end: the result, and the `ensures`
 --     gone_ptr, gone_int, gone_heap     the law that a parameter owes of which nothing is had
 --     alloc_made   a handle to the heap, which owns nothing
---     moved_to, slice_moved     what lies at an address that is the same
+--     moved_to, sized_moved, slice_moved     what lies at an address that is the same
 use Rattle.std.proofs.Common.{◌≡◌, ℕ, List, [], ◌∷◌, refl}
 use Rattle.std.specs.Prelude.{Option}
 use seplogic.Ra.Ura.{Ura}
@@ -29,7 +29,7 @@ use denote.Triple.Spec.{triple_of}
 use denote.Triple.Walked.{Stays, stay_dropped, fits_of, has_of, walk_of, ends_at, Goes, Goes-dropped}
 use Rattle.std.specs.contracts.alloc.Global as heap
 use Rattle.std.proofs.Handle.{heap_val}
-use Rattle.gozdrit.specs.Lying.{value_lies_at, slice_lies_at}
+use Rattle.gozdrit.specs.Lying.{value_lies_at, slice_lies_at, sized_lies_at}
 
 module _ {n : ℕ} where
   abbrev pub drops : (ss : List (Slot n)) (ks : Kepts ss) → Stays ss ks
@@ -62,6 +62,9 @@ module _ {M : Type 1} {𝓤 : Ura M} {𝓛 : Logic 𝓤} {K : Type 0} {Γ : List
 
   pub moved_to : K → (R : RattleType) {p s : Ptr} (v : Option R.Denot) → s ≡ p → Step K 𝓛 (‵ (value_lies_at R p v) ∷ Γ) G (‵ (value_lies_at R s v) ∷ Γ) G
   moved_to t R v e = step (λ k. rewrite t 0 (λ (u : Ptr). ‵ (value_lies_at R u v)) e refl $ k)
+
+  pub sized_moved : K → (R : RattleType) {p s : Ptr} (v : Option R.Denot) (ys : List ℕ) → s ≡ p → Step K 𝓛 (‵ (sized_lies_at R p v ys) ∷ Γ) G (‵ (sized_lies_at R s v ys) ∷ Γ) G
+  sized_moved t R v ys e = step (λ k. rewrite t 0 (λ (u : Ptr). ‵ (sized_lies_at R u v ys)) e refl $ k)
 
   pub slice_moved : K → (R : RattleType) {p s : Ptr} {n m : ℕ} (v : Option (List R.Denot)) → s ≡ p → m ≡ n → Step K 𝓛 (‵ (slice_lies_at R p n v) ∷ Γ) G (‵ (slice_lies_at R s m v) ∷ Γ) G
   slice_moved t R {p} {s} {n} {m} v e e' = step (λ k. rewrite t 0 (λ (u : Ptr). ‵ (slice_lies_at R u m v)) e refl $ rewrite t 0 (λ (i : ℕ). ‵ (slice_lies_at R p i v)) e' refl $ k)

@@ -17,38 +17,46 @@ use denote.Steps.{peeks, only}
 use denote.Struct.Struct.{as_fields, to_tys}
 use denote.Struct.Tuple.{Tuple}
 use Rattle.std.proofs.RcSteps.{Good, word, word_ty, word-Good}
-use Rattle.gozdrit.specs.Lying.{value_lies_at, slice_lies_at}
+use Rattle.gozdrit.specs.Lying.{value_lies_at, slice_lies_at, sized_lies_at}
 use Rattle.gozdrit.proofs.LentMemory.{Lent, value_had}
+use Rattle.gozdrit.proofs.SizedMemory.{LentSized, sized_had}
 use Rattle.gozdrit.proofs.SliceMemory.{LentSlice, lent_slice_val, lent_slice_ty, lent_slice-Good, slice_had}
 
 pub data Back : Type 2 where
   a_value : RattleType → Back
   a_slice : RattleType → Back
+  a_sized : RattleType → Back
 
 abbrev pub row : Back → RattleType
 row (a_value R) = Lent R
 row (a_slice R) = LentSlice R
+row (a_sized R) = LentSized R
 
 abbrev pub back_val : (k : Back) → (row k).Denot → Val
 back_val (a_value R) d = word d.at
 back_val (a_slice R) d = lent_slice_val d.at d.len
+back_val (a_sized R) d = word d.at
 
 abbrev pub back_ty : Back → Ty
 back_ty (a_value R) = word_ty []
 back_ty (a_slice R) = lent_slice_ty []
+back_ty (a_sized R) = word_ty []
 
 abbrev pub Fits : (k : Back) → (row k).Denot → Type 0
 Fits (a_value R) d = Unit {0}
 Fits (a_slice R) d = d.len < 2 ^ 64
+Fits (a_sized R) d = Unit {0}
 
 -- what lies there
 abbrev pub lies : (k : Back) → (row k).Denot → Fml
 lies (a_value R) d = value_lies_at R d.at d.value
 lies (a_slice R) d = slice_lies_at R d.at d.len d.items
+lies (a_sized R) d = sized_lies_at R d.at d.value d.rest
 
 pub back-Good : (k : Back) (d : (row k).Denot) → Fits k d → Good (back_ty k) (back_val k d)
 back-Good (a_value R) d fits = word-Good [] d.at
 back-Good (a_slice R) d fits = lent_slice-Good [] d.at d.len fits
+back-Good (a_sized R) d fits = word-Good [] d.at
 
 -- a code's machine value
 abbrev pub code_val : ℤ → Val
@@ -65,6 +73,7 @@ module _ {M : Type 1} {𝓤 : Ura M} {𝓛 : Logic 𝓤} {K : Type 0} {Γ : List
   pub back_had : K → (k : Back) (d : (row k).Denot) (vs : List Val) → (vs ≡ back_val k d ∷ [] → Fits k d → Seq K 𝓛 (‵ (lies k d) ∷ Γ) G) → Seq K 𝓛 (‵ ((row k).own_val d vs) ∷ Γ) G
   back_had t (a_value R) d vs k = value_had R t d vs (λ e. k e tt)
   back_had t (a_slice R) d vs k = slice_had R t d vs k
+  back_had t (a_sized R) d vs k = sized_had R t d vs (λ e. k e tt)
 
   code_had : K → (z : ℤ) (vs : List Val) → (vs ≡ code_val z ∷ [] → Good (ty_int w32) (code_val z) → Seq K 𝓛 (‵ (i32.own_val z (code_val z ∷ [])) ∷ Γ) G) → Seq K 𝓛 (‵ (i32.own_val z vs) ∷ Γ) G
   code_had t z vs k = peeks t i32 (Is i32) (shows 𝓛 i32) z vs (λ is. rewrite t 0 (λ (us : List Val). ‵ (i32.own_val z us)) is.0 refl $ k is.0 (((sint_Lawful 𝓛 w32).typed z (code_val z ∷ []) (refl, is.1)).0))

@@ -24,8 +24,9 @@ pub use denote.Triple.Entry.{on_entry, Vals}
 pub use denote.Triple.Spec.{triple_of}
 pub use denote.Triple.Table.{framed}
 pub use Rattle.std.specs.contracts.alloc.Global.{the_row as Heap}
-pub use Rattle.gozdrit.specs.Lying.{value_lies_at, slice_lies_at}
+pub use Rattle.gozdrit.specs.Lying.{value_lies_at, slice_lies_at, sized_lies_at}
 pub use Rattle.gozdrit.proofs.LentMemory.{Lent, ptr_good, value_made}
-pub use Rattle.gozdrit.proofs.Handed.{Back, a_value, a_slice, code_val, answer1_had, answer2_had, answer3_had, answer4_had, answer5_had}
+pub use Rattle.gozdrit.proofs.Handed.{Back, a_value, a_slice, a_sized, code_val, answer1_had, answer2_had, answer3_had, answer4_had, answer5_had}
 pub use Rattle.gozdrit.proofs.SliceMemory.{LentSlice, lent_slice_val, lent_slice-Good, slice_made}
-pub use Rattle.gozdrit.proofs.Exports.{drops, answered, gone_ptr, gone_int, gone_heap, alloc_made, moved_to, slice_moved, leave}
+pub use Rattle.gozdrit.proofs.Exports.{drops, answered, gone_ptr, gone_int, gone_heap, alloc_made, moved_to, sized_moved, slice_moved, leave}
+pub use Rattle.gozdrit.proofs.SizedMemory.{LentSized, sized_made}

@@ -1,5 +1,5 @@
 -- The names that this crate's walks cite.
-pub use Rattle.std.proofs.Common.{◌≡◌, ℕ, ◌<◌, ◌^◌, ◌*◌, List, [], ◌∷◌, refl, sym, ap, ◌∙◌, subst, arith}
+pub use Rattle.std.proofs.Common.{◌≡◌, ℕ, ◌+◌, ◌<◌, ◌^◌, ◌*◌, List, [], ◌∷◌, refl, sym, ap, ◌∙◌, subst, arith}
 pub use Rattle.std.specs.Prelude.{Option, Some, IsSome, is_none}
 pub use Rattle.std.proofs.RcSteps.{word}
 pub use base.Logic.{emp, ent, sep, id⊢}

@@ -22,6 +22,9 @@ no_room = pos 75
 abbrev pub null_pointer : ℤ  -- a pointer is null where something has to lie
 null_pointer = pos 76
 
+abbrev pub bad_size : ℤ  -- a struct is shorter than it is known here, or says what is not known here
+bad_size = pos 77
+
 abbrev pub has_started : ℤ  -- a packet was taken already
 has_started = pos 40
 

@@ -13,7 +13,7 @@ use Rattle.gozdrit.specs.declared.config.SenderFields.{SenderFields}
 use Rattle.gozdrit.specs.declared.config.ReceiverFields.{ReceiverFields}
 
 abbrev pub streams_of : SessionFields → Streams
-streams_of s = streams s.media_ssrc s.media_type s.rtx_ssrc s.rtx_type s.receiver_ssrc
+streams_of s = streams s.media_ssrc s.media_payload_type s.rtx_ssrc s.rtx_payload_type s.receiver_ssrc
 
 -- the payload types, of which that of the media may be a static one where it is said so
 abbrev pub HasTypesFor : (any : ℕ) → Streams → Type 0
@@ -31,11 +31,11 @@ IsFollowing follows = follows ≤ 2
 
 -- the streams make a session
 pub record IsSession (s : SessionFields) : Type 0 where
-  pub types : HasTypesFor s.any_media_type (streams_of s)
+  pub types : HasTypesFor s.any_media_payload_type (streams_of s)
   pub ssrcs : HasSsrcs (streams_of s)
 
 abbrev pub sender_config : SenderFields → sending.Config
-sender_config f = sending.config_of (streams_of f.session) f.first f.rtx_first f.repeats (not (f.any_reporter == 0))
+sender_config f = sending.config_of (streams_of f.session) f.first_sequence f.rtx_first_sequence f.max_retransmissions (not (f.any_reporter == 0))
 
 pub record HasSenderLimits (f : SenderFields) : Type 0 where
   pub config : sending.IsConfig (sender_config f)
@@ -51,12 +51,12 @@ abbrev pub rule_of : SenderFields → ResendRule
 rule_of f = record { min_resend = f.min_resend; deadline = deadline_of f.deadline }
 
 abbrev pub receiver_config : ReceiverFields → receiving.Config
-receiver_config f = receiving.config_with (streams_of f.session) f.patience f.delay f.retry f.nacks (not (f.learns == 0))
+receiver_config f = receiving.config_with (streams_of f.session) f.latency f.reorder_delay f.nack_interval f.max_nacks (not (f.learn_rtx_ssrc == 0))
 
 pub record HasReceiverLimits (f : ReceiverFields) : Type 0 where
   pub config : receiving.IsConfig (receiver_config f)
   pub window : IsCapacity f.window
-  pub follows : IsFollowing f.follows
+  pub follows : IsFollowing f.adaptive
 
 -- a number, or the usual one in the place of 0
 abbrev pub or_usual : (number usual : ℕ) → ℕ
@@ -78,13 +78,13 @@ probation_of f =
     record {
       dropout = or_usual f.max_dropout (usual_dropout f.window);
       misorder = or_usual f.max_misorder 100;
-      ahead = or_usual f.min_ahead 2;
-      behind = or_usual f.min_behind 256;
-      silence = silence_of f.silence;
+      ahead = or_usual f.min_sequential_ahead 2;
+      behind = or_usual f.min_sequential_behind 256;
+      silence = silence_of f.idle_after;
     }
 
 -- The first check that a configuration fails, of streams and limits.
 abbrev pub Fails : SessionFields → Type 0 → ConfigFault → Type 0
-Fails s Limits BadType = HasTypesFor s.any_media_type (streams_of s) → ⊥
-Fails s Limits SameSsrc = HasTypesFor s.any_media_type (streams_of s) × (HasSsrcs (streams_of s) → ⊥)
+Fails s Limits BadType = HasTypesFor s.any_media_payload_type (streams_of s) → ⊥
+Fails s Limits SameSsrc = HasTypesFor s.any_media_payload_type (streams_of s) × (HasSsrcs (streams_of s) → ⊥)
 Fails s Limits BadLimit = IsSession s × (Limits → ⊥)

@@ -1,15 +1,18 @@
 -- What both ends counted, as C is told it.
+use Rattle.std.specs.Prelude.{ℕ}
 use Rattle.endpoint.specs.declared.kind_counts.KindCounts.{KindCounts}
 use Rattle.endpoint.specs.declared.receive_counts.ReceiveCounts.{ReceiveCounts}
 use Rattle.endpoint.specs.declared.resend_counts.ResendCounts.{ResendCounts}
 use Rattle.endpoint.specs.declared.send_counts.SendCounts.{SendCounts}
 use Rattle.gozdrit.specs.declared.counts.ReceiverCounts.{ReceiverCounts}
-use Rattle.gozdrit.specs.declared.counts.ReceiverKinds.{ReceiverKinds}
+use Rattle.gozdrit.specs.declared.counts.ProbeCounts.{ProbeCounts}
 use Rattle.gozdrit.specs.declared.counts.SenderCounts.{SenderCounts}
 
-abbrev pub receiver_counts : ReceiveCounts → ReceiverCounts
-receiver_counts c =
+-- each in a struct of this size
+abbrev pub receiver_counts : (size : ℕ) → ReceiveCounts → ReceiverCounts
+receiver_counts size c =
     record {
+      size = size;
       media = c.media;
       retransmissions = c.retransmissions;
       held_back = c.held_back;
@@ -17,7 +20,7 @@ receiver_counts c =
       rtcp = c.control;
       duplicate = c.duplicate;
       late = c.late;
-      far = c.far;
+      too_far = c.far;
       refused = c.refused;
       overrun = c.overrun;
       abandoned = c.abandoned;
@@ -27,26 +30,28 @@ receiver_counts c =
       nacked = c.places_asked;
     }
 
-abbrev pub receiver_kinds : KindCounts → ReceiverKinds
-receiver_kinds c =
+abbrev pub probe_counts : (size : ℕ) → KindCounts → ProbeCounts
+probe_counts size c =
     record {
+      size = size;
       padding = c.padding;
-      unasked = c.unasked;
+      unrequested = c.unasked;
       duplicate = c.duplicate;
       late = c.late;
       refused = c.refused;
     }
 
-abbrev pub sender_counts : SendCounts → ResendCounts → SenderCounts
-sender_counts c passed =
+abbrev pub sender_counts : (size : ℕ) → SendCounts → ResendCounts → SenderCounts
+sender_counts size c passed =
     record {
+      size = size;
       sent = c.sent;
       octets = c.octets;
       retransmissions = c.retransmissions;
       nacks = c.nacks;
-      others = c.others;
-      numbers = c.numbers;
-      unknown = c.unknown;
+      other_nacks = c.others;
+      nacked = c.numbers;
+      not_in_history = c.unknown;
       exhausted = c.exhausted;
       media = c.media;
       reports = c.reports;

@@ -1,49 +1,49 @@
 -- What each export answers to what C lends it: what its call answers to the values (`Answers..`, each beside its end), or
 -- `null_pointer` where a pointer is null where something has to lie. What is lent to be read stays as it is.
-use Rattle.std.specs.Prelude.{◌≡◌, ℕ, ℤ, List, Option}
+use Rattle.std.specs.Prelude.{◌≡◌, ℕ, ℤ, List, Option, Some, None, IsSomeAnd}
 use Rattle.gozdrit.specs.Null.{Answers1, Answers2, Answers3, Answers4, Answers5}
-use Rattle.gozdrit.specs.declared.answers.KnownMoment.{KnownMoment}
+use Rattle.gozdrit.specs.declared.answers.KnownTimeout.{KnownTimeout}
 use Rattle.gozdrit.specs.declared.answers.KnownSequence.{KnownSequence}
-use Rattle.gozdrit.specs.declared.answers.KnownSource.{KnownSource}
+use Rattle.gozdrit.specs.declared.answers.KnownSsrc.{KnownSsrc}
 use Rattle.gozdrit.specs.declared.answers.KnownTimes.{KnownTimes}
 use Rattle.gozdrit.specs.declared.answers.PlayedPacket.{PlayedPacket}
 use Rattle.gozdrit.specs.declared.answers.SentPacket.{SentPacket}
 use Rattle.gozdrit.specs.declared.config.ReceiverFields.{ReceiverFields}
 use Rattle.gozdrit.specs.declared.config.SenderFields.{SenderFields}
 use Rattle.gozdrit.specs.declared.counts.ReceiverCounts.{ReceiverCounts}
-use Rattle.gozdrit.specs.declared.counts.ReceiverKinds.{ReceiverKinds}
+use Rattle.gozdrit.specs.declared.counts.ProbeCounts.{ProbeCounts}
 use Rattle.gozdrit.specs.declared.counts.SenderCounts.{SenderCounts}
 use Rattle.gozdrit.specs.declared.handle.Handle.{Handle}
 use Rattle.gozdrit.specs.declared.header.Header.{Header}
-use Rattle.gozdrit.specs.declared.heard.HeardFields.{HeardFields}
-use Rattle.gozdrit.specs.declared.heard.ToldFields.{ToldFields}
+use Rattle.gozdrit.specs.declared.heard.ReceivedFields.{ReceivedFields}
+use Rattle.gozdrit.specs.declared.heard.OutcomeFields.{OutcomeFields}
 use Rattle.gozdrit.specs.declared.packets.PacketFields.{PacketFields}
-use Rattle.gozdrit.specs.Codes.{ok, null_pointer}
+use Rattle.gozdrit.specs.declared.sizes.TheConstants.{RECEIVER_CONFIG, SENDER_CONFIG}
+use Rattle.gozdrit.specs.Codes.{null_pointer}
+use Rattle.gozdrit.specs.Sizes.{Fills}
 use Rattle.gozdrit.specs.Defaults.{usual_receiver, usual_sender}
 use Rattle.gozdrit.specs.Ends.{Receiver, Sender}
 use Rattle.gozdrit.specs.Freeing.{AnswersFree}
 use Rattle.gozdrit.specs.Packets.{AnswersRead, AnswersWrite}
-use Rattle.gozdrit.specs.Reading.{AnswersMissing, AnswersSource, AnswersNext, AnswersHighest, AnswersMoment, AnswersReceiverTimes, AnswersReceiverCounts, AnswersReceiverKinds, AnswersSenderCounts}
+use Rattle.gozdrit.specs.Reading.{AnswersMissing, AnswersSsrc, AnswersNext, AnswersHighest, AnswersTimeout, AnswersReceiverTimes, AnswersReceiverCounts, AnswersProbeCounts, AnswersSenderCounts}
 use Rattle.gozdrit.specs.Receiving.{AnswersReceiverNew, AnswersReceive, AnswersPlay, AnswersNack, AnswersBegin, AnswersRestart, AnswersTimes, AnswersFollow}
 use Rattle.gozdrit.specs.Sending.{AnswersSenderNew, AnswersSend, AnswersFeedback, AnswersRetransmit, AnswersMarkLast, AnswersTime}
 
 -- `gozdrit_sender_defaults`
-abbrev pub SenderDefaultsFor : Option SenderFields → ℤ → Option SenderFields → Type 0
-SenderDefaultsFor =
-    Answers1 null_pointer (λ config code config'.
-    (code ≡ ok) × (config' ≡ usual_sender))
+abbrev pub SenderDefaultsFor : (size : ℕ) → Option SenderFields → List ℕ → ℤ → Option SenderFields → List ℕ → Type 0
+SenderDefaultsFor size (Some f) rest code config' rest' = IsSomeAnd config' (λ f'. Fills SENDER_CONFIG size (usual_sender size) f rest code f' rest')
+SenderDefaultsFor size None rest code config' rest' = (code ≡ null_pointer) × (config' ≡ None) × (rest' ≡ rest)
 
 -- `gozdrit_receiver_defaults`
-abbrev pub ReceiverDefaultsFor : Option ReceiverFields → ℤ → Option ReceiverFields → Type 0
-ReceiverDefaultsFor =
-    Answers1 null_pointer (λ config code config'.
-    (code ≡ ok) × (config' ≡ usual_receiver))
+abbrev pub ReceiverDefaultsFor : (size : ℕ) → Option ReceiverFields → List ℕ → ℤ → Option ReceiverFields → List ℕ → Type 0
+ReceiverDefaultsFor size (Some f) rest code config' rest' = IsSomeAnd config' (λ f'. Fills RECEIVER_CONFIG size (usual_receiver size) f rest code f' rest')
+ReceiverDefaultsFor size None rest code config' rest' = (code ≡ null_pointer) × (config' ≡ None) × (rest' ≡ rest)
 
 -- `gozdrit_sender_new`
-abbrev pub SenderNewFor : Option SenderFields → Option (Handle Sender) → ℤ → Option SenderFields → Option (Handle Sender) → Type 0
-SenderNewFor =
-    Answers2 null_pointer (λ config sender code config' sender'.
-    (config' ≡ config) × AnswersSenderNew config sender.inside code sender'.inside)
+abbrev pub SenderNewFor : Option SenderFields → List ℕ → Option (Handle Sender) → ℤ → Option SenderFields → List ℕ → Option (Handle Sender) → Type 0
+SenderNewFor config rest sender code config' rest' sender' =
+    (rest' ≡ rest) × Answers2 null_pointer (λ f sender code f' sender'.
+    (f' ≡ f) × AnswersSenderNew f rest sender.inside code sender'.inside) config sender code config' sender'
 
 -- `gozdrit_sender_free`
 abbrev pub SenderFreeFor : Option (Handle Sender) → ℤ → Option (Handle Sender) → Type 0
@@ -58,7 +58,7 @@ SendFor padding =
     (header' ≡ header) × (payload' ≡ payload) × AnswersSend sender.inside header payload padding sent out code sender'.inside sent' out')
 
 -- `gozdrit_feedback`
-abbrev pub FeedbackFor : Option (Handle Sender) → Option (List ℕ) → Option ToldFields → ℤ → Option (Handle Sender) → Option (List ℕ) → Option ToldFields → Type 0
+abbrev pub FeedbackFor : Option (Handle Sender) → Option (List ℕ) → Option OutcomeFields → ℤ → Option (Handle Sender) → Option (List ℕ) → Option OutcomeFields → Type 0
 FeedbackFor =
     Answers3 null_pointer (λ sender octets told code sender' octets' told'.
     (octets' ≡ octets) × AnswersFeedback sender.inside octets told code sender'.inside told')
@@ -69,13 +69,13 @@ RetransmitFor =
     Answers3 null_pointer (λ sender sent out code sender' sent' out'.
     AnswersRetransmit sender.inside sent out code sender'.inside sent' out')
 
--- `gozdrit_mark_last`
+-- `gozdrit_tail_loss_probe`
 abbrev pub MarkLastFor : Option (Handle Sender) → Option ℕ → ℤ → Option (Handle Sender) → Option ℕ → Type 0
 MarkLastFor =
     Answers2 null_pointer (λ sender marked code sender' marked'.
     AnswersMarkLast sender.inside marked code sender'.inside marked')
 
--- `gozdrit_sender_time`
+-- `gozdrit_sender_set_time`
 abbrev pub SenderTimeFor : (now : ℕ) → Option (Handle Sender) → ℤ → Option (Handle Sender) → Type 0
 SenderTimeFor now =
     Answers1 null_pointer (λ sender code sender'.
@@ -88,10 +88,10 @@ SenderCountsFor =
     (sender' ≡ sender) × AnswersSenderCounts sender.inside counts code sender'.inside counts')
 
 -- `gozdrit_receiver_new`
-abbrev pub ReceiverNewFor : Option ReceiverFields → Option (Handle Receiver) → ℤ → Option ReceiverFields → Option (Handle Receiver) → Type 0
-ReceiverNewFor =
-    Answers2 null_pointer (λ config receiver code config' receiver'.
-    (config' ≡ config) × AnswersReceiverNew config receiver.inside code receiver'.inside)
+abbrev pub ReceiverNewFor : Option ReceiverFields → List ℕ → Option (Handle Receiver) → ℤ → Option ReceiverFields → List ℕ → Option (Handle Receiver) → Type 0
+ReceiverNewFor config rest receiver code config' rest' receiver' =
+    (rest' ≡ rest) × Answers2 null_pointer (λ f receiver code f' receiver'.
+    (f' ≡ f) × AnswersReceiverNew f rest receiver.inside code receiver'.inside) config receiver code config' receiver'
 
 -- `gozdrit_receiver_free`
 abbrev pub ReceiverFreeFor : Option (Handle Receiver) → ℤ → Option (Handle Receiver) → Type 0
@@ -100,7 +100,7 @@ ReceiverFreeFor =
     AnswersFree receiver.inside code receiver'.inside)
 
 -- `gozdrit_receive`
-abbrev pub ReceiveFor : (now : ℕ) → Option (Handle Receiver) → Option (List ℕ) → Option HeardFields → ℤ → Option (Handle Receiver) → Option (List ℕ) → Option HeardFields → Type 0
+abbrev pub ReceiveFor : (now : ℕ) → Option (Handle Receiver) → Option (List ℕ) → Option ReceivedFields → ℤ → Option (Handle Receiver) → Option (List ℕ) → Option ReceivedFields → Type 0
 ReceiveFor now =
     Answers3 null_pointer (λ receiver octets heard code receiver' octets' heard'.
     (octets' ≡ octets) × AnswersReceive receiver.inside octets now heard code receiver'.inside heard')
@@ -123,7 +123,7 @@ BeginFor first =
     Answers1 null_pointer (λ receiver code receiver'.
     AnswersBegin receiver.inside first code receiver'.inside)
 
--- `gozdrit_restart`
+-- `gozdrit_reset`
 abbrev pub RestartFor : Option (Handle Receiver) → ℤ → Option (Handle Receiver) → Type 0
 RestartFor =
     Answers1 null_pointer (λ receiver code receiver'.
@@ -135,7 +135,7 @@ TimesFor patience delay retry =
     Answers1 null_pointer (λ receiver code receiver'.
     AnswersTimes receiver.inside patience delay retry code receiver'.inside)
 
--- `gozdrit_follow`
+-- `gozdrit_set_adaptive`
 abbrev pub FollowFor : (follows : ℕ) → Option (Handle Receiver) → ℤ → Option (Handle Receiver) → Type 0
 FollowFor follows =
     Answers1 null_pointer (λ receiver code receiver'.
@@ -147,11 +147,11 @@ MissingFor =
     Answers2 null_pointer (λ receiver count code receiver' count'.
     (receiver' ≡ receiver) × AnswersMissing receiver.inside count code receiver'.inside count')
 
--- `gozdrit_rtx_source`
-abbrev pub SourceFor : Option (Handle Receiver) → Option KnownSource → ℤ → Option (Handle Receiver) → Option KnownSource → Type 0
-SourceFor =
+-- `gozdrit_rtx_ssrc`
+abbrev pub SsrcFor : Option (Handle Receiver) → Option KnownSsrc → ℤ → Option (Handle Receiver) → Option KnownSsrc → Type 0
+SsrcFor =
     Answers2 null_pointer (λ receiver source code receiver' source'.
-    (receiver' ≡ receiver) × AnswersSource receiver.inside source code receiver'.inside source')
+    (receiver' ≡ receiver) × AnswersSsrc receiver.inside source code receiver'.inside source')
 
 -- `gozdrit_next_sequence`
 abbrev pub NextFor : Option (Handle Receiver) → Option KnownSequence → ℤ → Option (Handle Receiver) → Option KnownSequence → Type 0
@@ -165,11 +165,11 @@ HighestFor =
     Answers2 null_pointer (λ receiver sequence code receiver' sequence'.
     (receiver' ≡ receiver) × AnswersHighest receiver.inside sequence code receiver'.inside sequence')
 
--- `gozdrit_next_moment`
-abbrev pub MomentFor : Option (Handle Receiver) → Option KnownMoment → ℤ → Option (Handle Receiver) → Option KnownMoment → Type 0
-MomentFor =
+-- `gozdrit_next_timeout`
+abbrev pub TimeoutFor : Option (Handle Receiver) → Option KnownTimeout → ℤ → Option (Handle Receiver) → Option KnownTimeout → Type 0
+TimeoutFor =
     Answers2 null_pointer (λ receiver moment code receiver' moment'.
-    (receiver' ≡ receiver) × AnswersMoment receiver.inside moment code receiver'.inside moment')
+    (receiver' ≡ receiver) × AnswersTimeout receiver.inside moment code receiver'.inside moment')
 
 -- `gozdrit_receiver_times`
 abbrev pub ReceiverTimesFor : Option (Handle Receiver) → Option KnownTimes → ℤ → Option (Handle Receiver) → Option KnownTimes → Type 0
@@ -183,11 +183,11 @@ ReceiverCountsFor =
     Answers2 null_pointer (λ receiver counts code receiver' counts'.
     (receiver' ≡ receiver) × AnswersReceiverCounts receiver.inside counts code receiver'.inside counts')
 
--- `gozdrit_receiver_kinds`
-abbrev pub ReceiverKindsFor : Option (Handle Receiver) → Option ReceiverKinds → ℤ → Option (Handle Receiver) → Option ReceiverKinds → Type 0
-ReceiverKindsFor =
+-- `gozdrit_receiver_probe_counts`
+abbrev pub ProbeCountsFor : Option (Handle Receiver) → Option ProbeCounts → ℤ → Option (Handle Receiver) → Option ProbeCounts → Type 0
+ProbeCountsFor =
     Answers2 null_pointer (λ receiver kinds code receiver' kinds'.
-    (receiver' ≡ receiver) × AnswersReceiverKinds receiver.inside kinds code receiver'.inside kinds')
+    (receiver' ≡ receiver) × AnswersProbeCounts receiver.inside kinds code receiver'.inside kinds')
 
 -- `gozdrit_rtp_read`
 abbrev pub ReadFor : Option (List ℕ) → Option PacketFields → ℤ → Option (List ℕ) → Option PacketFields → Type 0

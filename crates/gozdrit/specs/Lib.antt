@@ -17,4 +17,5 @@ pub mod Packets
 pub mod Reading
 pub mod Receiving
 pub mod Sending
+pub mod Sizes
 pub mod Told

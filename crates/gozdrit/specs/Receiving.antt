@@ -1,5 +1,5 @@
 -- What the calls of a receiver answer to C, by the endpoint that its handle held before and after, if it held one.
-use Rattle.std.specs.Prelude.{◌≡◌, ◌≢◌, ◌⊎◌, ◌+◌, ◌==◌, ℕ, ◌<◌, not, true, ℤ, pos, List, length, Option, Some, None, IsSome, IsSomeAnd, Result, Ok, Err}
+use Rattle.std.specs.Prelude.{◌≡◌, ◌≢◌, ◌⊎◌, ◌+◌, ◌==◌, ℕ, ◌<◌, ◌≤◌, not, true, ℤ, pos, List, length, Option, Some, None, IsSome, IsSomeAnd, Result, Ok, Err}
 use Rattle.rtpwire.specs.declared.fault.ConfigFault.{ConfigFault}
 use Rattle.rtpwire.specs.declared.fault.TooShort.{TooShort}
 use Rattle.rtpwire.specs.Fault.{config_number}
@@ -12,12 +12,14 @@ use Rattle.endpoint.specs.Measuring.{meter_restarted, new_meter}
 use Rattle.endpoint.specs.Receiving.{fresh, no_run}
 use Rattle.endpoint.specs.ReceiveCounts.{no_counts}
 use Rattle.gozdrit.specs.declared.config.ReceiverFields.{ReceiverFields}
-use Rattle.gozdrit.specs.declared.heard.HeardFields.{HeardFields}
+use Rattle.gozdrit.specs.declared.heard.ReceivedFields.{ReceivedFields}
 use Rattle.gozdrit.specs.declared.answers.PlayedPacket.{PlayedPacket}
 use Rattle.gozdrit.specs.Ends.{Receiver}
 use Rattle.gozdrit.specs.Following.{AsksAs, HearsAs, PassesAs, core_of, next_play, place_of, with_ends}
-use Rattle.gozdrit.specs.Codes.{ok, no_end, is_held, out_of_memory, no_room, has_started, bad_limit}
-use Rattle.gozdrit.specs.Heard.{heard_fields}
+use Rattle.gozdrit.specs.Codes.{ok, no_end, is_held, out_of_memory, no_room, has_started, bad_limit, bad_size}
+use Rattle.gozdrit.specs.declared.sizes.TheConstants.{PLAYED, RECEIVED, RECEIVER_CONFIG}
+use Rattle.gozdrit.specs.Sizes.{SaysKnown}
+use Rattle.gozdrit.specs.Heard.{received_fields}
 use Rattle.gozdrit.specs.Told.{HasRoom, TellsPlayed}
 use Rattle.gozdrit.specs.Config.{IsFollowing, IsSession, HasReceiverLimits, Fails, receiver_config, probation_of}
 
@@ -37,8 +39,8 @@ new_receiver f =
         kinds = no_kinds;
       };
       meter = new_meter;
-      follows = not (f.follows == 0);
-      by_sent = f.follows == 2;
+      follows = not (f.adaptive == 0);
+      by_sent = f.adaptive == 2;
     }
 
 -- A configuration is refused for the first check that it fails; else there is an endpoint that took nothing, or no
@@ -57,21 +59,24 @@ TellsAsk (Ok None) count code count' = (code ≡ ok) × (count' ≡ 0)
 TellsAsk (Err short) count code count' = (code ≡ no_room) × (count' ≡ count)
 
 -- `gozdrit_receiver_new`
-pub record AnswersReceiverNew (f : ReceiverFields) (old : Option Receiver) (code : ℤ) (new : Option Receiver) : Type 0 where
+pub record AnswersReceiverNew (f : ReceiverFields) (rest : List ℕ) (old : Option Receiver) (code : ℤ) (new : Option Receiver) : Type 0 where
   pub held : IsSome old → (code ≡ is_held) × (new ≡ old)
-  pub made : old ≡ None → CreatesReceiver f code new
+  pub unknown : old ≡ None → (SaysKnown RECEIVER_CONFIG f.size rest → ⊥) → (code ≡ bad_size) × (new ≡ old)
+  pub made : old ≡ None → SaysKnown RECEIVER_CONFIG f.size rest → CreatesReceiver f code new
 
 -- `gozdrit_receive`
-pub record AnswersReceive (old : Option Receiver) (octets : List ℕ) (now : ℕ) (heard : HeardFields) (code : ℤ) (new : Option Receiver) (heard' : HeardFields) : Type 0 where
+pub record AnswersReceive (old : Option Receiver) (octets : List ℕ) (now : ℕ) (heard : ReceivedFields) (code : ℤ) (new : Option Receiver) (heard' : ReceivedFields) : Type 0 where
   pub none : old ≡ None → (code ≡ no_end) × (new ≡ old) × (heard' ≡ heard)
-  pub hears : (before : Receiver) → old ≡ Some before
-      → (code ≡ ok) × (answer : Result Heard ReceiveFault) × IsSomeAnd new (HearsAs before octets now answer) × (heard' ≡ heard_fields answer)
+  pub short : IsSome old → heard.size < RECEIVED → (code ≡ bad_size) × (new ≡ old) × (heard' ≡ heard)
+  pub hears : (before : Receiver) → old ≡ Some before → RECEIVED ≤ heard.size
+      → (code ≡ ok) × (answer : Result Heard ReceiveFault) × IsSomeAnd new (HearsAs before octets now answer) × (heard' ≡ received_fields heard.size answer)
 
 -- `gozdrit_play`
 pub record AnswersPlay (old : Option Receiver) (now : ℕ) (played : PlayedPacket) (payload : List ℕ) (code : ℤ) (new : Option Receiver) (played' : PlayedPacket) (payload' : List ℕ) : Type 0 where
   pub none : old ≡ None → code ≡ no_end
-  pub short : (before : Receiver) → old ≡ Some before → (HasRoom (next_play before now) payload → ⊥) → code ≡ no_room
-  pub plays : (before : Receiver) → old ≡ Some before → HasRoom (next_play before now) payload
+  pub small : IsSome old → played.size < PLAYED → code ≡ bad_size
+  pub short : (before : Receiver) → old ≡ Some before → PLAYED ≤ played.size → (HasRoom (next_play before now) payload → ⊥) → code ≡ no_room
+  pub plays : (before : Receiver) → old ≡ Some before → PLAYED ≤ played.size → HasRoom (next_play before now) payload
       → (code ≡ ok) × IsSomeAnd new (PassesAs before (place_of (next_play before now)) now) × TellsPlayed (next_play before now) played payload played' payload'
   pub refused : code ≢ ok → (new ≡ old) × (played' ≡ played) × (payload' ≡ payload)
 
@@ -98,7 +103,7 @@ receiver_restarted r =
       meter = meter_restarted r.meter;
     }
 
--- `gozdrit_restart`
+-- `gozdrit_reset`
 pub record AnswersRestart (old : Option Receiver) (code : ℤ) (new : Option Receiver) : Type 0 where
   pub none : old ≡ None → (code ≡ no_end) × (new ≡ old)
   pub restarts : (before : Receiver) → old ≡ Some before
@@ -117,7 +122,7 @@ pub record AnswersTimes (old : Option Receiver) (patience delay retry : ℕ) (co
       → (code ≡ ok) × (new ≡ Some (receiver_timed before patience delay retry))
   pub refused : code ≢ ok → new ≡ old
 
--- `gozdrit_follow`
+-- `gozdrit_set_adaptive`
 pub record AnswersFollow (old : Option Receiver) (follows : ℕ) (code : ℤ) (new : Option Receiver) : Type 0 where
   pub none : old ≡ None → code ≡ no_end
   pub unknown : IsSome old → (IsFollowing follows → ⊥) → code ≡ bad_limit

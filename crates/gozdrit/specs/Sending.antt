@@ -1,5 +1,5 @@
 -- What the calls of a sender answer to C, by the endpoint that its handle held before and after, if it held one.
-use Rattle.std.specs.Prelude.{◌≡◌, ◌≢◌, ◌⊎◌, ℕ, ◌≤◌, ℤ, pos, List, length, Option, Some, None, IsSome, IsSomeAnd, Result, Ok, Err, IsOk}
+use Rattle.std.specs.Prelude.{◌≡◌, ◌≢◌, ◌⊎◌, ℕ, ◌<◌, ◌≤◌, ℤ, pos, List, length, Option, Some, None, IsSome, IsSomeAnd, Result, Ok, Err, IsOk}
 use Rattle.rtpwire.specs.declared.content.Content.{Content}
 use Rattle.rtpwire.specs.declared.fault.ConfigFault.{ConfigFault}
 use Rattle.rtpwire.specs.declared.fault.TooShort.{TooShort}
@@ -26,11 +26,13 @@ use Rattle.endpoint.specs.Resending.{always}
 use Rattle.gozdrit.specs.declared.answers.SentPacket.{SentPacket}
 use Rattle.gozdrit.specs.declared.config.SenderFields.{SenderFields}
 use Rattle.gozdrit.specs.declared.header.Header.{Header}
-use Rattle.gozdrit.specs.declared.heard.ToldFields.{ToldFields}
-use Rattle.gozdrit.specs.Codes.{ok, no_end, is_held, out_of_memory, too_large, no_room}
+use Rattle.gozdrit.specs.declared.heard.OutcomeFields.{OutcomeFields}
+use Rattle.gozdrit.specs.declared.sizes.TheConstants.{OUTCOME, SENDER_CONFIG, SENT}
+use Rattle.gozdrit.specs.Codes.{ok, no_end, is_held, out_of_memory, too_large, no_room, bad_size}
+use Rattle.gozdrit.specs.Sizes.{SaysKnown}
 use Rattle.gozdrit.specs.Config.{IsSession, HasSenderLimits, Fails, rule_of, sender_config}
 use Rattle.gozdrit.specs.Ends.{Sender}
-use Rattle.gozdrit.specs.Heard.{told_fields}
+use Rattle.gozdrit.specs.Heard.{outcome_fields}
 use Rattle.gozdrit.specs.Packet.{Fits, IsContent}
 
 -- an endpoint that sent nothing, and was told no moment
@@ -65,7 +67,7 @@ pub record SendsAs (before : Sender) (content : Content) (padding : ℕ) (out : 
 
 -- a send is told: the packet's extended sequence number and how many octets it has, or why there is none
 abbrev pub TellsSend : Result (Result (ℕ × ℕ) SendFault) TooShort → (sent : SentPacket) → (code : ℤ) → (sent' : SentPacket) → Type 0
-TellsSend (Ok (Ok (place, len))) sent code sent' = (code ≡ ok) × (sent' ≡ record { sequence = place; length = len })
+TellsSend (Ok (Ok (place, len))) sent code sent' = (code ≡ ok) × (sent' ≡ record { size = sent.size; sequence = place; length = len })
 TellsSend (Ok (Err fault)) sent code sent' = code ≡ pos (send_number fault)
 TellsSend (Err short) sent code sent' = code ≡ no_room
 
@@ -94,7 +96,7 @@ HasRoomBy rule out = (rule ≡ always) ⊎ (MAX_DATAGRAM ≤ length out)
 
 -- a retransmission is told; where there is none, the length is 0, and the number is as it was
 abbrev pub TellsRepair : Result (Option (ℕ × ℕ)) TooShort → (sent : SentPacket) → (code : ℤ) → (sent' : SentPacket) → Type 0
-TellsRepair (Ok (Some (place, len))) sent code sent' = (code ≡ ok) × (sent' ≡ record { sequence = place; length = len })
+TellsRepair (Ok (Some (place, len))) sent code sent' = (code ≡ ok) × (sent' ≡ record { size = sent.size; sequence = place; length = len })
 TellsRepair (Ok None) sent code sent' = (code ≡ ok) × (sent' ≡ record sent { length = 0 })
 TellsRepair (Err short) sent code sent' = code ≡ no_room
 
@@ -109,24 +111,27 @@ pub record MarksAs (before : Sender) (marked : Marked) (after : Sender) : Type 0
   pub passed : after.endpoint.passed ≡ before.endpoint.passed
 
 -- `gozdrit_sender_new`
-pub record AnswersSenderNew (f : SenderFields) (old : Option Sender) (code : ℤ) (new : Option Sender) : Type 0 where
+pub record AnswersSenderNew (f : SenderFields) (rest : List ℕ) (old : Option Sender) (code : ℤ) (new : Option Sender) : Type 0 where
   pub held : IsSome old → (code ≡ is_held) × (new ≡ old)
-  pub made : old ≡ None → CreatesSender f code new
+  pub unknown : old ≡ None → (SaysKnown SENDER_CONFIG f.size rest → ⊥) → (code ≡ bad_size) × (new ≡ old)
+  pub made : old ≡ None → SaysKnown SENDER_CONFIG f.size rest → CreatesSender f code new
 
 -- `gozdrit_send`
 pub record AnswersSend (old : Option Sender) (header : Header) (payload : List ℕ) (padding : ℕ) (sent : SentPacket) (out : List ℕ) (code : ℤ) (new : Option Sender) (sent' : SentPacket) (out' : List ℕ) : Type 0 where
   pub none : old ≡ None → code ≡ no_end
-  pub too_large : IsSome old → (Fits header payload → ⊥) → code ≡ too_large
-  pub sends : (before : Sender) → old ≡ Some before → Fits header payload
+  pub short : IsSome old → sent.size < SENT → code ≡ bad_size
+  pub too_large : IsSome old → SENT ≤ sent.size → (Fits header payload → ⊥) → code ≡ too_large
+  pub sends : (before : Sender) → old ≡ Some before → SENT ≤ sent.size → Fits header payload
       → (content : Content) × IsContent header payload content × (answer : Result (Result (ℕ × ℕ) SendFault) TooShort)
       × IsSomeAnd new (SendsAs before content padding out answer out') × TellsSend answer sent code sent'
   pub refused : code ≢ ok → (new ≡ old) × (sent' ≡ sent) × (out' ≡ out)
 
 -- `gozdrit_feedback`
-pub record AnswersFeedback (old : Option Sender) (octets : List ℕ) (told : ToldFields) (code : ℤ) (new : Option Sender) (told' : ToldFields) : Type 0 where
+pub record AnswersFeedback (old : Option Sender) (octets : List ℕ) (told : OutcomeFields) (code : ℤ) (new : Option Sender) (told' : OutcomeFields) : Type 0 where
   pub none : old ≡ None → (code ≡ no_end) × (new ≡ old) × (told' ≡ told)
-  pub tells : (before : Sender) → old ≡ Some before
-      → (code ≡ ok) × (answer : Result Told FeedbackFault) × IsSomeAnd new (TellsAs before octets answer) × (told' ≡ told_fields answer)
+  pub short : IsSome old → told.size < OUTCOME → (code ≡ bad_size) × (new ≡ old) × (told' ≡ told)
+  pub tells : (before : Sender) → old ≡ Some before → OUTCOME ≤ told.size
+      → (code ≡ ok) × (answer : Result Told FeedbackFault) × IsSomeAnd new (TellsAs before octets answer) × (told' ≡ outcome_fields told.size answer)
 
 -- a retransmission of a sender
 pub record RetransmitsTo (before : Sender) (sent : SentPacket) (out : List ℕ) (code : ℤ) (after : Sender) (sent' : SentPacket) (out' : List ℕ) : Type 0 where
@@ -137,15 +142,16 @@ pub record RetransmitsTo (before : Sender) (sent : SentPacket) (out : List ℕ) 
 -- `gozdrit_retransmit`
 pub record AnswersRetransmit (old : Option Sender) (sent : SentPacket) (out : List ℕ) (code : ℤ) (new : Option Sender) (sent' : SentPacket) (out' : List ℕ) : Type 0 where
   pub none : old ≡ None → code ≡ no_end
-  pub repairs : (before : Sender) → old ≡ Some before → IsSomeAnd new (λ after. RetransmitsTo before sent out code after sent' out')
+  pub short : IsSome old → sent.size < SENT → code ≡ bad_size
+  pub repairs : (before : Sender) → old ≡ Some before → SENT ≤ sent.size → IsSomeAnd new (λ after. RetransmitsTo before sent out code after sent' out')
   pub refused : code ≢ ok → (new ≡ old) × (sent' ≡ sent) × (out' ≡ out)
 
--- `gozdrit_sender_time`
+-- `gozdrit_sender_set_time`
 pub record AnswersTime (old : Option Sender) (now : ℕ) (code : ℤ) (new : Option Sender) : Type 0 where
   pub none : old ≡ None → (code ≡ no_end) × (new ≡ old)
   pub tells : (before : Sender) → old ≡ Some before → (code ≡ ok) × (new ≡ Some (record before { now = now }))
 
--- `gozdrit_mark_last`
+-- `gozdrit_tail_loss_probe`
 pub record AnswersMarkLast (old : Option Sender) (marked : ℕ) (code : ℤ) (new : Option Sender) (marked' : ℕ) : Type 0 where
   pub none : old ≡ None → (code ≡ no_end) × (new ≡ old) × (marked' ≡ marked)
   pub marks : (before : Sender) → old ≡ Some before

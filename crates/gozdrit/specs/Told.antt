@@ -3,9 +3,9 @@ use Rattle.std.specs.Prelude.{◌≡◌, ℕ, ◌/◌, ◌≤◌, List, length, 
 use Rattle.rtpwire.specs.declared.content.Content.{Content}
 use Rattle.receiver.specs.declared.answer.Played.{Played}
 use Rattle.receiver.specs.declared.answer.Played.TheVariants.{Packet, Gap, Wait}
-use Rattle.gozdrit.specs.declared.answers.KnownMoment.{KnownMoment}
+use Rattle.gozdrit.specs.declared.answers.KnownTimeout.{KnownTimeout}
 use Rattle.gozdrit.specs.declared.answers.KnownSequence.{KnownSequence}
-use Rattle.gozdrit.specs.declared.answers.KnownSource.{KnownSource}
+use Rattle.gozdrit.specs.declared.answers.KnownSsrc.{KnownSsrc}
 use Rattle.gozdrit.specs.declared.answers.KnownTimes.{KnownTimes}
 use Rattle.gozdrit.specs.declared.answers.PlayedPacket.{PlayedPacket}
 use Rattle.receiver.specs.Config.{Config}
@@ -15,6 +15,7 @@ use Rattle.gozdrit.specs.Packet.{TellsHeader}
 
 -- A content is told by its payload's length, its header, and the payload at the front of the buffer.
 pub record TellsContent (content : Content) (old : PlayedPacket) (payload : List ℕ) (new : PlayedPacket) (payload' : List ℕ) : Type 0 where
+  pub size_is : new.size ≡ old.size
   pub length_is : new.length ≡ length content.payload.items
   pub header_is : TellsHeader old.header content new.header
   pub octets : payload' ≡ in_front content.payload.items payload
@@ -36,15 +37,15 @@ abbrev pub TellsSequence : Option ℕ → KnownSequence → KnownSequence → Ty
 TellsSequence (Some place) old new = new ≡ record old { sequence = place; known = 1 }
 TellsSequence None old new = new ≡ record old { known = 0 }
 
-abbrev pub TellsSource : Option ℕ → KnownSource → KnownSource → Type 0
-TellsSource (Some ssrc) old new = new ≡ record old { ssrc = ssrc; known = 1 }
-TellsSource None old new = new ≡ record old { known = 0 }
+abbrev pub TellsSsrc : Option ℕ → KnownSsrc → KnownSsrc → Type 0
+TellsSsrc (Some ssrc) old new = new ≡ record old { ssrc = ssrc; known = 1 }
+TellsSsrc None old new = new ≡ record old { known = 0 }
 
-abbrev pub TellsMoment : Option ℕ → KnownMoment → KnownMoment → Type 0
-TellsMoment (Some moment) old new = new ≡ record old { moment = moment; known = 1 }
-TellsMoment None old new = new ≡ record old { known = 0 }
+abbrev pub TellsTimeout : Option ℕ → KnownTimeout → KnownTimeout → Type 0
+TellsTimeout (Some moment) old new = new ≡ record old { time = moment; known = 1 }
+TellsTimeout None old new = new ≡ record old { known = 0 }
 
 -- the times in force, and the round trip, where it was measured: RFC 6298, section 2, has it and its variation smoothed
 abbrev pub TellsTimes : Config → Option Smoothed → KnownTimes → KnownTimes → Type 0
-TellsTimes c (Some s) old new = new ≡ record { delay = c.delay; retry = c.retry; round_trip = s.time / 8; variation = s.variation / 4; known = 1 }
-TellsTimes c None old new = new ≡ record old { delay = c.delay; retry = c.retry; known = 0 }
+TellsTimes c (Some s) old new = new ≡ record { size = old.size; reorder_delay = c.delay; nack_interval = c.retry; round_trip = s.time / 8; variation = s.variation / 4; known = 1 }
+TellsTimes c None old new = new ≡ record old { reorder_delay = c.delay; nack_interval = c.retry; known = 0 }

@@ -1,6 +1,6 @@
 //! What calls tell C. Each of these structs is C's own, and a call writes its fields.
 ghost use Rattle.std.specs.Prelude.{◌≡◌};
-ghost use Rattle.gozdrit.specs.Told.{TellsSequence, TellsSource, TellsMoment, TellsTimes};
+ghost use Rattle.gozdrit.specs.Told.{TellsSequence, TellsSsrc, TellsTimeout, TellsTimes};
 
 use crate::header::Header;
 use places::Place;
@@ -11,6 +11,8 @@ use timing::Smoothed;
 #[repr(C)]
 #[derive(Drop)]
 pub struct SentPacket {
+    /// How many octets C's struct has.
+    pub size: usize,
     pub sequence: u64,
     pub length: usize,
 }
@@ -19,6 +21,8 @@ pub struct SentPacket {
 #[repr(C)]
 #[derive(Drop)]
 pub struct PlayedPacket {
+    /// How many octets C's struct has.
+    pub size: usize,
     pub sequence: u64,
     /// How many octets the payload has.
     pub length: usize,
@@ -37,7 +41,7 @@ pub struct KnownSequence {
 /// An SSRC, or none where `known` is 0.
 #[repr(C)]
 #[derive(Drop)]
-pub struct KnownSource {
+pub struct KnownSsrc {
     pub ssrc: u32,
     pub known: u8,
 }
@@ -45,8 +49,8 @@ pub struct KnownSource {
 /// A moment in milliseconds, or none where `known` is 0.
 #[repr(C)]
 #[derive(Drop)]
-pub struct KnownMoment {
-    pub moment: u64,
+pub struct KnownTimeout {
+    pub time: u64,
     pub known: u8,
 }
 
@@ -54,8 +58,10 @@ pub struct KnownMoment {
 #[repr(C)]
 #[derive(Drop)]
 pub struct KnownTimes {
-    pub delay: u64,
-    pub retry: u64,
+    /// How many octets C's struct has.
+    pub size: usize,
+    pub reorder_delay: u64,
+    pub nack_interval: u64,
     pub round_trip: u64,
     pub variation: u64,
     pub known: u8,
@@ -75,9 +81,9 @@ impl KnownSequence {
     }
 }
 
-impl KnownSource {
+impl KnownSsrc {
     pub(crate) fn tell(&mut self, ssrc: Option<u32>)
-        ensures { TellsSource ssrc self.old self.new }
+        ensures { TellsSsrc ssrc self.old self.new }
     {
         match ssrc {
             Some(ssrc) => {
@@ -89,13 +95,13 @@ impl KnownSource {
     }
 }
 
-impl KnownMoment {
+impl KnownTimeout {
     pub(crate) fn tell(&mut self, moment: Option<u64>)
-        ensures { TellsMoment moment self.old self.new }
+        ensures { TellsTimeout moment self.old self.new }
     {
         match moment {
             Some(moment) => {
-                self.moment = moment;
+                self.time = moment;
                 self.known = 1;
             }
             None => self.known = 0,
@@ -107,8 +113,8 @@ impl KnownTimes {
     pub(crate) fn tell(&mut self, config: &ReceiverConfig, smoothed: Option<Smoothed>)
         ensures { TellsTimes config.now smoothed self.old self.new }
     {
-        self.delay = config.delay();
-        self.retry = config.retry();
+        self.reorder_delay = config.delay();
+        self.nack_interval = config.retry();
         match smoothed {
             Some(smoothed) => {
                 self.round_trip = smoothed.time / 8;
@@ -123,7 +129,7 @@ impl KnownTimes {
 impl SentPacket {
     /// Tells a packet that was written to the front of a buffer.
     pub(crate) fn tell(&mut self, place: Place, length: usize)
-        ensures { self.new ≡ record { sequence = place; length = length } }
+        ensures { self.new ≡ record { size = self.old.size; sequence = place; length = length } }
     {
         self.sequence = place.value();
         self.length = length;

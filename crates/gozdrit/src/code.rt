@@ -28,3 +28,6 @@ pub(crate) const NO_ROOM: i32 = 75;
 
 /// A pointer is null where something has to lie.
 pub(crate) const NULL: i32 = 76;
+
+/// A struct is shorter than it is known here, or says what is not known here.
+pub(crate) const BAD_SIZE: i32 = 77;

@@ -20,21 +20,23 @@ pub struct SessionFields {
     pub media_ssrc: u32,
     pub rtx_ssrc: u32,
     pub receiver_ssrc: u32,
-    pub media_type: u8,
-    pub rtx_type: u8,
+    pub media_payload_type: u8,
+    pub rtx_payload_type: u8,
     /// 0 where the media's payload type is a dynamic one; else it may be a static one too.
-    pub any_media_type: u8,
+    pub any_media_payload_type: u8,
 }
 
 /// How a sender works, and how many packets its history keeps.
 #[repr(C)]
 #[derive(Drop)]
 pub struct SenderFields {
+    /// How many octets C's struct has.
+    pub size: usize,
     pub session: SessionFields,
     pub history: u32,
-    pub first: u16,
-    pub rtx_first: u16,
-    pub repeats: u8,
+    pub first_sequence: u16,
+    pub rtx_first_sequence: u16,
+    pub max_retransmissions: u8,
     /// 0 where the session's receiver alone is heard; else every reporter is.
     pub any_reporter: u8,
     /// How long nothing is retransmitted again, and until how long after it was sent it is retransmitted at all, in milliseconds; 0:
@@ -47,24 +49,26 @@ pub struct SenderFields {
 #[repr(C)]
 #[derive(Drop)]
 pub struct ReceiverFields {
+    /// How many octets C's struct has.
+    pub size: usize,
     pub session: SessionFields,
-    pub patience: u64,
-    pub retry: u64,
+    pub latency: u64,
+    pub nack_interval: u64,
     pub window: u32,
-    pub nacks: u8,
+    pub max_nacks: u8,
     /// 0 where the session's SSRC of the retransmissions is used; else it is learnt.
-    pub learns: u8,
+    pub learn_rtx_ssrc: u8,
     /// The probation of a sequence number that has jumped; 0 is the usual number of each.
     pub max_dropout: u16,
     pub max_misorder: u16,
-    pub min_ahead: u16,
-    pub min_behind: u16,
-    pub delay: u64,
+    pub min_sequential_ahead: u16,
+    pub min_sequential_behind: u16,
+    pub reorder_delay: u64,
     /// For how long a stream is silent of which nothing is taken; 0: what has jumped is believed in sequence.
-    pub silence: u64,
+    pub idle_after: u64,
     /// 0 where the times of asks stay as they are set, 1 where they follow what is measured of the path, and 2 where a place is given up
     /// by when its packet was sent, too.
-    pub follows: u8,
+    pub adaptive: u8,
 }
 
 impl SessionFields {
@@ -73,20 +77,20 @@ impl SessionFields {
             (λ session. IsSession self.now × (session ≡ streams_of self.now))
             (λ fault. Fails self.now ⊤ fault) }
     {
-        if self.any_media_type == 0 {
+        if self.any_media_payload_type == 0 {
             Session::new(
                 self.media_ssrc,
-                self.media_type,
+                self.media_payload_type,
                 self.rtx_ssrc,
-                self.rtx_type,
+                self.rtx_payload_type,
                 self.receiver_ssrc,
             )
         } else {
             Session::with_any_media_type(
                 self.media_ssrc,
-                self.media_type,
+                self.media_payload_type,
                 self.rtx_ssrc,
-                self.rtx_type,
+                self.rtx_payload_type,
                 self.receiver_ssrc,
             )
         }
@@ -104,7 +108,12 @@ impl SenderFields {
         if self.history == 0 || self.history > MAX_STORE {
             return Err(ConfigFault::BadLimit);
         }
-        let made = SenderConfig::new(session, self.first, self.rtx_first, self.repeats)?;
+        let made = SenderConfig::new(
+            session,
+            self.first_sequence,
+            self.rtx_first_sequence,
+            self.max_retransmissions,
+        )?;
         Ok(if self.any_reporter == 0 {
             made
         } else {
@@ -135,15 +144,15 @@ impl ReceiverFields {
             (λ fault. Fails self.now.session (HasReceiverLimits self.now) fault) }
     {
         let session = self.session.session()?;
-        if self.window == 0 || self.window > MAX_STORE || self.follows > MAX_FOLLOWS {
+        if self.window == 0 || self.window > MAX_STORE || self.adaptive > MAX_FOLLOWS {
             return Err(ConfigFault::BadLimit);
         }
-        let made = if self.learns == 0 {
-            ReceiverConfig::new(session, self.patience, self.retry, self.nacks)?
+        let made = if self.learn_rtx_ssrc == 0 {
+            ReceiverConfig::new(session, self.latency, self.nack_interval, self.max_nacks)?
         } else {
-            ReceiverConfig::learning(session, self.patience, self.retry, self.nacks)?
+            ReceiverConfig::learning(session, self.latency, self.nack_interval, self.max_nacks)?
         };
-        Ok(made.with_delay(self.delay))
+        Ok(made.with_delay(self.reorder_delay))
     }
 
     /// Its probation.
@@ -153,13 +162,13 @@ impl ReceiverFields {
         let made = Probation::new(
             or_usual(self.max_dropout, usual_dropout(self.window)),
             or_usual(self.max_misorder, Probation::MISORDER),
-            or_usual(self.min_ahead, Probation::AHEAD),
-            or_usual(self.min_behind, Probation::BEHIND),
+            or_usual(self.min_sequential_ahead, Probation::AHEAD),
+            or_usual(self.min_sequential_behind, Probation::BEHIND),
         )?;
-        Ok(if self.silence == 0 {
+        Ok(if self.idle_after == 0 {
             made
         } else {
-            made.with_silence(self.silence)
+            made.with_silence(self.idle_after)
         })
     }
 }

@@ -1,6 +1,6 @@
 //! What both ends counted, as C is told it.
 ghost use Rattle.std.specs.Prelude.{◌≡◌};
-ghost use Rattle.gozdrit.specs.Counted.{receiver_counts, receiver_kinds, sender_counts};
+ghost use Rattle.gozdrit.specs.Counted.{receiver_counts, probe_counts, sender_counts};
 
 use endpoint::{KindCounts, ReceiveCounts, ResendCounts, SendCounts};
 
@@ -8,6 +8,8 @@ use endpoint::{KindCounts, ReceiveCounts, ResendCounts, SendCounts};
 #[repr(C)]
 #[derive(Clone, Copy)]
 pub struct ReceiverCounts {
+    /// How many octets C's struct has.
+    pub size: usize,
     pub media: u64,
     pub retransmissions: u64,
     pub held_back: u64,
@@ -15,7 +17,7 @@ pub struct ReceiverCounts {
     pub rtcp: u64,
     pub duplicate: u64,
     pub late: u64,
-    pub far: u64,
+    pub too_far: u64,
     pub refused: u64,
     pub overrun: u64,
     pub abandoned: u64,
@@ -28,9 +30,11 @@ pub struct ReceiverCounts {
 /// What a receiver counted of the kinds of what came.
 #[repr(C)]
 #[derive(Clone, Copy)]
-pub struct ReceiverKinds {
+pub struct ProbeCounts {
+    /// How many octets C's struct has.
+    pub size: usize,
     pub padding: u64,
-    pub unasked: u64,
+    pub unrequested: u64,
     pub duplicate: u64,
     pub late: u64,
     pub refused: u64,
@@ -40,13 +44,15 @@ pub struct ReceiverKinds {
 #[repr(C)]
 #[derive(Clone, Copy)]
 pub struct SenderCounts {
+    /// How many octets C's struct has.
+    pub size: usize,
     pub sent: u64,
     pub octets: u64,
     pub retransmissions: u64,
     pub nacks: u64,
-    pub others: u64,
-    pub numbers: u64,
-    pub unknown: u64,
+    pub other_nacks: u64,
+    pub nacked: u64,
+    pub not_in_history: u64,
     pub exhausted: u64,
     pub media: u64,
     pub reports: u64,
@@ -56,10 +62,12 @@ pub struct SenderCounts {
 }
 
 impl ReceiverCounts {
-    pub(crate) fn of(counts: ReceiveCounts) -> ReceiverCounts
-        ensures { result ≡ receiver_counts counts }
+    /// In a struct of this size.
+    pub(crate) fn of(size: usize, counts: ReceiveCounts) -> ReceiverCounts
+        ensures { result ≡ receiver_counts size counts }
     {
         ReceiverCounts {
+            size,
             media: counts.media,
             retransmissions: counts.retransmissions,
             held_back: counts.held_back,
@@ -67,7 +75,7 @@ impl ReceiverCounts {
             rtcp: counts.control,
             duplicate: counts.duplicate,
             late: counts.late,
-            far: counts.far,
+            too_far: counts.far,
             refused: counts.refused,
             overrun: counts.overrun,
             abandoned: counts.abandoned,
@@ -79,13 +87,15 @@ impl ReceiverCounts {
     }
 }
 
-impl ReceiverKinds {
-    pub(crate) fn of(counts: KindCounts) -> ReceiverKinds
-        ensures { result ≡ receiver_kinds counts }
+impl ProbeCounts {
+    /// In a struct of this size.
+    pub(crate) fn of(size: usize, counts: KindCounts) -> ProbeCounts
+        ensures { result ≡ probe_counts size counts }
     {
-        ReceiverKinds {
+        ProbeCounts {
+            size,
             padding: counts.padding,
-            unasked: counts.unasked,
+            unrequested: counts.unasked,
             duplicate: counts.duplicate,
             late: counts.late,
             refused: counts.refused,
@@ -94,17 +104,19 @@ impl ReceiverKinds {
 }
 
 impl SenderCounts {
-    pub(crate) fn of(counts: SendCounts, passed: ResendCounts) -> SenderCounts
-        ensures { result ≡ sender_counts counts passed }
+    /// In a struct of this size.
+    pub(crate) fn of(size: usize, counts: SendCounts, passed: ResendCounts) -> SenderCounts
+        ensures { result ≡ sender_counts size counts passed }
     {
         SenderCounts {
+            size,
             sent: counts.sent,
             octets: counts.octets,
             retransmissions: counts.retransmissions,
             nacks: counts.nacks,
-            others: counts.others,
-            numbers: counts.numbers,
-            unknown: counts.unknown,
+            other_nacks: counts.others,
+            nacked: counts.numbers,
+            not_in_history: counts.unknown,
             exhausted: counts.exhausted,
             media: counts.media,
             reports: counts.reports,

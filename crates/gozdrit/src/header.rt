@@ -13,14 +13,14 @@ use rtpwire::{Carried, Content, MAX_SOURCES, MAX_WORDS, Words, fill_front};
 pub struct Header {
     /// The RTP timestamp, in units of the media's clock.
     pub timestamp: u32,
-    /// The CSRC identifiers, of which the first `source_count` count.
-    pub sources: [u32; MAX_SOURCES],
-    /// The words of the header extension, of which the first `word_count` count.
-    pub words: [u32; MAX_WORDS],
+    /// The CSRC identifiers, of which the first `csrc_count` count.
+    pub csrcs: [u32; MAX_SOURCES],
+    /// The words of the header extension, of which the first `extension_words` count.
+    pub extension: [u32; MAX_WORDS],
     /// The 16 bits of the header extension that the profile in use defines.
-    pub profile: u16,
-    pub source_count: u8,
-    pub word_count: u8,
+    pub extension_profile: u16,
+    pub csrc_count: u8,
+    pub extension_words: u8,
     /// 0 where there is no header extension.
     pub has_extension: u8,
     /// 0 where the marker bit is not set.
@@ -36,7 +36,7 @@ impl Header {
         if !self.has_words() {
             return None;
         }
-        let sources = self.sources.get(..usize::from(self.source_count))?;
+        let sources = self.csrcs.get(..usize::from(self.csrc_count))?;
         let marker = self.marker != 0;
         let sources = Words::Numbers(sources);
         Carried::of_fields(payload, self.timestamp, marker, sources, self.extension()).ok()
@@ -46,7 +46,7 @@ impl Header {
     fn has_words(&self) -> bool
         ensures { IsTrue result ↔ HasWords self.now }
     {
-        self.has_extension == 0 || usize::from(self.word_count) <= MAX_WORDS
+        self.has_extension == 0 || usize::from(self.extension_words) <= MAX_WORDS
     }
 
     /// The header extension that it says, if it says one.
@@ -57,8 +57,8 @@ impl Header {
         if self.has_extension == 0 {
             return None;
         }
-        let words = &self.words[..usize::from(self.word_count)];
-        Some((self.profile, Words::Numbers(words)))
+        let words = &self.extension[..usize::from(self.extension_words)];
+        Some((self.extension_profile, Words::Numbers(words)))
     }
 
     /// Tells it a content. What its arrays hold behind the counts stays.
@@ -67,18 +67,18 @@ impl Header {
     {
         self.timestamp = content.timestamp;
         self.marker = u8::from(content.marker);
-        self.source_count = content.sources.len() as u8;
-        fill_front(&mut self.sources, content.sources.as_slice());
+        self.csrc_count = content.sources.len() as u8;
+        fill_front(&mut self.csrcs, content.sources.as_slice());
         match &content.extension {
             None => {
                 self.has_extension = 0;
-                self.word_count = 0;
+                self.extension_words = 0;
             }
             Some(extension) => {
                 self.has_extension = 1;
-                self.profile = extension.profile;
-                self.word_count = extension.words.len() as u8;
-                fill_front(&mut self.words, extension.words.as_slice());
+                self.extension_profile = extension.profile;
+                self.extension_words = extension.words.len() as u8;
+                fill_front(&mut self.extension, extension.words.as_slice());
             }
         }
     }

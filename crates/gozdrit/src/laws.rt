@@ -1,5 +1,5 @@
 //! Laws on the configurations that C says, field by field. These functions compute nothing: their contracts are the laws.
-ghost use Rattle.std.specs.Prelude.{◌≡◌, ◌↔◌, ℕ, ◌<◌, ◌≤◌, true, false, length, Some, None};
+ghost use Rattle.std.specs.Prelude.{◌≡◌, ◌↔◌, ℕ, ◌+◌, ◌<◌, ◌≤◌, true, false, List, [], ◌∷◌, ◌++◌, length, replicate, Some, None};
 ghost use Rattle.gozdrit.specs.declared.config.SessionFields.{SessionFields};
 ghost use Rattle.gozdrit.specs.declared.config.SenderFields.{SenderFields};
 ghost use Rattle.gozdrit.specs.declared.config.ReceiverFields.{ReceiverFields};
@@ -7,32 +7,34 @@ ghost use Rattle.gozdrit.specs.Config.{streams_of, sender_config, receiver_confi
 ghost use Rattle.gozdrit.specs.Ends.{Sender};
 ghost use Rattle.gozdrit.specs.Sending.{IsNewSender};
 ghost use Rattle.gozdrit.specs.Receiving.{new_receiver};
+ghost use Rattle.gozdrit.specs.Sizes.{SaysKnown};
+ghost use Rattle.gozdrit.specs.declared.sizes.TheConstants.{RECEIVER_CONFIG, SENDER_CONFIG};
 
 /// Each field of a struct of C's is the one of the configuration that it is named after.
 pub fn fields_say_configurations()
     ensures session { (s : SessionFields) → let t = streams_of s in
-        (t.media_ssrc ≡ s.media_ssrc) × (t.media_type ≡ s.media_type) × (t.repair_ssrc ≡ s.rtx_ssrc)
-        × (t.repair_type ≡ s.rtx_type) × (t.receiver_ssrc ≡ s.receiver_ssrc) }
+        (t.media_ssrc ≡ s.media_ssrc) × (t.media_type ≡ s.media_payload_type) × (t.repair_ssrc ≡ s.rtx_ssrc)
+        × (t.repair_type ≡ s.rtx_payload_type) × (t.receiver_ssrc ≡ s.receiver_ssrc) }
     ensures sender { (f : SenderFields) → let c = sender_config f in
-        (c.session ≡ streams_of f.session) × (c.first ≡ f.first) × (c.repair_first ≡ f.rtx_first) × (c.repeats ≡ f.repeats) }
+        (c.session ≡ streams_of f.session) × (c.first ≡ f.first_sequence) × (c.repair_first ≡ f.rtx_first_sequence) × (c.repeats ≡ f.max_retransmissions) }
     ensures receiver { (f : ReceiverFields) → let c = receiver_config f in
-        (c.session ≡ streams_of f.session) × (c.patience ≡ f.patience) × (c.delay ≡ f.delay) × (c.retry ≡ f.retry) × (c.asks ≡ f.nacks) }
+        (c.session ≡ streams_of f.session) × (c.patience ≡ f.latency) × (c.delay ≡ f.reorder_delay) × (c.retry ≡ f.nack_interval) × (c.asks ≡ f.max_nacks) }
     // What is true or false is false where the field is 0, and true at every other number.
     ensures any_reporter { (f : SenderFields) → ((sender_config f).any_reporter ≡ false) ↔ (f.any_reporter ≡ 0) }
-    ensures learns { (f : ReceiverFields) → ((receiver_config f).learns ≡ false) ↔ (f.learns ≡ 0) }
+    ensures learns { (f : ReceiverFields) → ((receiver_config f).learns ≡ false) ↔ (f.learn_rtx_ssrc ≡ 0) }
     ensures min_resend { (f : SenderFields) → (rule_of f).min_resend ≡ f.min_resend }
     ensures deadline { (f : SenderFields) → 0 < f.deadline → (rule_of f).deadline ≡ Some f.deadline }
     ensures no_deadline { (f : SenderFields) → f.deadline ≡ 0 → (rule_of f).deadline ≡ None }
     // A number of the probation is the field's, and the usual one where that is 0.
-    ensures probation { (f : ReceiverFields) → 0 < f.max_dropout → 0 < f.max_misorder → 0 < f.min_ahead → 0 < f.min_behind → let p = probation_of f in
-        (p.dropout ≡ f.max_dropout) × (p.misorder ≡ f.max_misorder) × (p.ahead ≡ f.min_ahead) × (p.behind ≡ f.min_behind) }
+    ensures probation { (f : ReceiverFields) → 0 < f.max_dropout → 0 < f.max_misorder → 0 < f.min_sequential_ahead → 0 < f.min_sequential_behind → let p = probation_of f in
+        (p.dropout ≡ f.max_dropout) × (p.misorder ≡ f.max_misorder) × (p.ahead ≡ f.min_sequential_ahead) × (p.behind ≡ f.min_sequential_behind) }
     ensures usual_dropout { (f : ReceiverFields) → f.max_dropout ≡ 0 → f.window ≤ 3000 → (probation_of f).dropout ≡ 3000 }
     ensures wide_dropout { (f : ReceiverFields) → f.max_dropout ≡ 0 → 3000 ≤ f.window → f.window ≤ 8192 → (probation_of f).dropout ≡ f.window }
     ensures usual_misorder { (f : ReceiverFields) → f.max_misorder ≡ 0 → (probation_of f).misorder ≡ 100 }
-    ensures usual_ahead { (f : ReceiverFields) → f.min_ahead ≡ 0 → (probation_of f).ahead ≡ 2 }
-    ensures usual_behind { (f : ReceiverFields) → f.min_behind ≡ 0 → (probation_of f).behind ≡ 256 }
-    ensures silence { (f : ReceiverFields) → 0 < f.silence → (probation_of f).silence ≡ Some f.silence }
-    ensures in_sequence { (f : ReceiverFields) → f.silence ≡ 0 → (probation_of f).silence ≡ None }
+    ensures usual_ahead { (f : ReceiverFields) → f.min_sequential_ahead ≡ 0 → (probation_of f).ahead ≡ 2 }
+    ensures usual_behind { (f : ReceiverFields) → f.min_sequential_behind ≡ 0 → (probation_of f).behind ≡ 256 }
+    ensures silence { (f : ReceiverFields) → 0 < f.idle_after → (probation_of f).silence ≡ Some f.idle_after }
+    ensures in_sequence { (f : ReceiverFields) → f.idle_after ≡ 0 → (probation_of f).silence ≡ None }
 {}
 
 /// A new end is configured so, and keeps as many packets or places as the struct says.
@@ -43,6 +45,15 @@ pub fn new_ends_are_as_configured()
         (r.endpoint.core.config ≡ receiver_config f) × (r.endpoint.core.span.capacity ≡ f.window)
         × (r.endpoint.spare.config ≡ receiver_config f) × (r.endpoint.spare.span.capacity ≡ f.window) × (r.endpoint.probation ≡ probation_of f)
         × (length r.asked ≡ f.window) }
-    ensures follows { (f : ReceiverFields) → ((new_receiver f).follows ≡ false) ↔ (f.follows ≡ 0) }
-    ensures by_sent { (f : ReceiverFields) → ((new_receiver f).by_sent ≡ true) ↔ (f.follows ≡ 2) }
+    ensures follows { (f : ReceiverFields) → ((new_receiver f).follows ≡ false) ↔ (f.adaptive ≡ 0) }
+    ensures by_sent { (f : ReceiverFields) → ((new_receiver f).by_sent ≡ true) ↔ (f.adaptive ≡ 2) }
+{}
+
+/// A configuration of version 2.0 is known here, and a longer one where all behind it is blank; a shorter one, or one that says more, is not.
+pub fn longer_configurations_say_no_more()
+    ensures sender { SaysKnown SENDER_CONFIG 56 [] }
+    ensures receiver { SaysKnown RECEIVER_CONFIG 80 [] }
+    ensures longer { (known more : ℕ) → SaysKnown known (known + more) (replicate more 0) }
+    ensures shorter { (known size : ℕ) (rest : List ℕ) → size < known → SaysKnown known size rest → ⊥ }
+    ensures says_more { (known size octet : ℕ) (before after : List ℕ) → 0 < octet → SaysKnown known size (before ++ octet ∷ after) → ⊥ }
 {}

@@ -21,9 +21,14 @@ mod reading;
 mod reading_exports;
 mod receiver_exports;
 mod receiving;
+mod rest;
 mod sender_exports;
 mod sending;
+mod sized;
+mod sizes;
 mod unboxed;
 mod version;
 
-pub use laws::{fields_say_configurations, new_ends_are_as_configured};
+pub use laws::{
+    fields_say_configurations, longer_configurations_say_no_more, new_ends_are_as_configured,
+};

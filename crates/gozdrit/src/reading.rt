@@ -1,12 +1,13 @@
 //! What C may ask of an end, which stays as it is.
 ghost use Rattle.std.specs.Prelude.{◌≡◌};
-ghost use Rattle.gozdrit.specs.Reading.{AnswersMissing, AnswersSource, AnswersNext, AnswersHighest, AnswersMoment, AnswersReceiverTimes, AnswersReceiverCounts, AnswersReceiverKinds, AnswersSenderCounts};
+ghost use Rattle.gozdrit.specs.Reading.{AnswersMissing, AnswersSsrc, AnswersNext, AnswersHighest, AnswersTimeout, AnswersReceiverTimes, AnswersReceiverCounts, AnswersProbeCounts, AnswersSenderCounts};
 
-use crate::answers::{KnownMoment, KnownSequence, KnownSource, KnownTimes};
-use crate::code::{NO_END, OK};
-use crate::counts::{ReceiverCounts, ReceiverKinds, SenderCounts};
+use crate::answers::{KnownSequence, KnownSsrc, KnownTimeout, KnownTimes};
+use crate::code::{BAD_SIZE, NO_END, OK};
+use crate::counts::{ProbeCounts, ReceiverCounts, SenderCounts};
 use crate::receiving::ReceiverHandle;
 use crate::sending::SenderHandle;
+use crate::sizes::{PROBE_COUNTS, RECEIVE_COUNTS, SEND_COUNTS, TIMES};
 use stores::Window;
 
 pub(crate) fn missing(receiver: &mut ReceiverHandle, count: &mut usize) -> i32
@@ -20,8 +21,8 @@ pub(crate) fn missing(receiver: &mut ReceiverHandle, count: &mut usize) -> i32
     OK
 }
 
-pub(crate) fn rtx_source(receiver: &mut ReceiverHandle, source: &mut KnownSource) -> i32
-    ensures answers { AnswersSource receiver.old.inside source.old result receiver.new.inside source.new }
+pub(crate) fn rtx_source(receiver: &mut ReceiverHandle, source: &mut KnownSsrc) -> i32
+    ensures answers { AnswersSsrc receiver.old.inside source.old result receiver.new.inside source.new }
     ensures same { receiver.new ≡ receiver.old }
 {
     if !receiver.is_held() {
@@ -60,8 +61,8 @@ pub(crate) fn highest_sequence(receiver: &mut ReceiverHandle, sequence: &mut Kno
     OK
 }
 
-pub(crate) fn next_moment(receiver: &mut ReceiverHandle, moment: &mut KnownMoment) -> i32
-    ensures answers { AnswersMoment receiver.old.inside moment.old result receiver.new.inside moment.new }
+pub(crate) fn next_moment(receiver: &mut ReceiverHandle, moment: &mut KnownTimeout) -> i32
+    ensures answers { AnswersTimeout receiver.old.inside moment.old result receiver.new.inside moment.new }
     ensures same { receiver.new ≡ receiver.old }
 {
     if !receiver.is_held() {
@@ -81,6 +82,9 @@ pub(crate) fn receiver_times(receiver: &mut ReceiverHandle, times: &mut KnownTim
     if !receiver.is_held() {
         return NO_END;
     }
+    if times.size < TIMES {
+        return BAD_SIZE;
+    }
     let inside = receiver.lend();
     let config = inside.endpoint.endpoint().core().config();
     times.tell(&config, inside.meter.path().trip.smoothed());
@@ -94,18 +98,24 @@ pub(crate) fn receiver_counts(receiver: &mut ReceiverHandle, counts: &mut Receiv
     if !receiver.is_held() {
         return NO_END;
     }
-    *counts = ReceiverCounts::of(receiver.lend().endpoint.endpoint().counts());
+    if counts.size < RECEIVE_COUNTS {
+        return BAD_SIZE;
+    }
+    *counts = ReceiverCounts::of(counts.size, receiver.lend().endpoint.endpoint().counts());
     OK
 }
 
-pub(crate) fn receiver_kinds(receiver: &mut ReceiverHandle, kinds: &mut ReceiverKinds) -> i32
-    ensures answers { AnswersReceiverKinds receiver.old.inside kinds.old result receiver.new.inside kinds.new }
+pub(crate) fn probe_counts(receiver: &mut ReceiverHandle, counts: &mut ProbeCounts) -> i32
+    ensures answers { AnswersProbeCounts receiver.old.inside counts.old result receiver.new.inside counts.new }
     ensures same { receiver.new ≡ receiver.old }
 {
     if !receiver.is_held() {
         return NO_END;
     }
-    *kinds = ReceiverKinds::of(receiver.lend().endpoint.kinds());
+    if counts.size < PROBE_COUNTS {
+        return BAD_SIZE;
+    }
+    *counts = ProbeCounts::of(counts.size, receiver.lend().endpoint.kinds());
     OK
 }
 
@@ -116,7 +126,10 @@ pub(crate) fn sender_counts(sender: &mut SenderHandle, counts: &mut SenderCounts
     if !sender.is_held() {
         return NO_END;
     }
+    if counts.size < SEND_COUNTS {
+        return BAD_SIZE;
+    }
     let endpoint = &sender.lend().endpoint;
-    *counts = SenderCounts::of(endpoint.endpoint().counts(), endpoint.passed());
+    *counts = SenderCounts::of(counts.size, endpoint.endpoint().counts(), endpoint.passed());
     OK
 }

@@ -7,29 +7,29 @@ ghost use Rattle.std.specs.Borrow.{sem, usize};
 ghost use Rattle.gozdrit.specs.Lying.{value_lies_at};
 ghost use Rattle.gozdrit.specs.Ends.{Receiver, ReceiverRow, Sender, SenderRow};
 ghost use Rattle.gozdrit.specs.declared.handle.Handle.{Handle};
-ghost use Rattle.gozdrit.specs.contracts.answers.KnownMoment.{the_row as moment_row};
-ghost use Rattle.gozdrit.specs.declared.answers.KnownMoment.{KnownMoment};
+ghost use Rattle.gozdrit.specs.contracts.answers.KnownTimeout.{the_row as moment_row};
+ghost use Rattle.gozdrit.specs.declared.answers.KnownTimeout.{KnownTimeout};
 ghost use Rattle.gozdrit.specs.contracts.answers.KnownSequence.{the_row as sequence_row};
 ghost use Rattle.gozdrit.specs.declared.answers.KnownSequence.{KnownSequence};
-ghost use Rattle.gozdrit.specs.contracts.answers.KnownSource.{the_row as source_row};
-ghost use Rattle.gozdrit.specs.declared.answers.KnownSource.{KnownSource};
+ghost use Rattle.gozdrit.specs.contracts.answers.KnownSsrc.{the_row as source_row};
+ghost use Rattle.gozdrit.specs.declared.answers.KnownSsrc.{KnownSsrc};
 ghost use Rattle.gozdrit.specs.contracts.answers.KnownTimes.{the_row as known_times_row};
 ghost use Rattle.gozdrit.specs.declared.answers.KnownTimes.{KnownTimes};
 ghost use Rattle.gozdrit.specs.contracts.counts.ReceiverCounts.{the_row as receiver_counts_row};
 ghost use Rattle.gozdrit.specs.declared.counts.ReceiverCounts.{ReceiverCounts};
-ghost use Rattle.gozdrit.specs.contracts.counts.ReceiverKinds.{the_row as receiver_kinds_row};
-ghost use Rattle.gozdrit.specs.declared.counts.ReceiverKinds.{ReceiverKinds};
+ghost use Rattle.gozdrit.specs.contracts.counts.ProbeCounts.{the_row as receiver_kinds_row};
+ghost use Rattle.gozdrit.specs.declared.counts.ProbeCounts.{ProbeCounts};
 ghost use Rattle.gozdrit.specs.contracts.counts.SenderCounts.{the_row as sender_counts_row};
 ghost use Rattle.gozdrit.specs.declared.counts.SenderCounts.{SenderCounts};
-ghost use Rattle.gozdrit.specs.Lent.{MissingFor, SourceFor, NextFor, HighestFor, MomentFor, ReceiverTimesFor, ReceiverCountsFor, ReceiverKindsFor, SenderCountsFor};
+ghost use Rattle.gozdrit.specs.Lent.{MissingFor, SsrcFor, NextFor, HighestFor, TimeoutFor, ReceiverTimesFor, ReceiverCountsFor, ProbeCountsFor, SenderCountsFor};
 
-use crate::answers::{KnownMoment, KnownSequence, KnownSource, KnownTimes};
+use crate::answers::{KnownSequence, KnownSsrc, KnownTimeout, KnownTimes};
 use crate::blocks::{ReceiverBlock, SenderBlock};
 use crate::code::NULL;
-use crate::counts::{ReceiverCounts, ReceiverKinds, SenderCounts};
+use crate::counts::{ProbeCounts, ReceiverCounts, SenderCounts};
 use crate::lent::Lent;
 use crate::reading::{
-    highest_sequence, missing, next_moment, next_sequence, receiver_counts, receiver_kinds,
+    highest_sequence, missing, next_moment, next_sequence, probe_counts, receiver_counts,
     receiver_times, rtx_source, sender_counts,
 };
 use crate::receiving::ReceiverHandle;
@@ -71,39 +71,36 @@ fn missing_lent(
 
 /// `Receiver::repair_source`: the SSRC of the retransmissions, where it is known.
 #[unsafe(no_mangle)]
-pub unsafe extern "C" fn gozdrit_rtx_source(
-    receiver: *mut ReceiverBlock,
-    source: *mut KnownSource,
-) -> i32
-    ghost before: { Option (Handle Receiver) × Option KnownSource }
+pub unsafe extern "C" fn gozdrit_rtx_ssrc(receiver: *mut ReceiverBlock, ssrc: *mut KnownSsrc) -> i32
+    ghost before: { Option (Handle Receiver) × Option KnownSsrc }
     requires* { sem 𝓛 (value_lies_at ReceiverRow receiver before.0)
-        ∗ sem 𝓛 (value_lies_at source_row source before.1) }
-    ensures* { ∃ₛ (λ (after : Option (Handle Receiver) × Option KnownSource).
+        ∗ sem 𝓛 (value_lies_at source_row ssrc before.1) }
+    ensures* { ∃ₛ (λ (after : Option (Handle Receiver) × Option KnownSsrc).
         sem 𝓛 (value_lies_at ReceiverRow receiver after.0)
-        ∗ sem 𝓛 (value_lies_at source_row source after.1)
-        ∗ ⌜ SourceFor before.0 before.1 result after.0 after.1 ⌝) }
+        ∗ sem 𝓛 (value_lies_at source_row ssrc after.1)
+        ∗ ⌜ SsrcFor before.0 before.1 result after.0 after.1 ⌝) }
 {
     rtx_source_lent(
         Lent {
             at: receiver as *mut ReceiverHandle,
         },
-        Lent { at: source },
+        Lent { at: ssrc },
     )
     .0
 }
 
 fn rtx_source_lent(
     mut receiver: Lent<ReceiverHandle>,
-    mut source: Lent<KnownSource>,
-) -> (i32, Lent<ReceiverHandle>, Lent<KnownSource>)
-    ensures { ((result.1.at ≡ receiver.at) × (result.2.at ≡ source.at))
-        × SourceFor receiver.value source.value result.0 result.1.value result.2.value }
+    mut ssrc: Lent<KnownSsrc>,
+) -> (i32, Lent<ReceiverHandle>, Lent<KnownSsrc>)
+    ensures { ((result.1.at ≡ receiver.at) × (result.2.at ≡ ssrc.at))
+        × SsrcFor receiver.value ssrc.value result.0 result.1.value result.2.value }
 {
-    if receiver.is_null() || source.is_null() {
-        return (NULL, receiver, source);
+    if receiver.is_null() || ssrc.is_null() {
+        return (NULL, receiver, ssrc);
     }
-    let code = rtx_source(receiver.get(), source.get());
-    (code, receiver, source)
+    let code = rtx_source(receiver.get(), ssrc.get());
+    (code, receiver, ssrc)
 }
 
 /// `Window::cursor` of the receiver: the next place to play, once there is one.
@@ -183,39 +180,39 @@ fn highest_sequence_lent(
 
 /// `Receiver::next_moment`: when to call again.
 #[unsafe(no_mangle)]
-pub unsafe extern "C" fn gozdrit_next_moment(
+pub unsafe extern "C" fn gozdrit_next_timeout(
     receiver: *mut ReceiverBlock,
-    moment: *mut KnownMoment,
+    timeout: *mut KnownTimeout,
 ) -> i32
-    ghost before: { Option (Handle Receiver) × Option KnownMoment }
+    ghost before: { Option (Handle Receiver) × Option KnownTimeout }
     requires* { sem 𝓛 (value_lies_at ReceiverRow receiver before.0)
-        ∗ sem 𝓛 (value_lies_at moment_row moment before.1) }
-    ensures* { ∃ₛ (λ (after : Option (Handle Receiver) × Option KnownMoment).
+        ∗ sem 𝓛 (value_lies_at moment_row timeout before.1) }
+    ensures* { ∃ₛ (λ (after : Option (Handle Receiver) × Option KnownTimeout).
         sem 𝓛 (value_lies_at ReceiverRow receiver after.0)
-        ∗ sem 𝓛 (value_lies_at moment_row moment after.1)
-        ∗ ⌜ MomentFor before.0 before.1 result after.0 after.1 ⌝) }
+        ∗ sem 𝓛 (value_lies_at moment_row timeout after.1)
+        ∗ ⌜ TimeoutFor before.0 before.1 result after.0 after.1 ⌝) }
 {
     next_moment_lent(
         Lent {
             at: receiver as *mut ReceiverHandle,
         },
-        Lent { at: moment },
+        Lent { at: timeout },
     )
     .0
 }
 
 fn next_moment_lent(
     mut receiver: Lent<ReceiverHandle>,
-    mut moment: Lent<KnownMoment>,
-) -> (i32, Lent<ReceiverHandle>, Lent<KnownMoment>)
-    ensures { ((result.1.at ≡ receiver.at) × (result.2.at ≡ moment.at))
-        × MomentFor receiver.value moment.value result.0 result.1.value result.2.value }
+    mut timeout: Lent<KnownTimeout>,
+) -> (i32, Lent<ReceiverHandle>, Lent<KnownTimeout>)
+    ensures { ((result.1.at ≡ receiver.at) × (result.2.at ≡ timeout.at))
+        × TimeoutFor receiver.value timeout.value result.0 result.1.value result.2.value }
 {
-    if receiver.is_null() || moment.is_null() {
-        return (NULL, receiver, moment);
+    if receiver.is_null() || timeout.is_null() {
+        return (NULL, receiver, timeout);
     }
-    let code = next_moment(receiver.get(), moment.get());
-    (code, receiver, moment)
+    let code = next_moment(receiver.get(), timeout.get());
+    (code, receiver, timeout)
 }
 
 /// `ReceivingEndpoint::counts`.
@@ -294,39 +291,39 @@ fn receiver_times_lent(
 
 /// `AskingEndpoint::kinds`.
 #[unsafe(no_mangle)]
-pub unsafe extern "C" fn gozdrit_receiver_kinds(
+pub unsafe extern "C" fn gozdrit_receiver_probe_counts(
     receiver: *mut ReceiverBlock,
-    kinds: *mut ReceiverKinds,
+    counts: *mut ProbeCounts,
 ) -> i32
-    ghost before: { Option (Handle Receiver) × Option ReceiverKinds }
+    ghost before: { Option (Handle Receiver) × Option ProbeCounts }
     requires* { sem 𝓛 (value_lies_at ReceiverRow receiver before.0)
-        ∗ sem 𝓛 (value_lies_at receiver_kinds_row kinds before.1) }
-    ensures* { ∃ₛ (λ (after : Option (Handle Receiver) × Option ReceiverKinds).
+        ∗ sem 𝓛 (value_lies_at receiver_kinds_row counts before.1) }
+    ensures* { ∃ₛ (λ (after : Option (Handle Receiver) × Option ProbeCounts).
         sem 𝓛 (value_lies_at ReceiverRow receiver after.0)
-        ∗ sem 𝓛 (value_lies_at receiver_kinds_row kinds after.1)
-        ∗ ⌜ ReceiverKindsFor before.0 before.1 result after.0 after.1 ⌝) }
+        ∗ sem 𝓛 (value_lies_at receiver_kinds_row counts after.1)
+        ∗ ⌜ ProbeCountsFor before.0 before.1 result after.0 after.1 ⌝) }
 {
-    receiver_kinds_lent(
+    probe_counts_lent(
         Lent {
             at: receiver as *mut ReceiverHandle,
         },
-        Lent { at: kinds },
+        Lent { at: counts },
     )
     .0
 }
 
-fn receiver_kinds_lent(
+fn probe_counts_lent(
     mut receiver: Lent<ReceiverHandle>,
-    mut kinds: Lent<ReceiverKinds>,
-) -> (i32, Lent<ReceiverHandle>, Lent<ReceiverKinds>)
-    ensures { ((result.1.at ≡ receiver.at) × (result.2.at ≡ kinds.at))
-        × ReceiverKindsFor receiver.value kinds.value result.0 result.1.value result.2.value }
+    mut counts: Lent<ProbeCounts>,
+) -> (i32, Lent<ReceiverHandle>, Lent<ProbeCounts>)
+    ensures { ((result.1.at ≡ receiver.at) × (result.2.at ≡ counts.at))
+        × ProbeCountsFor receiver.value counts.value result.0 result.1.value result.2.value }
 {
-    if receiver.is_null() || kinds.is_null() {
-        return (NULL, receiver, kinds);
+    if receiver.is_null() || counts.is_null() {
+        return (NULL, receiver, counts);
     }
-    let code = receiver_kinds(receiver.get(), kinds.get());
-    (code, receiver, kinds)
+    let code = probe_counts(receiver.get(), counts.get());
+    (code, receiver, counts)
 }
 
 /// `SendingEndpoint::counts` and `TimelyEndpoint::passed`.

@@ -4,11 +4,13 @@
 //! defined in `specs/Lent.antt`, and said for C in `include/gozdrit.h`, with its refusals.
 ghost use Rattle.std.specs.Prelude.{◌≡◌, ℕ, List, Option};
 ghost use Rattle.std.specs.Borrow.{sem, u8, usize};
-ghost use Rattle.gozdrit.specs.Lying.{slice_lies_at, value_lies_at};
+ghost use Rattle.gozdrit.specs.Lying.{sized_lies_at, slice_lies_at, value_lies_at};
+ghost use Rattle.gozdrit.specs.Sizes.{HasRest};
+ghost use Rattle.gozdrit.specs.declared.sizes.TheConstants.{RECEIVER_CONFIG};
 ghost use Rattle.gozdrit.specs.Ends.{Receiver, ReceiverRow};
 ghost use Rattle.gozdrit.specs.declared.handle.Handle.{Handle};
-ghost use Rattle.gozdrit.specs.contracts.heard.HeardFields.{the_row as heard_row};
-ghost use Rattle.gozdrit.specs.declared.heard.HeardFields.{HeardFields};
+ghost use Rattle.gozdrit.specs.contracts.heard.ReceivedFields.{the_row as heard_row};
+ghost use Rattle.gozdrit.specs.declared.heard.ReceivedFields.{ReceivedFields};
 ghost use Rattle.gozdrit.specs.contracts.answers.PlayedPacket.{the_row as played_row};
 ghost use Rattle.gozdrit.specs.declared.answers.PlayedPacket.{PlayedPacket};
 ghost use Rattle.gozdrit.specs.contracts.config.ReceiverFields.{the_row as receiver_config_row};
@@ -19,12 +21,15 @@ use crate::answers::PlayedPacket;
 use crate::blocks::ReceiverBlock;
 use crate::code::NULL;
 use crate::config::ReceiverFields;
-use crate::heard::HeardFields;
+use crate::heard::ReceivedFields;
 use crate::lent::{Lent, LentSlice};
 use crate::receiving::{
     ReceiverHandle, begin, follow, nack, play, receive, receiver_free, receiver_new, restart,
     set_times,
 };
+use crate::rest::says_known;
+use crate::sized::LentSized;
+use crate::sizes::RECEIVER_CONFIG;
 use std::alloc::Global;
 
 /// Makes a receiver that took nothing, in a handle that holds no end: an endpoint over ring windows, as `config` says.
@@ -34,17 +39,18 @@ pub unsafe extern "C" fn gozdrit_receiver_new(
     config: *mut ReceiverFields,
     receiver: *mut ReceiverBlock,
 ) -> i32
-    ghost before: { Option ReceiverFields × Option (Handle Receiver) }
-    requires* { sem 𝓛 (value_lies_at receiver_config_row config before.0)
-        ∗ sem 𝓛 (value_lies_at ReceiverRow receiver before.1) }
-    ensures* { ∃ₛ (λ (after : Option ReceiverFields × Option (Handle Receiver)).
-        sem 𝓛 (value_lies_at receiver_config_row config after.0)
-        ∗ sem 𝓛 (value_lies_at ReceiverRow receiver after.1)
-        ∗ ⌜ ReceiverNewFor before.0 before.1 result after.0 after.1 ⌝) }
+    ghost before: { Option ReceiverFields × List ℕ × Option (Handle Receiver) }
+    requires rest { HasRest (λ fields. fields.size) RECEIVER_CONFIG before.0 before.1 }
+    requires* lies { sem 𝓛 (sized_lies_at receiver_config_row config before.0 before.1)
+        ∗ sem 𝓛 (value_lies_at ReceiverRow receiver before.2) }
+    ensures* { ∃ₛ (λ (after : Option ReceiverFields × List ℕ × Option (Handle Receiver)).
+        sem 𝓛 (sized_lies_at receiver_config_row config after.0 after.1)
+        ∗ sem 𝓛 (value_lies_at ReceiverRow receiver after.2)
+        ∗ ⌜ ReceiverNewFor before.0 before.1 before.2 result after.0 after.1 after.2 ⌝) }
 {
     receiver_new_lent(
         alloc,
-        Lent { at: config },
+        LentSized { at: config },
         Lent {
             at: receiver as *mut ReceiverHandle,
         },
@@ -54,16 +60,19 @@ pub unsafe extern "C" fn gozdrit_receiver_new(
 
 fn receiver_new_lent(
     alloc: Global,
-    mut config: Lent<ReceiverFields>,
+    mut config: LentSized<ReceiverFields>,
     mut receiver: Lent<ReceiverHandle>,
-) -> (i32, Lent<ReceiverFields>, Lent<ReceiverHandle>)
+) -> (i32, LentSized<ReceiverFields>, Lent<ReceiverHandle>)
+    requires { HasRest (λ fields. fields.size) RECEIVER_CONFIG config.value config.rest }
     ensures { ((result.1.at ≡ config.at) × (result.2.at ≡ receiver.at))
-        × ReceiverNewFor config.value receiver.value result.0 result.1.value result.2.value }
+        × ReceiverNewFor config.value config.rest receiver.value result.0 result.1.value result.1.rest result.2.value }
 {
     if config.is_null() || receiver.is_null() {
         return (NULL, config, receiver);
     }
-    let code = receiver_new(alloc, config.get(), receiver.get());
+    let size = config.get().size;
+    let is_known = says_known(&mut config, size, RECEIVER_CONFIG);
+    let code = receiver_new(alloc, config.get(), is_known, receiver.get());
     (code, config, receiver)
 }
 
@@ -99,23 +108,23 @@ fn receiver_free_lent(
     (code, receiver)
 }
 
-/// `AskingEndpoint::on_datagram`, which may measure the path, at the moment `now`, in milliseconds. `heard` is told what the datagram was.
+/// `AskingEndpoint::on_datagram`, which may measure the path, at the moment `now`, in milliseconds. `received` is told what the datagram was.
 #[unsafe(no_mangle)]
 pub unsafe extern "C" fn gozdrit_receive(
     receiver: *mut ReceiverBlock,
     octets: *mut u8,
     length: usize,
     now: u64,
-    heard: *mut HeardFields,
+    received: *mut ReceivedFields,
 ) -> i32
-    ghost before: { Option (Handle Receiver) × Option (List ℕ) × Option HeardFields }
+    ghost before: { Option (Handle Receiver) × Option (List ℕ) × Option ReceivedFields }
     requires* { sem 𝓛 (value_lies_at ReceiverRow receiver before.0)
         ∗ sem 𝓛 (slice_lies_at u8 octets length before.1)
-        ∗ sem 𝓛 (value_lies_at heard_row heard before.2) }
-    ensures* { ∃ₛ (λ (after : Option (Handle Receiver) × Option (List ℕ) × Option HeardFields).
+        ∗ sem 𝓛 (value_lies_at heard_row received before.2) }
+    ensures* { ∃ₛ (λ (after : Option (Handle Receiver) × Option (List ℕ) × Option ReceivedFields).
         sem 𝓛 (value_lies_at ReceiverRow receiver after.0)
         ∗ sem 𝓛 (slice_lies_at u8 octets length after.1)
-        ∗ sem 𝓛 (value_lies_at heard_row heard after.2)
+        ∗ sem 𝓛 (value_lies_at heard_row received after.2)
         ∗ ⌜ ReceiveFor now before.0 before.1 before.2 result after.0 after.1 after.2 ⌝) }
 {
     receive_lent(
@@ -127,7 +136,7 @@ pub unsafe extern "C" fn gozdrit_receive(
             len: length,
         },
         now,
-        Lent { at: heard },
+        Lent { at: received },
     )
     .0
 }
@@ -136,16 +145,21 @@ fn receive_lent(
     mut receiver: Lent<ReceiverHandle>,
     mut octets: LentSlice<u8>,
     now: u64,
-    mut heard: Lent<HeardFields>,
-) -> (i32, Lent<ReceiverHandle>, LentSlice<u8>, Lent<HeardFields>)
-    ensures { ((result.1.at ≡ receiver.at) × (result.2.at ≡ octets.at) × (result.2.len ≡ octets.len) × (result.3.at ≡ heard.at))
-        × ReceiveFor now receiver.value octets.items heard.value result.0 result.1.value result.2.items result.3.value }
+    mut received: Lent<ReceivedFields>,
+) -> (
+    i32,
+    Lent<ReceiverHandle>,
+    LentSlice<u8>,
+    Lent<ReceivedFields>,
+)
+    ensures { ((result.1.at ≡ receiver.at) × (result.2.at ≡ octets.at) × (result.2.len ≡ octets.len) × (result.3.at ≡ received.at))
+        × ReceiveFor now receiver.value octets.items received.value result.0 result.1.value result.2.items result.3.value }
 {
-    if receiver.is_null() || octets.is_missing() || heard.is_null() {
-        return (NULL, receiver, octets, heard);
+    if receiver.is_null() || octets.is_missing() || received.is_null() {
+        return (NULL, receiver, octets, received);
     }
-    let code = receive(receiver.get(), octets.get(), now, heard.get());
-    (code, receiver, octets, heard)
+    let code = receive(receiver.get(), octets.get(), now, received.get());
+    (code, receiver, octets, received)
 }
 
 /// A play at the moment `now`, in milliseconds: what `Receiver::peek` lends, and then `AskingEndpoint::pass`. `played` is told
@@ -279,7 +293,7 @@ fn begin_lent(mut receiver: Lent<ReceiverHandle>, first: u16) -> (i32, Lent<Rece
 
 /// `AskingEndpoint::restart`.
 #[unsafe(no_mangle)]
-pub unsafe extern "C" fn gozdrit_restart(receiver: *mut ReceiverBlock) -> i32
+pub unsafe extern "C" fn gozdrit_reset(receiver: *mut ReceiverBlock) -> i32
     ghost before: { Option (Handle Receiver) }
     requires* { sem 𝓛 (value_lies_at ReceiverRow receiver before) }
     ensures* { ∃ₛ (λ (after : Option (Handle Receiver)).
@@ -307,68 +321,68 @@ fn restart_lent(mut receiver: Lent<ReceiverHandle>) -> (i32, Lent<ReceiverHandle
 #[unsafe(no_mangle)]
 pub unsafe extern "C" fn gozdrit_set_times(
     receiver: *mut ReceiverBlock,
-    patience: u64,
-    delay: u64,
-    retry: u64,
+    latency: u64,
+    reorder_delay: u64,
+    nack_interval: u64,
 ) -> i32
     ghost before: { Option (Handle Receiver) }
     requires* { sem 𝓛 (value_lies_at ReceiverRow receiver before) }
     ensures* { ∃ₛ (λ (after : Option (Handle Receiver)).
         sem 𝓛 (value_lies_at ReceiverRow receiver after)
-        ∗ ⌜ TimesFor patience delay retry before result after ⌝) }
+        ∗ ⌜ TimesFor latency reorder_delay nack_interval before result after ⌝) }
 {
     set_times_lent(
         Lent {
             at: receiver as *mut ReceiverHandle,
         },
-        patience,
-        delay,
-        retry,
+        latency,
+        reorder_delay,
+        nack_interval,
     )
     .0
 }
 
 fn set_times_lent(
     mut receiver: Lent<ReceiverHandle>,
-    patience: u64,
-    delay: u64,
-    retry: u64,
+    latency: u64,
+    reorder_delay: u64,
+    nack_interval: u64,
 ) -> (i32, Lent<ReceiverHandle>)
     ensures { (result.1.at ≡ receiver.at)
-        × TimesFor patience delay retry receiver.value result.0 result.1.value }
+        × TimesFor latency reorder_delay nack_interval receiver.value result.0 result.1.value }
 {
     if receiver.is_null() {
         return (NULL, receiver);
     }
-    let code = set_times(receiver.get(), patience, delay, retry);
+    let code = set_times(receiver.get(), latency, reorder_delay, nack_interval);
     (code, receiver)
 }
 
 /// Whether the times of asks follow what is measured of the path.
 #[unsafe(no_mangle)]
-pub unsafe extern "C" fn gozdrit_follow(receiver: *mut ReceiverBlock, follows: u8) -> i32
+pub unsafe extern "C" fn gozdrit_set_adaptive(receiver: *mut ReceiverBlock, adaptive: u8) -> i32
     ghost before: { Option (Handle Receiver) }
     requires* { sem 𝓛 (value_lies_at ReceiverRow receiver before) }
     ensures* { ∃ₛ (λ (after : Option (Handle Receiver)).
         sem 𝓛 (value_lies_at ReceiverRow receiver after)
-        ∗ ⌜ FollowFor follows before result after ⌝) }
+        ∗ ⌜ FollowFor adaptive before result after ⌝) }
 {
     follow_lent(
         Lent {
             at: receiver as *mut ReceiverHandle,
         },
-        follows,
+        adaptive,
     )
     .0
 }
 
-fn follow_lent(mut receiver: Lent<ReceiverHandle>, follows: u8) -> (i32, Lent<ReceiverHandle>)
+fn follow_lent(mut receiver: Lent<ReceiverHandle>, adaptive: u8) -> (i32, Lent<ReceiverHandle>)
     ensures { (result.1.at ≡ receiver.at)
-        × FollowFor follows receiver.value result.0 result.1.value }
+        × FollowFor adaptive receiver.value result.0 result.1.value }
 {
     if receiver.is_null() {
         return (NULL, receiver);
     }
-    let code = follow(receiver.get(), follows);
+    let code = follow(receiver.get(), adaptive);
     (code, receiver)
 }

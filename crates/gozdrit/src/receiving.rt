@@ -1,14 +1,18 @@
 //! The receiving end for C.
+ghost use Rattle.std.specs.Prelude.{ℕ, List, ◌↔◌, IsTrue};
+ghost use Rattle.gozdrit.specs.declared.sizes.TheConstants.{RECEIVER_CONFIG};
+ghost use Rattle.gozdrit.specs.Sizes.{SaysKnown};
 ghost use Rattle.gozdrit.specs.Freeing.{AnswersFree};
 ghost use Rattle.gozdrit.specs.Receiving.{AnswersReceiverNew, AnswersReceive, AnswersPlay, AnswersNack, AnswersBegin, AnswersRestart, AnswersTimes, AnswersFollow};
 
 use crate::answers::PlayedPacket;
-use crate::code::{HELD, NO_END, OK, OUT_OF_MEMORY};
+use crate::code::{BAD_SIZE, HELD, NO_END, OK, OUT_OF_MEMORY};
 use crate::config::{MAX_FOLLOWS, ReceiverFields};
 use crate::following::MeteredReceiver;
 use crate::handle::Handle;
-use crate::heard::HeardFields;
+use crate::heard::ReceivedFields;
 use crate::playing::play_to;
+use crate::sizes::{PLAYED, RECEIVED};
 use endpoint::{AskingEndpoint, PathMeter};
 use rtpwire::ConfigFault;
 use std::alloc::Global;
@@ -17,15 +21,21 @@ use stores::Window;
 /// What C holds of a receiver.
 pub type ReceiverHandle = Handle<MeteredReceiver>;
 
+/// `is_known` is whether the configuration's struct says nothing that is not known here.
 pub(crate) fn receiver_new(
     alloc: Global,
     config: &ReceiverFields,
+    is_known: bool,
     receiver: &mut ReceiverHandle,
 ) -> i32
-    ensures { AnswersReceiverNew config.now receiver.old.inside result receiver.new.inside }
+    ensures { (rest : List ℕ) → IsTrue is_known ↔ SaysKnown RECEIVER_CONFIG config.now.size rest
+        → AnswersReceiverNew config.now rest receiver.old.inside result receiver.new.inside }
 {
     if receiver.is_held() {
         return HELD;
+    }
+    if !is_known {
+        return BAD_SIZE;
     }
     let (made, probation) = match (config.config(), config.probation()) {
         (Ok(made), Ok(probation)) => (made, probation),
@@ -38,8 +48,8 @@ pub(crate) fn receiver_new(
     let made = MeteredReceiver {
         endpoint,
         meter: PathMeter::new(),
-        follows: config.follows != 0,
-        by_sent: config.follows == MAX_FOLLOWS,
+        follows: config.adaptive != 0,
+        by_sent: config.adaptive == MAX_FOLLOWS,
     };
     let Ok(inside) = Box::new(alloc, made) else {
         return OUT_OF_MEMORY;
@@ -62,14 +72,17 @@ pub(crate) fn receive(
     receiver: &mut ReceiverHandle,
     octets: &[u8],
     now: u64,
-    heard: &mut HeardFields,
+    heard: &mut ReceivedFields,
 ) -> i32
     ensures { AnswersReceive receiver.old.inside octets.now now heard.old result receiver.new.inside heard.new }
 {
     if !receiver.is_held() {
         return NO_END;
     }
-    *heard = HeardFields::of(receiver.lend().on_datagram(octets, now));
+    if heard.size < RECEIVED {
+        return BAD_SIZE;
+    }
+    *heard = ReceivedFields::of(heard.size, receiver.lend().on_datagram(octets, now));
     OK
 }
 
@@ -83,6 +96,9 @@ pub(crate) fn play(
 {
     if !receiver.is_held() {
         return NO_END;
+    }
+    if played.size < PLAYED {
+        return BAD_SIZE;
     }
     play_to(receiver.lend(), now, played, payload)
 }

@@ -4,7 +4,9 @@
 //! defined in `specs/Lent.antt`, and said for C in `include/gozdrit.h`, with its refusals.
 ghost use Rattle.std.specs.Prelude.{◌≡◌, ℕ, List, Option};
 ghost use Rattle.std.specs.Borrow.{sem, u8, u32};
-ghost use Rattle.gozdrit.specs.Lying.{slice_lies_at, value_lies_at};
+ghost use Rattle.gozdrit.specs.Lying.{sized_lies_at, slice_lies_at, value_lies_at};
+ghost use Rattle.gozdrit.specs.Sizes.{HasRest};
+ghost use Rattle.gozdrit.specs.declared.sizes.TheConstants.{SENDER_CONFIG};
 ghost use Rattle.gozdrit.specs.Ends.{Sender, SenderRow};
 ghost use Rattle.gozdrit.specs.declared.handle.Handle.{Handle};
 ghost use Rattle.gozdrit.specs.contracts.header.Header.{the_row as header_row};
@@ -13,8 +15,8 @@ ghost use Rattle.gozdrit.specs.contracts.config.SenderFields.{the_row as sender_
 ghost use Rattle.gozdrit.specs.declared.config.SenderFields.{SenderFields};
 ghost use Rattle.gozdrit.specs.contracts.answers.SentPacket.{the_row as sent_row};
 ghost use Rattle.gozdrit.specs.declared.answers.SentPacket.{SentPacket};
-ghost use Rattle.gozdrit.specs.contracts.heard.ToldFields.{the_row as told_row};
-ghost use Rattle.gozdrit.specs.declared.heard.ToldFields.{ToldFields};
+ghost use Rattle.gozdrit.specs.contracts.heard.OutcomeFields.{the_row as told_row};
+ghost use Rattle.gozdrit.specs.declared.heard.OutcomeFields.{OutcomeFields};
 ghost use Rattle.gozdrit.specs.Lent.{SenderNewFor, SenderFreeFor, SendFor, FeedbackFor, RetransmitFor, MarkLastFor, SenderTimeFor};
 
 use crate::answers::SentPacket;
@@ -22,11 +24,14 @@ use crate::blocks::SenderBlock;
 use crate::code::NULL;
 use crate::config::SenderFields;
 use crate::header::Header;
-use crate::heard::ToldFields;
+use crate::heard::OutcomeFields;
 use crate::lent::{Lent, LentSlice};
+use crate::rest::says_known;
 use crate::sending::{
     SenderHandle, feedback, mark_last, retransmit, send, sender_free, sender_new, tell_time,
 };
+use crate::sized::LentSized;
+use crate::sizes::SENDER_CONFIG;
 use std::alloc::Global;
 
 /// Makes a sender that sent nothing, in a handle that holds no end: an endpoint over a ring history, as `config` says.
@@ -36,17 +41,18 @@ pub unsafe extern "C" fn gozdrit_sender_new(
     config: *mut SenderFields,
     sender: *mut SenderBlock,
 ) -> i32
-    ghost before: { Option SenderFields × Option (Handle Sender) }
-    requires* { sem 𝓛 (value_lies_at sender_config_row config before.0)
-        ∗ sem 𝓛 (value_lies_at SenderRow sender before.1) }
-    ensures* { ∃ₛ (λ (after : Option SenderFields × Option (Handle Sender)).
-        sem 𝓛 (value_lies_at sender_config_row config after.0)
-        ∗ sem 𝓛 (value_lies_at SenderRow sender after.1)
-        ∗ ⌜ SenderNewFor before.0 before.1 result after.0 after.1 ⌝) }
+    ghost before: { Option SenderFields × List ℕ × Option (Handle Sender) }
+    requires rest { HasRest (λ fields. fields.size) SENDER_CONFIG before.0 before.1 }
+    requires* lies { sem 𝓛 (sized_lies_at sender_config_row config before.0 before.1)
+        ∗ sem 𝓛 (value_lies_at SenderRow sender before.2) }
+    ensures* { ∃ₛ (λ (after : Option SenderFields × List ℕ × Option (Handle Sender)).
+        sem 𝓛 (sized_lies_at sender_config_row config after.0 after.1)
+        ∗ sem 𝓛 (value_lies_at SenderRow sender after.2)
+        ∗ ⌜ SenderNewFor before.0 before.1 before.2 result after.0 after.1 after.2 ⌝) }
 {
     sender_new_lent(
         alloc,
-        Lent { at: config },
+        LentSized { at: config },
         Lent {
             at: sender as *mut SenderHandle,
         },
@@ -56,16 +62,19 @@ pub unsafe extern "C" fn gozdrit_sender_new(
 
 fn sender_new_lent(
     alloc: Global,
-    mut config: Lent<SenderFields>,
+    mut config: LentSized<SenderFields>,
     mut sender: Lent<SenderHandle>,
-) -> (i32, Lent<SenderFields>, Lent<SenderHandle>)
+) -> (i32, LentSized<SenderFields>, Lent<SenderHandle>)
+    requires { HasRest (λ fields. fields.size) SENDER_CONFIG config.value config.rest }
     ensures { ((result.1.at ≡ config.at) × (result.2.at ≡ sender.at))
-        × SenderNewFor config.value sender.value result.0 result.1.value result.2.value }
+        × SenderNewFor config.value config.rest sender.value result.0 result.1.value result.1.rest result.2.value }
 {
     if config.is_null() || sender.is_null() {
         return (NULL, config, sender);
     }
-    let code = sender_new(alloc, config.get(), sender.get());
+    let size = config.get().size;
+    let is_known = says_known(&mut config, size, SENDER_CONFIG);
+    let code = sender_new(alloc, config.get(), is_known, sender.get());
     (code, config, sender)
 }
 
@@ -98,8 +107,8 @@ fn sender_free_lent(alloc: Global, mut sender: Lent<SenderHandle>) -> (i32, Lent
     (code, sender)
 }
 
-/// `TimelyEndpoint::send_into`, at the moment that was told last, of the content that header and payload say. `sent` is told its number and the datagram's length, and the
-/// datagram stands at the front of `out`.
+/// `TimelyEndpoint::send_into`, at the moment that was told last, of the content that header and payload say. `sent` is told its number
+/// and the datagram's length, and the datagram stands at the front of `out`.
 #[unsafe(no_mangle)]
 pub unsafe extern "C" fn gozdrit_send(
     sender: *mut SenderBlock,
@@ -178,22 +187,22 @@ fn send_lent(
     (code, sender, header, payload, sent, out)
 }
 
-/// `TimelyEndpoint::on_datagram`. `told` is told what the datagram was.
+/// `TimelyEndpoint::on_datagram`. `outcome` is told what the datagram was.
 #[unsafe(no_mangle)]
 pub unsafe extern "C" fn gozdrit_feedback(
     sender: *mut SenderBlock,
     octets: *mut u8,
     length: usize,
-    told: *mut ToldFields,
+    outcome: *mut OutcomeFields,
 ) -> i32
-    ghost before: { Option (Handle Sender) × Option (List ℕ) × Option ToldFields }
+    ghost before: { Option (Handle Sender) × Option (List ℕ) × Option OutcomeFields }
     requires* { sem 𝓛 (value_lies_at SenderRow sender before.0)
         ∗ sem 𝓛 (slice_lies_at u8 octets length before.1)
-        ∗ sem 𝓛 (value_lies_at told_row told before.2) }
-    ensures* { ∃ₛ (λ (after : Option (Handle Sender) × Option (List ℕ) × Option ToldFields).
+        ∗ sem 𝓛 (value_lies_at told_row outcome before.2) }
+    ensures* { ∃ₛ (λ (after : Option (Handle Sender) × Option (List ℕ) × Option OutcomeFields).
         sem 𝓛 (value_lies_at SenderRow sender after.0)
         ∗ sem 𝓛 (slice_lies_at u8 octets length after.1)
-        ∗ sem 𝓛 (value_lies_at told_row told after.2)
+        ∗ sem 𝓛 (value_lies_at told_row outcome after.2)
         ∗ ⌜ FeedbackFor before.0 before.1 before.2 result after.0 after.1 after.2 ⌝) }
 {
     feedback_lent(
@@ -204,7 +213,7 @@ pub unsafe extern "C" fn gozdrit_feedback(
             at: octets,
             len: length,
         },
-        Lent { at: told },
+        Lent { at: outcome },
     )
     .0
 }
@@ -212,16 +221,16 @@ pub unsafe extern "C" fn gozdrit_feedback(
 fn feedback_lent(
     mut sender: Lent<SenderHandle>,
     mut octets: LentSlice<u8>,
-    mut told: Lent<ToldFields>,
-) -> (i32, Lent<SenderHandle>, LentSlice<u8>, Lent<ToldFields>)
-    ensures { ((result.1.at ≡ sender.at) × (result.2.at ≡ octets.at) × (result.2.len ≡ octets.len) × (result.3.at ≡ told.at))
-        × FeedbackFor sender.value octets.items told.value result.0 result.1.value result.2.items result.3.value }
+    mut outcome: Lent<OutcomeFields>,
+) -> (i32, Lent<SenderHandle>, LentSlice<u8>, Lent<OutcomeFields>)
+    ensures { ((result.1.at ≡ sender.at) × (result.2.at ≡ octets.at) × (result.2.len ≡ octets.len) × (result.3.at ≡ outcome.at))
+        × FeedbackFor sender.value octets.items outcome.value result.0 result.1.value result.2.items result.3.value }
 {
-    if sender.is_null() || octets.is_missing() || told.is_null() {
-        return (NULL, sender, octets, told);
+    if sender.is_null() || octets.is_missing() || outcome.is_null() {
+        return (NULL, sender, octets, outcome);
     }
-    let code = feedback(sender.get(), octets.get(), told.get());
-    (code, sender, octets, told)
+    let code = feedback(sender.get(), octets.get(), outcome.get());
+    (code, sender, octets, outcome)
 }
 
 /// `TimelyEndpoint::retransmit_into`, at the moment that was told last, told as a send; where there is none, the length is 0.
@@ -267,43 +276,43 @@ fn retransmit_lent(
     (code, sender, sent, out)
 }
 
-/// `TimelyEndpoint::mark_last`. `marked` is told how many packets are to be retransmitted that were not before.
+/// `TimelyEndpoint::mark_last`. `queued` is told how many packets are to be retransmitted that were not before.
 #[unsafe(no_mangle)]
-pub unsafe extern "C" fn gozdrit_mark_last(sender: *mut SenderBlock, marked: *mut u32) -> i32
+pub unsafe extern "C" fn gozdrit_tail_loss_probe(sender: *mut SenderBlock, queued: *mut u32) -> i32
     ghost before: { Option (Handle Sender) × Option ℕ }
     requires* { sem 𝓛 (value_lies_at SenderRow sender before.0)
-        ∗ sem 𝓛 (value_lies_at u32 marked before.1) }
+        ∗ sem 𝓛 (value_lies_at u32 queued before.1) }
     ensures* { ∃ₛ (λ (after : Option (Handle Sender) × Option ℕ).
         sem 𝓛 (value_lies_at SenderRow sender after.0)
-        ∗ sem 𝓛 (value_lies_at u32 marked after.1)
+        ∗ sem 𝓛 (value_lies_at u32 queued after.1)
         ∗ ⌜ MarkLastFor before.0 before.1 result after.0 after.1 ⌝) }
 {
     mark_last_lent(
         Lent {
             at: sender as *mut SenderHandle,
         },
-        Lent { at: marked },
+        Lent { at: queued },
     )
     .0
 }
 
 fn mark_last_lent(
     mut sender: Lent<SenderHandle>,
-    mut marked: Lent<u32>,
+    mut queued: Lent<u32>,
 ) -> (i32, Lent<SenderHandle>, Lent<u32>)
-    ensures { ((result.1.at ≡ sender.at) × (result.2.at ≡ marked.at))
-        × MarkLastFor sender.value marked.value result.0 result.1.value result.2.value }
+    ensures { ((result.1.at ≡ sender.at) × (result.2.at ≡ queued.at))
+        × MarkLastFor sender.value queued.value result.0 result.1.value result.2.value }
 {
-    if sender.is_null() || marked.is_null() {
-        return (NULL, sender, marked);
+    if sender.is_null() || queued.is_null() {
+        return (NULL, sender, queued);
     }
-    let code = mark_last(sender.get(), marked.get());
-    (code, sender, marked)
+    let code = mark_last(sender.get(), queued.get());
+    (code, sender, queued)
 }
 
 /// Tells the moment of what follows, in milliseconds.
 #[unsafe(no_mangle)]
-pub unsafe extern "C" fn gozdrit_sender_time(sender: *mut SenderBlock, now: u64) -> i32
+pub unsafe extern "C" fn gozdrit_sender_set_time(sender: *mut SenderBlock, now: u64) -> i32
     ghost before: { Option (Handle Sender) }
     requires* { sem 𝓛 (value_lies_at SenderRow sender before) }
     ensures* { ∃ₛ (λ (after : Option (Handle Sender)).

@@ -1,13 +1,17 @@
 //! The sending end for C.
+ghost use Rattle.std.specs.Prelude.{ℕ, List, ◌↔◌, IsTrue};
+ghost use Rattle.gozdrit.specs.declared.sizes.TheConstants.{SENDER_CONFIG};
+ghost use Rattle.gozdrit.specs.Sizes.{SaysKnown};
 ghost use Rattle.gozdrit.specs.Freeing.{AnswersFree};
 ghost use Rattle.gozdrit.specs.Sending.{AnswersSenderNew, AnswersSend, AnswersFeedback, AnswersRetransmit, AnswersMarkLast, AnswersTime, RetransmitsTo};
 
 use crate::answers::SentPacket;
-use crate::code::{HELD, NO_END, NO_ROOM, OK, OUT_OF_MEMORY, TOO_LARGE};
+use crate::code::{BAD_SIZE, HELD, NO_END, NO_ROOM, OK, OUT_OF_MEMORY, TOO_LARGE};
 use crate::config::SenderFields;
 use crate::handle::Handle;
 use crate::header::Header;
-use crate::heard::ToldFields;
+use crate::heard::OutcomeFields;
+use crate::sizes::{OUTCOME, SENT};
 use endpoint::TimelyEndpoint;
 use rtpwire::MAX_DATAGRAM;
 use std::alloc::Global;
@@ -23,11 +27,21 @@ pub struct TimedSender {
 /// What C holds of a sender.
 pub type SenderHandle = Handle<TimedSender>;
 
-pub(crate) fn sender_new(alloc: Global, config: &SenderFields, sender: &mut SenderHandle) -> i32
-    ensures { AnswersSenderNew config.now sender.old.inside result sender.new.inside }
+/// `is_known` is whether the configuration's struct says nothing that is not known here.
+pub(crate) fn sender_new(
+    alloc: Global,
+    config: &SenderFields,
+    is_known: bool,
+    sender: &mut SenderHandle,
+) -> i32
+    ensures { (rest : List ℕ) → IsTrue is_known ↔ SaysKnown SENDER_CONFIG config.now.size rest
+        → AnswersSenderNew config.now rest sender.old.inside result sender.new.inside }
 {
     if sender.is_held() {
         return HELD;
+    }
+    if !is_known {
+        return BAD_SIZE;
     }
     let made = match config.config() {
         Ok(made) => made,
@@ -67,6 +81,9 @@ pub(crate) fn send(
     if !sender.is_held() {
         return NO_END;
     }
+    if sent.size < SENT {
+        return BAD_SIZE;
+    }
     let Some(carried) = header.carried(payload) else {
         return TOO_LARGE;
     };
@@ -84,13 +101,16 @@ pub(crate) fn send(
     }
 }
 
-pub(crate) fn feedback(sender: &mut SenderHandle, octets: &[u8], told: &mut ToldFields) -> i32
+pub(crate) fn feedback(sender: &mut SenderHandle, octets: &[u8], told: &mut OutcomeFields) -> i32
     ensures { AnswersFeedback sender.old.inside octets.now told.old result sender.new.inside told.new }
 {
     if !sender.is_held() {
         return NO_END;
     }
-    *told = ToldFields::of(sender.lend().endpoint.on_datagram(octets));
+    if told.size < OUTCOME {
+        return BAD_SIZE;
+    }
+    *told = OutcomeFields::of(told.size, sender.lend().endpoint.on_datagram(octets));
     OK
 }
 
@@ -99,6 +119,9 @@ pub(crate) fn retransmit(sender: &mut SenderHandle, sent: &mut SentPacket, out: 
 {
     if !sender.is_held() {
         return NO_END;
+    }
+    if sent.size < SENT {
+        return BAD_SIZE;
     }
     retransmit_to(sender.lend(), sent, out)
 }

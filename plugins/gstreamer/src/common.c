@@ -7,6 +7,11 @@ guint32 draw_ssrc(guint32 one, guint32 other) {
     return drawn;
 }
 
+guint8 library_rtx_type(guint8 agreed, guint8 media) {
+    if (agreed >= 64 || agreed == media) return agreed;
+    return media == RTX_TYPE ? RTX_TYPE + 1 : RTX_TYPE;
+}
+
 gint64 caps_number(const GstCaps *caps, const gchar *field, gint64 otherwise) {
     const GstStructure *structure = gst_caps_get_structure(caps, 0);
     const gchar *text = gst_structure_get_string(structure, field);
@@ -17,6 +22,10 @@ gint64 caps_number(const GstCaps *caps, const gchar *field, gint64 otherwise) {
     if (gst_structure_get_uint(structure, field, &positive)) return positive;
     if (gst_structure_get_boolean(structure, field, &truth)) return truth;
     return text && g_ascii_isdigit(*text) ? (gint64)g_ascii_strtoull(text, NULL, 10) : otherwise;
+}
+
+void add_counts(gpointer sum, gconstpointer more, gsize size) {
+    for (gsize i = 1; i < size / sizeof(guint64); i++) ((guint64 *)sum)[i] += ((const guint64 *)more)[i];
 }
 
 void element_time_begin(element_time *time, GstElement *element) {

@@ -20,6 +20,10 @@ enum { RTX_TYPE = 97 };
 /* An SSRC at random that is neither of the two, and not SSRC_UNSET. */
 guint32 draw_ssrc(guint32 one, guint32 other);
 
+/* The payload type by which the library knows retransmissions that have this one. It wants 96 to 127; a session may have agreed on one
+ * below 64, as browsers do, which RTP and RTCP on one port allow (RFC 5761, section 4). */
+guint8 library_rtx_type(guint8 agreed, guint8 media);
+
 /* A number of caps, which have it as an int, as a uint, as a text, as SDP has it, or as what is true (1); or `otherwise`. */
 gint64 caps_number(const GstCaps *caps, const gchar *field, gint64 otherwise);
 
@@ -46,6 +50,9 @@ GstClockID element_time_id(const element_time *time, GstClockTime when);
 
 /* An installed GStreamer property: blurbs tell unit and default. */
 #define PROPERTY_FLAGS ((GParamFlags)(G_PARAM_READWRITE | G_PARAM_STATIC_STRINGS))
+
+/* Adds up two structs of the library's counts, of so many octets: each is its size, and behind that 64 bits a count. */
+void add_counts(gpointer sum, gconstpointer more, gsize size);
 
 /* Adds a count to a structure of counts. */
 #define ADD_COUNT(structure, name, value) gst_structure_set((structure), (name), G_TYPE_UINT64, (guint64)(value), NULL)

@@ -3,26 +3,26 @@
 /* ---- waking the timer. The lock is held. */
 
 void feedback_wake(GstGozdritRecv *self) {
-    self->timer_moment = 0;
+    self->timer_until = 0;
     if (self->timer_id) gst_clock_id_unschedule(self->timer_id);
     g_cond_signal(&self->timer_cond);
 }
 
-/* The session's next moment. While downstream stands still, that is always the moment to play the next packet: then asks go on by
+/* The session's next timeout. While downstream stands still, that is always the time to play the next packet: then asks go on by
  * steps of the times between them, as long as something is missing. */
-static gozdrit_moment next_moment(GstGozdritRecv *self, guint64 now) {
-    gozdrit_moment next = {0};
+static gozdrit_timeout next_timeout(GstGozdritRecv *self, guint64 now) {
+    gozdrit_timeout next = {0};
     gsize missing = 0;
     if (!self->end.held) return next;
-    if (!self->stalled) gozdrit_next_moment(&self->end, &next);
+    if (!self->stalled) gozdrit_next_timeout(&self->end, &next);
     else gozdrit_missing(&self->end, &missing);
-    if (missing > 0) next = (gozdrit_moment){now + receiving_step(self), 1};
+    if (missing > 0) next = (gozdrit_timeout){now + receiving_step(self), 1};
     return next;
 }
 
 void feedback_schedule(GstGozdritRecv *self) {
-    gozdrit_moment next = next_moment(self, receiving_now(self));
-    if (next.known && next.moment < self->timer_moment) feedback_wake(self);
+    gozdrit_timeout next = next_timeout(self, receiving_now(self));
+    if (next.known && next.time < self->timer_until) feedback_wake(self);
 }
 
 /* ---- the stream of feedback */
@@ -44,32 +44,46 @@ static void begin_stream(GstGozdritRecv *self) {
 
 /* The next NACK, or NULL where none is due. The lock is held. */
 static GstBuffer *next_nack(GstGozdritRecv *self, guint64 now) {
-    guint8 octets[GOZDRIT_MAX_NACK];
+    guint8 octets[GOZDRIT_MAX_NACK_DATAGRAM];
     gsize length = 0;
     if (!self->end.held) return NULL;
-    gint32 number = gozdrit_nack(&self->end, now, GOZDRIT_MOST, &length, octets, sizeof octets);
+    gint32 number = gozdrit_nack(&self->end, now, GOZDRIT_MAX_NACKED, &length, octets, sizeof octets);
     if (number != GOZDRIT_OK || length == 0) return NULL;
     return gst_buffer_new_memdup(octets, length);
 }
 
+void feedback_end(GstGozdritRecv *self) {
+    self->ended = TRUE;
+    feedback_wake(self);
+}
+
+void feedback_go_on(GstGozdritRecv *self) {
+    if (!self->ended) return;
+    self->ended = FALSE;
+    if (self->feedback_stage == FEEDBACK_HAS_ENDED) self->feedback_stage = FEEDBACK_TO_BEGIN;
+    feedback_wake(self);
+}
+
 /* ---- the task */
 
-/* Waits for the session's next moment, for a call, or, where there is none, for the latter alone. The lock is held. */
-static void wait_for_moment(GstGozdritRecv *self, guint64 now) {
-    gozdrit_moment next = next_moment(self, now);
-    if (next.known && next.moment <= now) return;
-    self->timer_moment = next.known ? next.moment : G_MAXUINT64;
+/* Waits for the session's next timeout, for a call, or, where there is none or the stream has ended, for the latter alone. The
+ * lock is held. */
+static void wait_for_timeout(GstGozdritRecv *self, guint64 now) {
+    gozdrit_timeout next = {0};
+    if (!self->ended) next = next_timeout(self, now);
+    if (next.known && next.time <= now) return;
+    self->timer_until = next.known ? next.time : G_MAXUINT64;
     if (!next.known) {
-        while (self->timer_moment == G_MAXUINT64) g_cond_wait(&self->timer_cond, &self->lock);
+        while (self->timer_until == G_MAXUINT64) g_cond_wait(&self->timer_cond, &self->lock);
     } else {
-        GstClockID id = self->timer_id = element_time_id(&self->time, next.moment * MILLISECOND);
+        GstClockID id = self->timer_id = element_time_id(&self->time, next.time * MILLISECOND);
         g_mutex_unlock(&self->lock);
         gst_clock_id_wait(id, NULL);
         g_mutex_lock(&self->lock);
         self->timer_id = NULL;
         gst_clock_id_unref(id);
     }
-    self->timer_moment = 0;
+    self->timer_until = 0;
 }
 
 /* What a turn of the task found to do. */
@@ -79,15 +93,18 @@ typedef enum turn { TURN_AGAIN, TURN_BEGIN, TURN_NACK, TURN_END, TURN_STOP } tur
 static turn take_turn(GstGozdritRecv *self, GstBuffer **nack) {
     guint64 now = receiving_now(self);
     if (!self->timer_active) return TURN_STOP;
-    if (!self->feedback_begun) {
-        self->feedback_begun = TRUE;
+    if (self->feedback_stage == FEEDBACK_TO_BEGIN) {
+        self->feedback_stage = FEEDBACK_GOES;
         return TURN_BEGIN;
     }
     playing_all(self, now);
-    if (self->ended) return TURN_END;
-    *nack = next_nack(self, now);
+    if (self->ended && self->feedback_stage == FEEDBACK_GOES) {
+        self->feedback_stage = FEEDBACK_HAS_ENDED;
+        return TURN_END;
+    }
+    if (!self->ended) *nack = next_nack(self, now);
     if (*nack) return TURN_NACK;
-    wait_for_moment(self, now);
+    wait_for_timeout(self, now);
     return TURN_AGAIN;
 }
 
@@ -100,10 +117,7 @@ void feedback_task(gpointer pad) {
     switch (found) {
     case TURN_BEGIN: begin_stream(self); break;
     case TURN_NACK: gst_pad_push(self->feedback, nack); break; /* who gets none is asked again */
-    case TURN_END:
-        gst_pad_push_event(self->feedback, gst_event_new_eos());
-        gst_pad_pause_task(self->feedback);
-        break;
+    case TURN_END: gst_pad_push_event(self->feedback, gst_event_new_eos()); break;
     case TURN_STOP: gst_pad_pause_task(self->feedback); break;
     case TURN_AGAIN: break;
     }

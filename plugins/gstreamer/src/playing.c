@@ -1,7 +1,7 @@
 #include "recv.h"
 
 /* A packet is played into the middle of a buffer, and its header is written in front of it. So the payload is copied once. */
-enum { FRONT = 12 + 4 * GOZDRIT_MAX_SOURCES + 4 + 4 * GOZDRIT_MAX_WORDS };
+enum { FRONT = 12 + 4 * GOZDRIT_MAX_CSRCS + 4 + 4 * GOZDRIT_MAX_EXTENSION_WORDS };
 
 /* ---- what is ready */
 
@@ -49,6 +49,9 @@ static void release(GstGozdritRecv *self, guint64 sequence) {
 
 void playing_release(GstGozdritRecv *self) { release(self, G_MAXUINT64); }
 
+/* So many events wait at most: the first of more goes out before its time. */
+enum { MOST_HELD = 1024 };
+
 void playing_event(GstGozdritRecv *self, GstEvent *event) {
     gozdrit_sequence next = {0}, highest = {0};
     if (self->end.held) {
@@ -56,7 +59,8 @@ void playing_event(GstGozdritRecv *self, GstEvent *event) {
         gozdrit_highest_sequence(&self->end, &highest);
     }
     if (next.known && highest.known && highest.sequence >= next.sequence) {
-        held_event *held = g_new(held_event, 1);
+        held_event *held = g_new(held_event, 1), *first = g_queue_peek_head(&self->held);
+        if (g_queue_get_length(&self->held) >= MOST_HELD) release(self, first->behind);
         *held = (held_event){event, highest.sequence};
         g_queue_push_tail(&self->held, held);
     } else {
@@ -89,12 +93,25 @@ static void set_times(GstGozdritRecv *self, GstBuffer *out, const gozdrit_played
     GST_BUFFER_DTS(out) = self->last_dts;
 }
 
+/* The payload type with which a packet came. A retransmission tells none: it has that of the media. */
+static guint8 type_of(const GstGozdritRecv *self, const gozdrit_played *played) {
+    const arrival *came = &self->arrivals[(guint16)played->sequence % ARRIVALS];
+    gboolean known = came->known && came->timestamp == played->header.timestamp;
+    return known ? came->type : self->session.media_payload_type;
+}
+
+/* Whether a type is not the one that caps or a property say. */
+static gboolean is_unwanted(const GstGozdritRecv *self, guint8 type) {
+    gint64 wanted = self->settings.type >= 0 ? self->settings.type : self->caps.type;
+    return wanted >= 0 && type != wanted;
+}
+
 /* Writes the header in front of the payload, and takes the buffer. */
-static GstBuffer *finish_packet(GstGozdritRecv *self, const gozdrit_played *played) {
+static GstBuffer *finish_packet(GstGozdritRecv *self, const gozdrit_played *played, guint8 type) {
     const gozdrit_packet packet = {.header = played->header, .ssrc = self->session.media_ssrc,
-                                   .sequence = (guint16)played->sequence, .payload_type = self->session.media_type};
-    gsize extension = played->header.has_extension ? 4 + 4 * (gsize)played->header.word_count : 0;
-    gsize head = 12 + 4 * (gsize)played->header.source_count + extension, written;
+                                   .sequence = (guint16)played->sequence, .payload_type = type};
+    gsize extension = played->header.has_extension ? 4 + 4 * (gsize)played->header.extension_words : 0;
+    gsize head = 12 + 4 * (gsize)played->header.csrc_count + extension, written;
     gozdrit_rtp_write(&packet, NULL, 0, &written, self->map.data + FRONT - head, head);
     GstBuffer *out = g_steal_pointer(&self->spare);
     gst_buffer_unmap(out, &self->map);
@@ -104,9 +121,16 @@ static GstBuffer *finish_packet(GstGozdritRecv *self, const gozdrit_played *play
 
 static void play_packet(GstGozdritRecv *self, const gozdrit_played *played) {
     GstClockTime before = self->last_pts;
-    GstBuffer *out = finish_packet(self, played);
+    guint8 type = type_of(self, played);
     if (played->sequence > self->expected)
         count_lost(self, self->expected, (guint)MIN(played->sequence - self->expected, G_MAXUINT16));
+    if (is_unwanted(self, type)) {
+        self->arrivals[(guint16)played->sequence % ARRIVALS].known = FALSE;
+        if (self->unwanted++ == 0) self->untold = type;
+        self->discont = TRUE;
+        return;
+    }
+    GstBuffer *out = finish_packet(self, played, type);
     set_times(self, out, played);
     if (self->lost > 0) {
         GstClockTime pts = self->last_pts;
@@ -141,7 +165,7 @@ static void release_below(GstGozdritRecv *self, guint64 sequence) {
 }
 
 void playing_all(GstGozdritRecv *self, guint64 now) {
-    gozdrit_played played;
+    gozdrit_played played = GOZDRIT_PLAYED_INIT;
     while (self->end.held) {
         self->stalled = self->ready_packets >= self->settings.window && now != G_MAXINT64;
         if (self->stalled) return;
@@ -150,7 +174,7 @@ void playing_all(GstGozdritRecv *self, guint64 now) {
         if (number != GOZDRIT_OK || played.kind == GOZDRIT_WAIT) return;
         release_below(self, played.sequence);
         if (played.kind == GOZDRIT_GAP) count_lost(self, played.sequence, 1);
-        else play_packet(self, &played);
+        else if (played.kind == GOZDRIT_PACKET) play_packet(self, &played);
         self->expected = played.sequence + 1;
         release(self, played.sequence);
     }
@@ -230,12 +254,11 @@ void playing_task(gpointer pad) {
         GstFlowReturn flow = gst_pad_push(self->src, item);
         if (flow != GST_FLOW_OK) pushed(self, flow);
     } else {
-        gboolean last = GST_EVENT_TYPE(item) == GST_EVENT_EOS;
+        GstEventType type = GST_EVENT_TYPE(item);
         gst_pad_push_event(self->src, item);
-        if (!last) return;
         g_mutex_lock(&self->lock);
-        self->ended = TRUE;
-        feedback_wake(self);
+        if (type == GST_EVENT_EOS) feedback_end(self);
+        else if (type == GST_EVENT_STREAM_START) feedback_go_on(self);
         g_mutex_unlock(&self->lock);
     }
 }

@@ -2,6 +2,7 @@
 
 #include <gst/rtp/rtp.h>
 #include <stdio.h>
+#include <string.h>
 
 /* How long an answer is waited for until a round trip is known, in milliseconds. */
 enum { USUAL_TRIP = 60 };
@@ -31,14 +32,18 @@ static gint64 rate_of(gint64 type) {
 /* Whether the session has another type or SSRC than the caps want. */
 static gboolean is_other(const GstGozdritRecv *self, const recv_caps *read) {
     return self->end.held &&
-           ((read->type >= 0 && self->settings.type < 0 && read->type != self->session.media_type) ||
+           ((read->type >= 0 && self->settings.type < 0 && read->type != self->session.media_payload_type) ||
             (read->ssrc >= 0 && self->settings.ssrc == SSRC_UNSET && read->ssrc != self->session.media_ssrc));
+}
+
+gboolean receiving_is_rtx(const GstCaps *caps) {
+    const gchar *name = gst_structure_get_string(gst_caps_get_structure(caps, 0), "encoding-name");
+    return name && g_ascii_strcasecmp(name, "RTX") == 0;
 }
 
 /* The caps of the retransmissions (RFC 4588, section 8.6): `apt` is the type of the media. */
 static gboolean read_rtx_caps(recv_caps *known, const GstCaps *caps) {
-    const gchar *name = gst_structure_get_string(gst_caps_get_structure(caps, 0), "encoding-name");
-    if (!name || g_ascii_strcasecmp(name, "RTX") != 0) return FALSE;
+    if (!receiving_is_rtx(caps)) return FALSE;
     known->rtx_type = caps_number(caps, "payload", known->rtx_type);
     known->rtx_ssrc = caps_number(caps, "ssrc", known->rtx_ssrc);
     if (known->type < 0) known->type = caps_number(caps, "apt", -1);
@@ -71,26 +76,35 @@ static gboolean is_free_ssrc(const GstGozdritRecv *self) {
     return self->settings.ssrc == SSRC_UNSET && self->caps.ssrc < 0;
 }
 
+static guint8 rtx_type_of(const GstGozdritRecv *self) {
+    gint64 type = self->settings.rtx_type >= 0 ? self->settings.rtx_type : self->caps.rtx_type;
+    return type >= 0 ? (guint8)type : RTX_TYPE;
+}
+
+/* Whether an SSRC is said to be another stream's: no media begins with it. */
+static gboolean is_taken_ssrc(const GstGozdritRecv *self, guint32 ssrc) {
+    gint64 rtx = self->settings.rtx_ssrc != SSRC_UNSET ? (gint64)self->settings.rtx_ssrc : self->caps.rtx_ssrc;
+    return ssrc == rtx || (self->settings.receiver_ssrc != SSRC_UNSET && ssrc == self->settings.receiver_ssrc);
+}
+
 /* A session of what properties and caps say, and, where they say nothing, of the packet that begins it. */
 static void configure(GstGozdritRecv *self, guint8 type, guint32 ssrc, gozdrit_receiver_config *config) {
     const recv_settings *settings = &self->settings;
     gozdrit_session *session = &config->session;
     gint64 rtx = settings->rtx_ssrc != SSRC_UNSET ? (gint64)settings->rtx_ssrc : self->caps.rtx_ssrc;
-    gint64 rtx_type = settings->rtx_type >= 0 ? settings->rtx_type : self->caps.rtx_type;
-    gozdrit_receiver_defaults(config);
+    gozdrit_receiver_defaults(config, sizeof *config);
     session->media_ssrc = ssrc;
-    session->media_type = type;
-    session->any_media_type = 1;
-    session->rtx_type = rtx_type >= 0 ? (guint8)rtx_type : RTX_TYPE;
-    config->learns = rtx < 0;
+    session->media_payload_type = type;
+    session->any_media_payload_type = 1;
+    session->rtx_payload_type = library_rtx_type(rtx_type_of(self), type);
+    config->learn_rtx_ssrc = rtx < 0;
     session->receiver_ssrc = settings->receiver_ssrc;
     if (session->receiver_ssrc == SSRC_UNSET) session->receiver_ssrc = draw_ssrc(ssrc, (guint32)rtx);
     session->rtx_ssrc = rtx < 0 ? draw_ssrc(ssrc, session->receiver_ssrc) : (guint32)rtx;
-    config->patience = settings->latency;
-    config->delay = settings->delay;
-    config->nacks = (guint8)settings->nacks;
+    config->latency = settings->latency;
+    config->reorder_delay = settings->delay;
+    config->max_nacks = (guint8)settings->nacks;
     config->window = settings->window;
-    config->silence = 0; /* two in sequence after a jump ahead are enough */
 }
 
 /* Begins a session with a packet. FALSE where it is none of a session that could be. */
@@ -101,11 +115,13 @@ static gboolean begin(GstGozdritRecv *self, const guint8 *octets, gsize length) 
     if (length < 12 || octets[0] >> 6 != 2) return FALSE;
     if (type >= 0 ? type != PACKET_TYPE(octets) : PACKET_TYPE(octets) >= 64 && PACKET_TYPE(octets) < 96) return FALSE;
     configure(self, PACKET_TYPE(octets), ssrc >= 0 ? (guint32)ssrc : PACKET_SSRC(octets), &config);
-    if (ssrc >= 0 && ssrc != PACKET_SSRC(octets)) return FALSE;
-    if (type < 0 && config.session.rtx_type == config.session.media_type) return FALSE; /* a repair came first */
+    if (ssrc >= 0 ? ssrc != PACKET_SSRC(octets) : is_taken_ssrc(self, PACKET_SSRC(octets))) return FALSE;
+    /* a repair came first */
+    if (type < 0 && config.session.rtx_payload_type == config.session.media_payload_type) return FALSE;
     self->refused = gozdrit_receiver_new(&config, &self->end);
     if (self->refused != GOZDRIT_OK) return FALSE;
     self->session = config.session;
+    self->rtx_type = rtx_type_of(self);
     self->sessions++;
     if (self->caps.first >= 0) gozdrit_begin(&self->end, (guint16)self->caps.first);
     self->caps.first = -1; /* is the first stream's alone */
@@ -115,34 +131,30 @@ static gboolean begin(GstGozdritRecv *self, const guint8 *octets, gsize length) 
     return TRUE;
 }
 
-/* Both structs are counts alone. */
-static void add_counts(void *sum, const void *more, gsize size) {
-    for (gsize i = 0; i < size / sizeof(guint64); i++) ((guint64 *)sum)[i] += ((const guint64 *)more)[i];
-}
-
 /* What was counted so far: by the sessions before, and by this one. */
-static void count_all(const GstGozdritRecv *self, gozdrit_receive_counts *counts, gozdrit_receive_kinds *kinds) {
-    gozdrit_receive_counts more;
-    gozdrit_receive_kinds more_kinds;
+static void count_all(const GstGozdritRecv *self, gozdrit_receive_counts *counts, gozdrit_probe_counts *probes) {
+    gozdrit_receive_counts more = GOZDRIT_RECEIVE_COUNTS_INIT;
+    gozdrit_probe_counts more_probes = GOZDRIT_PROBE_COUNTS_INIT;
     *counts = self->past;
-    *kinds = self->past_kinds;
+    *probes = self->past_probes;
     if (gozdrit_receiver_counts(&self->end, &more) == GOZDRIT_OK) add_counts(counts, &more, sizeof more);
-    if (gozdrit_receiver_kinds(&self->end, &more_kinds) == GOZDRIT_OK) add_counts(kinds, &more_kinds, sizeof more_kinds);
+    if (gozdrit_receiver_probe_counts(&self->end, &more_probes) == GOZDRIT_OK)
+        add_counts(probes, &more_probes, sizeof more_probes);
 }
 
 void receiving_end(GstGozdritRecv *self) {
     gst_clear_buffer(&self->other.buffer);
     if (!self->end.held) return;
-    playing_all(self, G_MAXINT64); /* at this moment no patience has not passed */
+    playing_all(self, G_MAXINT64); /* at this time no latency has not passed */
     playing_release(self);
-    count_all(self, &self->past, &self->past_kinds);
+    count_all(self, &self->past, &self->past_probes);
     gozdrit_receiver_free(&self->end);
     rtp_times_begin(&self->times, self->times.clock_rate);
 }
 
 void receiving_flush(GstGozdritRecv *self) {
     gst_clear_buffer(&self->other.buffer);
-    if (self->end.held) gozdrit_restart(&self->end);
+    if (self->end.held) gozdrit_reset(&self->end);
     rtp_times_begin(&self->times, self->times.clock_rate);
     playing_clear(self);
     playing_begin_stream(self);
@@ -154,10 +166,12 @@ void receiving_flush(GstGozdritRecv *self) {
 static GstClockTime time_of(GstGozdritRecv *self, GstBuffer *buffer) {
     if (GST_BUFFER_PTS_IS_VALID(buffer)) return GST_BUFFER_PTS(buffer);
     if (GST_BUFFER_DTS_IS_VALID(buffer)) return GST_BUFFER_DTS(buffer);
-    GstClockTime base = gst_element_get_base_time(GST_ELEMENT(self));
-    GstClock *clock = GST_STATE(self) == GST_STATE_PLAYING ? GST_ELEMENT_CLOCK(self) : NULL;
-    if (!clock || self->segment.format != GST_FORMAT_TIME) return GST_CLOCK_TIME_NONE;
-    return gst_segment_position_from_running_time(&self->segment, GST_FORMAT_TIME, gst_clock_get_time(clock) - base);
+    GST_OBJECT_LOCK(self);
+    gboolean is_playing = GST_STATE(self) == GST_STATE_PLAYING;
+    GST_OBJECT_UNLOCK(self);
+    GstClockTime now = is_playing ? gst_element_get_current_running_time(GST_ELEMENT(self)) : GST_CLOCK_TIME_NONE;
+    if (!GST_CLOCK_TIME_IS_VALID(now) || self->segment.format != GST_FORMAT_TIME) return GST_CLOCK_TIME_NONE;
+    return gst_segment_position_from_running_time(&self->segment, GST_FORMAT_TIME, now);
 }
 
 /* Notes the times of a media packet that was taken, or held back. */
@@ -166,6 +180,7 @@ static void note_arrival(GstGozdritRecv *self, GstBuffer *buffer, const guint8 *
     noted->pts = time_of(self, buffer);
     noted->dts = GST_BUFFER_DTS(buffer);
     noted->timestamp = PACKET_TIMESTAMP(octets);
+    noted->type = PACKET_TYPE(octets);
     noted->known = TRUE;
     if (believed) rtp_times_arrived(&self->times, noted->timestamp, noted->pts);
 }
@@ -183,8 +198,9 @@ static void take(GstGozdritRecv *self, GstBuffer *buffer, const guint8 *octets, 
 /* Whether it is a media packet of another SSRC. While that of the retransmissions is learnt, such a one is refused for its
  * type. */
 static gboolean is_other_stream(const GstGozdritRecv *self, const guint8 *octets, guint8 refusal) {
-    return (refusal == GOZDRIT_UNKNOWN_SOURCE || refusal == GOZDRIT_UNKNOWN_TYPE) && is_free_ssrc(self) &&
-           PACKET_TYPE(octets) == self->session.media_type && PACKET_SSRC(octets) != self->session.media_ssrc;
+    return (refusal == GOZDRIT_UNKNOWN_SSRC || refusal == GOZDRIT_UNKNOWN_PAYLOAD_TYPE) && is_free_ssrc(self) &&
+           PACKET_TYPE(octets) == self->session.media_payload_type && PACKET_SSRC(octets) != self->session.media_ssrc &&
+           !is_taken_ssrc(self, PACKET_SSRC(octets));
 }
 
 /* A media packet of another SSRC. Two in sequence of one SSRC are a stream that takes the place of this one, where nobody
@@ -208,17 +224,39 @@ static void take_other(GstGozdritRecv *self, GstBuffer *buffer, const guint8 *oc
     if (self->end.held) take(self, buffer, octets, length, now);
 }
 
+/* The type by which the library is to know a packet: it takes one of the media and one of the retransmissions. A packet of the media's SSRC
+ * has its place in the sequence whatever its type is, as comfort noise has. Where retransmissions come with another type than the library
+ * knows them by, each of the two stands for the other one. */
+static guint8 library_type(const GstGozdritRecv *self, const guint8 *octets) {
+    guint8 type = PACKET_TYPE(octets), known = self->session.rtx_payload_type;
+    if (type == self->rtx_type) return known;
+    if (PACKET_SSRC(octets) == self->session.media_ssrc && (type < 64 || type >= 96)) return self->session.media_payload_type;
+    return type == known ? self->rtx_type : type;
+}
+
+/* Hands a packet to the library. */
+static gint32 receive(GstGozdritRecv *self, const guint8 *octets, gsize length, guint64 now, gozdrit_received *received) {
+    guint8 type = length < 12 ? 0 : library_type(self, octets);
+    if (length < 12 || type == PACKET_TYPE(octets)) return gozdrit_receive(&self->end, octets, length, now, received);
+    guint8 *copy = g_malloc(length);
+    memcpy(copy, octets, length);
+    copy[1] = (guint8)((octets[1] & 128) | type);
+    gint32 number = gozdrit_receive(&self->end, copy, length, now, received);
+    g_free(copy);
+    return number;
+}
+
 static void take(GstGozdritRecv *self, GstBuffer *buffer, const guint8 *octets, gsize length, guint64 now) {
-    gozdrit_heard heard;
-    if (gozdrit_receive(&self->end, octets, length, now, &heard) != GOZDRIT_OK) return;
-    switch (heard.kind) {
+    gozdrit_received received = GOZDRIT_RECEIVED_INIT;
+    if (receive(self, octets, length, now, &received) != GOZDRIT_OK) return;
+    switch (received.kind) {
     case GOZDRIT_MEDIA: note_arrival(self, buffer, octets, TRUE); break;
     case GOZDRIT_HELD_BACK: note_arrival(self, buffer, octets, FALSE); break;
     case GOZDRIT_RESTARTED: restarted(self, buffer, octets); break;
-    case GOZDRIT_NOT_TAKEN:
-        GST_LOG_OBJECT(self, "not taken: %s", gozdrit_refusal_name(heard.refusal));
-        if (heard.refusal == GOZDRIT_TOO_LONG) self->refused = GOZDRIT_TOO_LONG;
-        if (is_other_stream(self, octets, heard.refusal)) take_other(self, buffer, octets, length, now);
+    case GOZDRIT_REFUSED:
+        GST_LOG_OBJECT(self, "not taken: %s", gozdrit_refusal_name(received.refusal));
+        if (received.refusal == GOZDRIT_TOO_LONG) self->refused = GOZDRIT_TOO_LONG;
+        if (is_other_stream(self, octets, received.refusal)) take_other(self, buffer, octets, length, now);
         break;
     default: break;
     }
@@ -243,13 +281,13 @@ static guint64 retry_of(const GstGozdritRecv *self) {
 
 /* The times in force, and the round trip. */
 static gozdrit_times times_of(const GstGozdritRecv *self) {
-    gozdrit_times times = {0};
+    gozdrit_times times = GOZDRIT_TIMES_INIT;
     if (self->end.held) gozdrit_receiver_times(&self->end, &times);
     return times;
 }
 
 guint64 receiving_step(const GstGozdritRecv *self) {
-    return MAX(MIN(self->settings.delay, times_of(self).retry), 1);
+    return MAX(MIN(self->settings.delay, times_of(self).nack_interval), 1);
 }
 
 /* The times follow what the library measures of the path, and a packet is given up by when it was sent, where no property says how
@@ -258,7 +296,7 @@ void receiving_set_times(GstGozdritRecv *self) {
     gboolean wanted = self->caps.nack != 0;
     if (!self->end.held) return;
     gozdrit_set_times(&self->end, self->settings.latency, wanted ? self->settings.delay : NEVER, retry_of(self));
-    gozdrit_follow(&self->end, wanted && self->settings.retry < 0 ? GOZDRIT_FOLLOWS_SENT : GOZDRIT_FOLLOWS_NOTHING);
+    gozdrit_set_adaptive(&self->end, wanted && self->settings.retry < 0 ? GOZDRIT_ADAPTIVE_SEND_TIME : GOZDRIT_ADAPTIVE_OFF);
 }
 
 /* ---- counts */
@@ -266,19 +304,19 @@ void receiving_set_times(GstGozdritRecv *self) {
 GstStructure *receiving_counts(GstGozdritRecv *self) {
     GstStructure *told = gst_structure_new_empty("application/x-gozdrit-receive-counts");
     gozdrit_receive_counts counts;
-    gozdrit_receive_kinds kinds;
-    count_all(self, &counts, &kinds);
+    gozdrit_probe_counts probes;
+    count_all(self, &counts, &probes);
     ADD_COUNT(told, "media", counts.media);
     ADD_COUNT(told, "retransmissions", counts.retransmissions);
     ADD_COUNT(told, "held-back", counts.held_back);
     ADD_COUNT(told, "restarts", counts.restarts);
     ADD_COUNT(told, "rtcp", counts.rtcp);
-    ADD_COUNT(told, "padding", kinds.padding);
-    ADD_COUNT(told, "unasked", kinds.unasked);
-    ADD_COUNT(told, "duplicate", kinds.duplicate);
-    ADD_COUNT(told, "late", kinds.late);
-    ADD_COUNT(told, "far", counts.far);
-    ADD_COUNT(told, "refused", kinds.refused);
+    ADD_COUNT(told, "padding", probes.padding);
+    ADD_COUNT(told, "unasked", probes.unrequested);
+    ADD_COUNT(told, "duplicate", probes.duplicate);
+    ADD_COUNT(told, "late", probes.late);
+    ADD_COUNT(told, "far", counts.too_far);
+    ADD_COUNT(told, "refused", probes.refused);
     ADD_COUNT(told, "overrun", counts.overrun);
     ADD_COUNT(told, "abandoned", counts.abandoned);
     ADD_COUNT(told, "played", counts.played);
@@ -286,6 +324,7 @@ GstStructure *receiving_counts(GstGozdritRecv *self) {
     ADD_COUNT(told, "nacks", counts.nacks);
     ADD_COUNT(told, "nacked", counts.nacked);
     ADD_COUNT(told, "strays", self->strays);
+    ADD_COUNT(told, "other-types", self->unwanted);
     ADD_COUNT(told, "sessions", self->sessions);
     ADD_COUNT(told, "rtx-round-trip", times_of(self).round_trip * MILLISECOND);
     return told;

@@ -57,7 +57,8 @@ static GstFlowReturn tell_refusal(GstGozdritRecv *self, gint32 number, gsize len
         if (!self->warned)
             GST_ELEMENT_WARNING(self, STREAM, FORMAT, ("A packet is too long to be taken, and is dropped, as others may be."),
                                 ("it has %" G_GSIZE_FORMAT " octets, and this build of the library takes %d of a payload and %d "
-                                 "words of a header extension", length, GOZDRIT_MAX_PAYLOAD, GOZDRIT_MAX_WORDS));
+                                 "words of a header extension",
+                                 length, GOZDRIT_MAX_PAYLOAD, GOZDRIT_MAX_EXTENSION_WORDS));
         self->warned = TRUE;
         return GST_FLOW_OK;
     }
@@ -69,6 +70,7 @@ static GstFlowReturn tell_refusal(GstGozdritRecv *self, gint32 number, gsize len
 static GstFlowReturn chain(GstPad *pad, GstObject *parent, GstBuffer *buffer) {
     GstGozdritRecv *self = GST_GOZDRIT_RECV(parent);
     gint32 refused = GOZDRIT_OK;
+    gint other = -1;
     gsize length = 0;
     GstMapInfo map;
     (void)pad;
@@ -80,22 +82,29 @@ static GstFlowReturn chain(GstPad *pad, GstObject *parent, GstBuffer *buffer) {
         gst_buffer_unmap(buffer, &map);
         feedback_schedule(self);
         refused = self->refused;
+        other = self->untold;
         self->refused = GOZDRIT_OK;
+        self->untold = -1;
     }
     g_mutex_unlock(&self->lock);
     gst_buffer_unref(buffer);
+    if (other >= 0)
+        GST_ELEMENT_WARNING(self, STREAM, WRONG_TYPE, ("A packet of another payload type is dropped, as others may be."),
+                            ("its type is %d, and that of the caps or of payload-type is not", other));
     return refused == GOZDRIT_OK ? flow : tell_refusal(self, refused, length);
 }
 
 /* ---- tasks */
 
+/* A task begins with its pad, and again behind a flush. A flush that ends while the pads are made inactive starts none: who waits
+ * for the pad's task to end would wait for ever. */
 static void start_src(GstGozdritRecv *self) {
     g_mutex_lock(&self->lock);
-    self->src_active = TRUE;
-    self->flow = GST_FLOW_OK;
+    gboolean open = self->src_active = self->src_open;
+    if (open) self->flow = GST_FLOW_OK;
     self->ending = self->ended = FALSE;
     g_mutex_unlock(&self->lock);
-    gst_pad_start_task(self->src, playing_task, self->src, NULL);
+    if (open) gst_pad_start_task(self->src, playing_task, self->src, NULL);
 }
 
 static void halt_src(GstGozdritRecv *self) {
@@ -108,10 +117,10 @@ static void halt_src(GstGozdritRecv *self) {
 
 static void start_feedback(GstGozdritRecv *self) {
     g_mutex_lock(&self->lock);
-    self->timer_active = TRUE;
-    self->feedback_begun = FALSE;
+    gboolean open = self->timer_active = self->feedback_open;
+    self->feedback_stage = FEEDBACK_TO_BEGIN;
     g_mutex_unlock(&self->lock);
-    gst_pad_start_task(self->feedback, feedback_task, self->feedback, NULL);
+    if (open) gst_pad_start_task(self->feedback, feedback_task, self->feedback, NULL);
 }
 
 static void halt_feedback(GstGozdritRecv *self) {
@@ -124,6 +133,9 @@ static void halt_feedback(GstGozdritRecv *self) {
 static gboolean activate_src(GstPad *pad, GstObject *parent, GstPadMode mode, gboolean active) {
     GstGozdritRecv *self = GST_GOZDRIT_RECV(parent);
     if (mode != GST_PAD_MODE_PUSH) return FALSE;
+    g_mutex_lock(&self->lock);
+    *(pad == self->src ? &self->src_open : &self->feedback_open) = active;
+    g_mutex_unlock(&self->lock);
     if (active) (pad == self->src ? start_src : start_feedback)(self);
     else (pad == self->src ? halt_src : halt_feedback)(self);
     return active || gst_pad_stop_task(pad);
@@ -166,6 +178,8 @@ static gboolean take_serialized(GstGozdritRecv *self, GstEvent *event) {
         gst_event_copy_segment(event, &self->segment);
     } else if (taken && GST_EVENT_TYPE(event) == GST_EVENT_EOS) {
         self->ending = TRUE;
+    } else if (taken && GST_EVENT_TYPE(event) == GST_EVENT_STREAM_START) {
+        self->ending = FALSE;
     }
     if (taken && goes_on) playing_event(self, event);
     g_mutex_unlock(&self->lock);
@@ -183,9 +197,36 @@ static gboolean sink_event(GstPad *pad, GstObject *parent, GstEvent *event) {
     return TRUE;
 }
 
-/* A serialized query is not answered, since what is before it is waited for. */
+/* Adds caps of the retransmissions to those that downstream takes. */
+static void add_rtx_caps(GstQuery *query) {
+    GstCaps *filter, *taken, *rtx = gst_caps_new_simple("application/x-rtp", "encoding-name", G_TYPE_STRING, "RTX", NULL);
+    gst_query_parse_caps(query, &filter);
+    gst_query_parse_caps_result(query, &taken);
+    if (filter) {
+        GstCaps *both = gst_caps_intersect_full(filter, rtx, GST_CAPS_INTERSECT_FIRST);
+        gst_caps_unref(rtx);
+        rtx = both;
+    }
+    taken = gst_caps_merge(gst_caps_copy(taken), rtx);
+    gst_query_set_caps_result(query, taken);
+    gst_caps_unref(taken);
+}
+
+/* A serialized query is not answered, since what is before it is waited for. What caps may come is asked of downstream, but caps of the
+ * retransmissions end here. */
 static gboolean sink_query(GstPad *pad, GstObject *parent, GstQuery *query) {
-    return !GST_QUERY_IS_SERIALIZED(query) && gst_pad_query_default(pad, parent, query);
+    GstCaps *caps;
+    if (GST_QUERY_IS_SERIALIZED(query)) return FALSE;
+    if (GST_QUERY_TYPE(query) == GST_QUERY_ACCEPT_CAPS) {
+        gst_query_parse_accept_caps(query, &caps);
+        if (receiving_is_rtx(caps)) {
+            gst_query_set_accept_caps_result(query, TRUE);
+            return TRUE;
+        }
+    }
+    gboolean answered = gst_pad_query_default(pad, parent, query);
+    if (answered && GST_QUERY_TYPE(query) == GST_QUERY_CAPS) add_rtx_caps(query);
+    return answered;
 }
 
 static gboolean src_query(GstPad *pad, GstObject *parent, GstQuery *query) {
@@ -226,12 +267,13 @@ static void begin(GstGozdritRecv *self) {
     g_mutex_lock(&self->lock);
     element_time_begin(&self->time, GST_ELEMENT(self));
     self->caps = (recv_caps){-1, -1, -1, -1, -1, -1, -1};
-    self->past = (gozdrit_receive_counts){0};
-    self->past_kinds = (gozdrit_receive_kinds){0};
-    self->sessions = self->strays = 0;
+    self->past = (gozdrit_receive_counts)GOZDRIT_RECEIVE_COUNTS_INIT;
+    self->past_probes = (gozdrit_probe_counts)GOZDRIT_PROBE_COUNTS_INIT;
+    self->sessions = self->strays = self->unwanted = 0;
+    self->untold = -1;
     self->refused = GOZDRIT_OK;
     self->warned = FALSE;
-    self->timer_moment = 0;
+    self->timer_until = 0;
     gst_segment_init(&self->segment, GST_FORMAT_UNDEFINED);
     rtp_times_begin(&self->times, 0);
     playing_begin_stream(self);
@@ -247,10 +289,22 @@ static void end(GstGozdritRecv *self) {
     g_mutex_unlock(&self->lock);
 }
 
+/* The pad of an element that a pad leads to, also where there are walls of bins between them; or NULL. */
+static GstPad *pad_behind(GstPad *pad) {
+    GstPad *peer = gst_pad_get_peer(pad);
+    while (peer && GST_IS_PROXY_PAD(peer)) {
+        GstPad *inside = GST_PAD(gst_proxy_pad_get_internal(GST_PROXY_PAD(peer)));
+        gst_object_unref(peer);
+        peer = inside ? gst_pad_get_peer(inside) : NULL;
+        gst_clear_object(&inside);
+    }
+    return peer;
+}
+
 /* A sink that is not yet PAUSED when a live pipeline goes on to PLAYING stays behind until all sinks are PAUSED, that of the media
  * too, and takes no NACK: then what is lost of the first frame could not be asked for. Its gap event is under way. */
 static void wait_for_feedback_sink(GstGozdritRecv *self) {
-    GstPad *peer = gst_pad_get_peer(self->feedback);
+    GstPad *peer = pad_behind(self->feedback);
     GstElement *next = peer ? gst_pad_get_parent_element(peer) : NULL;
     if (next) gst_element_get_state(next, NULL, NULL, 100 * GST_MSECOND);
     gst_clear_object(&next);

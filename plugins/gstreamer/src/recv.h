@@ -2,7 +2,7 @@
  * the session, playing.c makes of what the session plays what goes out, and feedback.c has the timer.
  *
  * Three threads run in it. The one that packets come by takes them, and never waits. The source pad's task pushes what
- * was played, and waits for what is behind it. The feedback pad's task waits for the session's next moment, and asks. */
+ * was played, and waits for what is behind it. The feedback pad's task waits for the session's next timeout, and asks. */
 #ifndef GOZDRIT_GST_RECV_H
 #define GOZDRIT_GST_RECV_H
 
@@ -34,10 +34,11 @@ typedef struct recv_caps {
     gint64 nack; /* 0: NACKs are not wanted */
 } recv_caps;
 
-/* The times with which a media packet came. A packet with another timestamp is not the one. */
+/* The times and the payload type with which a media packet came. A packet with another timestamp is not the one. */
 typedef struct arrival {
     GstClockTime pts, dts;
     guint32 timestamp;
+    guint8 type;
     gboolean known;
 } arrival;
 
@@ -57,6 +58,9 @@ typedef struct candidate {
     guint16 next;
 } candidate;
 
+/* The stream of feedback ends with that of the media, and begins anew with the next one. */
+typedef enum feedback_stage { FEEDBACK_TO_BEGIN, FEEDBACK_GOES, FEEDBACK_HAS_ENDED } feedback_stage;
+
 struct _GstGozdritRecv {
     GstElement parent;
     GstPad *sink;
@@ -71,10 +75,13 @@ struct _GstGozdritRecv {
 
     gozdrit_receiver end; /* holds one from the first packet on */
     gozdrit_session session;
+    guint8 rtx_type;             /* that its retransmissions come with */
     gozdrit_receive_counts past; /* the counts of the sessions before */
-    gozdrit_receive_kinds past_kinds;
+    gozdrit_probe_counts past_probes;
     guint64 sessions;
     guint64 strays;  /* packets that came before there was a session, and began none */
+    guint64 unwanted; /* packets of the stream with a payload type that is not the one that is wanted: they went nowhere */
+    gint untold;      /* the type of the first of these, where it is to be told without the lock; or -1 */
     gint32 refused;  /* an answer of the library that is to be told without the lock, or 0 */
     gboolean warned; /* a packet that was too long was told */
     candidate other;
@@ -94,21 +101,24 @@ struct _GstGozdritRecv {
     GstQueueArray *ready; /* buffers and events, in the order in which they go out */
     guint ready_packets;  /* how many of them are buffers: events have no part in the window */
     GCond ready_cond;     /* for the source pad's task */
-    gboolean src_waits, src_active, stalled; /* stalled: what could be played was not, since too much is ready */
+    gboolean src_open, src_active; /* the pad is active; and the stream is not flushed */
+    gboolean src_waits, stalled;   /* stalled: what could be played was not, since too much is ready */
     GstFlowReturn flow;   /* how the last push went */
     gboolean ending;      /* the end of the stream came */
     gboolean ended;       /* and went out */
 
     GCond timer_cond; /* for the feedback pad's task */
     GstClockID timer_id;
-    guint64 timer_moment; /* what it waits for: 0 where it does not, and G_MAXUINT64 where only for a call */
-    gboolean timer_active;
-    gboolean feedback_begun;
+    guint64 timer_until; /* what it waits for: 0 where it does not, and G_MAXUINT64 where only for a call */
+    gboolean feedback_open, timer_active; /* as the source pad's two */
+    feedback_stage feedback_stage;
 };
 
 /* ---- receiving.c. The lock is held in all of these. */
 
 guint64 receiving_now(GstGozdritRecv *self);
+/* Whether caps are those of the retransmissions. */
+gboolean receiving_is_rtx(const GstCaps *caps);
 /* FALSE where the caps are those of the retransmissions, and not what goes out. */
 gboolean receiving_caps(GstGozdritRecv *self, const GstCaps *caps);
 void receiving_packet(GstGozdritRecv *self, GstBuffer *buffer, const guint8 *octets, gsize length);
@@ -135,6 +145,9 @@ void playing_task(gpointer pad);
 /* Wakes the timer, where the session wants to be called earlier than it waits for. The lock is held. */
 void feedback_schedule(GstGozdritRecv *self);
 void feedback_wake(GstGozdritRecv *self);
+/* The end of the media went out, or what begins a stream behind it. The lock is held. */
+void feedback_end(GstGozdritRecv *self);
+void feedback_go_on(GstGozdritRecv *self);
 void feedback_task(gpointer pad);
 
 #endif

@@ -9,13 +9,14 @@
  * and retransmissions leave by the source pad.
  *
  * A packet keeps its timestamp, marker, CSRC list, header extension, padding and payload. Its SSRC is
- * #GstGozdritSend:ssrc, or what it came with; its sequence numbers follow one another from the first packet's on.
+ * #GstGozdritSend:ssrc, or what it came with; its sequence numbers follow one another from the first packet's on. One that is
+ * longer than the library takes goes out as well, and is not kept, nor are those before it any more; the first is told by a warning.
  *
  * Where no packet comes for #GstGozdritSend:silence-delay, the last one is repeated once: else the far side would not notice
  * what it lacks of the end of a talk spurt, until the next one.
  *
- * `feedback_sink` takes the RTCP of the far side, whatever it is: what is no NACK of this session is passed over. At the
- * end of the stream the last packet is repeated, and feedback is answered for #GstGozdritSend:eos-delay more.
+ * `feedback_sink` takes the RTCP of the far side, whatever it is: what is no NACK of this session is passed over. Where an rtpsession
+ * stands behind the source pad, its events `GstRTPRetransmissionRequest` are answered as well. At the end of the stream the last packet is repeated, and feedback is answered for #GstGozdritSend:eos-delay more.
  *
  * ## Example pipeline
  * |[
@@ -72,16 +73,20 @@ static GstFlowReturn chain_list(GstPad *pad, GstObject *parent, GstBufferList *l
         if (out) gst_buffer_list_add(out_list, out);
     }
     gst_buffer_list_unref(list);
-    if (flow == GST_FLOW_OK && gst_buffer_list_length(out_list) > 0) return gst_pad_push_list(self->src, out_list);
-    gst_buffer_list_unref(out_list);
-    return flow;
+    if (gst_buffer_list_length(out_list) == 0) {
+        gst_buffer_list_unref(out_list);
+        return flow;
+    }
+    GstFlowReturn pushed = gst_pad_push_list(self->src, out_list);
+    return flow == GST_FLOW_OK ? pushed : flow;
 }
 
 /* ---- events */
 
+/* The end of a flush changes nothing where the element stops. */
 static void set_flushing(GstGozdritSend *self, gboolean flushing) {
     g_mutex_lock(&self->lock);
-    self->flushing = flushing;
+    self->flushing = flushing || self->stopped;
     if (flushing && self->waiting) gst_clock_id_unschedule(self->waiting);
     if (flushing) silence_end(self);
     g_mutex_unlock(&self->lock);
@@ -121,6 +126,36 @@ static GstFlowReturn feedback_chain(GstPad *pad, GstObject *parent, GstBuffer *b
     return GST_FLOW_OK;
 }
 
+/* The SSRC of the retransmissions is another participant's too (RFC 3550, section 8.2): there is a new one, which the caps tell. */
+static gboolean avoid_collision(GstGozdritSend *self, guint32 ssrc) {
+    guint32 drawn;
+    if (!sending_collision(self, ssrc, &drawn)) return FALSE;
+    GstCaps *caps = gst_pad_get_current_caps(self->src);
+    if (!caps) return TRUE;
+    caps = gst_caps_make_writable(caps);
+    gst_caps_set_simple(caps, "rtx-ssrc", G_TYPE_UINT, drawn, NULL);
+    gst_pad_push_event(self->src, gst_event_new_caps(caps));
+    gst_caps_unref(caps);
+    return TRUE;
+}
+
+/* An rtpsession behind the element reads the NACKs itself, and tells by an event which packet one names, or that an SSRC collides. */
+static gboolean src_event(GstPad *pad, GstObject *parent, GstEvent *event) {
+    GstGozdritSend *self = GST_GOZDRIT_SEND(parent);
+    const GstStructure *told = gst_event_get_structure(event);
+    gboolean is_answered = FALSE;
+    guint ssrc, number;
+    if (told && gst_structure_get_uint(told, "ssrc", &ssrc)) {
+        if (gst_structure_has_name(told, "GstRTPRetransmissionRequest") && gst_structure_get_uint(told, "seqnum", &number))
+            is_answered = sending_request(self, ssrc, (guint16)number);
+        else if (gst_structure_has_name(told, "GstRTPCollision"))
+            is_answered = avoid_collision(self, ssrc);
+    }
+    if (!is_answered) return gst_pad_event_default(pad, parent, event);
+    gst_event_unref(event);
+    return TRUE;
+}
+
 /* The feedback's stream ends here. */
 static gboolean feedback_event(GstPad *pad, GstObject *parent, GstEvent *event) {
     (void)pad;
@@ -146,12 +181,21 @@ static GstIterator *linked_inside(GstPad *pad, GstObject *parent) {
 static void begin(GstGozdritSend *self) {
     g_mutex_lock(&self->lock);
     element_time_begin(&self->time, GST_ELEMENT(self));
-    self->flushing = FALSE;
+    self->flushing = self->stopped = FALSE;
+    self->passed = self->strays = 0;
     self->next = self->caps_ssrc = self->caps_first = -1;
-    self->past = (gozdrit_send_counts){0};
+    self->past = (gozdrit_send_counts)GOZDRIT_SEND_COUNTS_INIT;
     self->rtx_ssrc = self->settings.rtx_ssrc;
     if (self->rtx_ssrc == SSRC_UNSET) self->rtx_ssrc = draw_ssrc(self->settings.ssrc, self->settings.receiver_ssrc);
     g_mutex_unlock(&self->lock);
+}
+
+/* Nothing is waited for any more. */
+static void stop(GstGozdritSend *self) {
+    g_mutex_lock(&self->lock);
+    self->stopped = TRUE;
+    g_mutex_unlock(&self->lock);
+    set_flushing(self, TRUE);
 }
 
 /* The counts can still be read. */
@@ -175,7 +219,7 @@ static gboolean set_clock(GstElement *element, GstClock *clock) {
 static GstStateChangeReturn change_state(GstElement *element, GstStateChange change) {
     GstGozdritSend *self = GST_GOZDRIT_SEND(element);
     if (change == GST_STATE_CHANGE_READY_TO_PAUSED) begin(self);
-    if (change == GST_STATE_CHANGE_PAUSED_TO_READY) set_flushing(self, TRUE);
+    if (change == GST_STATE_CHANGE_PAUSED_TO_READY) stop(self);
     GstStateChangeReturn done = GST_ELEMENT_CLASS(gst_gozdrit_send_parent_class)->change_state(element, change);
     if (change == GST_STATE_CHANGE_PAUSED_TO_READY) end(self);
     return done;
@@ -252,7 +296,7 @@ static void install_properties(GObjectClass *class) {
     install_uint(class, PROP_RECEIVER_SSRC, "receiver-ssrc",
                  "The SSRC whose NACKs are heard (default == any)", 0, G_MAXUINT32, SSRC_UNSET);
     install_uint(class, PROP_RTX_TYPE, "rtx-payload-type",
-                 "The payload type of the retransmissions", 96, 127, RTX_TYPE);
+                 "The payload type of the retransmissions, not 64 to 95", 0, 127, RTX_TYPE);
     g_object_class_install_property(
         class, PROP_FIRST, g_param_spec_int("seqnum-offset", NULL, "The first packet's sequence number (-1 == that of the "
                                             "caps or of the packet)", -1, G_MAXUINT16, -1, PROPERTY_FLAGS));
@@ -312,6 +356,7 @@ static void gst_gozdrit_send_init(GstGozdritSend *self) {
     gst_pad_set_chain_function(self->sink, chain);
     gst_pad_set_chain_list_function(self->sink, chain_list);
     gst_pad_set_event_function(self->sink, sink_event);
+    gst_pad_set_event_function(self->src, src_event);
     gst_pad_set_activatemode_function(self->src, silence_activate);
     GST_PAD_SET_PROXY_CAPS(self->sink);
     GST_PAD_SET_PROXY_CAPS(self->src);

@@ -32,15 +32,19 @@ struct _GstGozdritSend {
     send_settings settings;
     gozdrit_sender end; /* holds one from the first packet on */
     gozdrit_session session;
+    guint8 rtx_type; /* that the session's retransmissions go out with */
     gboolean has_rule; /* the session was begun with one of the last two settings */
     gozdrit_send_counts past; /* the counts of the sessions before */
     guint32 source_ssrc; /* the SSRC that the packets come with */
-    guint32 rtx_ssrc;    /* of the retransmissions, from the caps on */
+    guint32 rtx_ssrc;    /* of the retransmissions, from the caps or a collision on; the session may know them by another one */
     gint64 next;         /* the number of the next packet, where a session follows another; else -1 */
     gint64 caps_ssrc;    /* what the caps say, or -1 */
     gint64 caps_first;
     GstClockID waiting; /* for the tail to be repaired */
     gboolean flushing;  /* nothing is waited for */
+    gboolean stopped;   /* the same, also behind a flush */
+    guint64 passed;     /* packets that were too long to be kept, and went out */
+    guint64 strays;     /* buffers that were no RTP packets */
 
     element_time time;
     GstClockTime last; /* when the last packet came */
@@ -58,6 +62,12 @@ GstFlowReturn sending_packet(GstGozdritSend *self, GstBuffer *buffer, GstBuffer 
 
 /* Sends what a datagram of feedback asks for. */
 void sending_feedback(GstGozdritSend *self, GstBuffer *buffer);
+
+/* Sends a packet again that was asked for by its number. FALSE where it is another stream's. */
+gboolean sending_request(GstGozdritSend *self, guint32 ssrc, guint16 number);
+
+/* Draws another SSRC of the retransmissions. FALSE where they have not this one, or a property says which they have. */
+gboolean sending_collision(GstGozdritSend *self, guint32 ssrc, guint32 *drawn);
 
 /* Sends all that is to be retransmitted. */
 void sending_retransmissions(GstGozdritSend *self);

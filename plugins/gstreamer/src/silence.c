@@ -41,14 +41,14 @@ static void wait_for_silence(GstGozdritSend *self, GstClockTime delay) {
 /* Whether the last packet is to be repeated now; else it waited. The lock is held. */
 static gboolean is_due(GstGozdritSend *self) {
     GstClockTime delay = self->settings.silence_delay * MILLISECOND;
-    guint32 marked = 0;
+    guint32 queued = 0;
     if (self->silent || delay == 0 || element_time_now(&self->time) < self->last + delay) {
         wait_for_silence(self, delay);
         return FALSE;
     }
     self->silent = TRUE;
-    if (self->end.held && gst_pad_is_linked(self->feedback)) gozdrit_mark_last(&self->end, &marked);
-    return marked > 0;
+    if (self->end.held && gst_pad_is_linked(self->feedback)) gozdrit_tail_loss_probe(&self->end, &queued);
+    return queued > 0;
 }
 
 static void silence_task(gpointer pad) {

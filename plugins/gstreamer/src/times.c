@@ -3,6 +3,9 @@
 /* What lies farther apart is a stream that began anew, not a delay. */
 #define JUMP ((gint64)GST_SECOND)
 
+/* The latest time that is looked at, some 146 years: differences of times fit in 64 bits. None is later. */
+#define LATEST (G_GUINT64_CONSTANT(1) << 62)
+
 /* How long the earliest packet is looked for, before the times follow it. */
 #define SPAN (2 * GST_SECOND)
 
@@ -34,7 +37,7 @@ static void end_span(rtp_times *times, GstClockTime at) {
 }
 
 void rtp_times_arrived(rtp_times *times, guint32 timestamp, GstClockTime at) {
-    if (times->clock_rate == 0 || !GST_CLOCK_TIME_IS_VALID(at)) return;
+    if (times->clock_rate == 0 || at > LATEST) return;
     guint64 extended = extended_of(times, timestamp);
     gint64 late = (gint64)at - times->base - nanoseconds(times, extended);
     gint64 unit = (gint64)GST_SECOND / times->clock_rate;
@@ -58,6 +61,6 @@ GstClockTime rtp_times_of(const rtp_times *times, guint32 timestamp) {
 
 gboolean rtp_times_same(const rtp_times *times, GstClockTime at, GstClockTime own) {
     if (!GST_CLOCK_TIME_IS_VALID(own)) return times->clock_rate == 0;
-    gint64 apart = GST_CLOCK_DIFF(own, at);
-    return ABS(apart) <= (gint64)GST_SECOND / times->clock_rate;
+    GstClockTime apart = at > own ? at - own : own - at;
+    return apart <= GST_SECOND / (GstClockTime)times->clock_rate;
 }

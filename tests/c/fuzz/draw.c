@@ -11,10 +11,10 @@ void draw_session(gozdrit_session *session) {
     session->media_ssrc = draw_ssrc();
     session->rtx_ssrc = draw_ssrc();
     session->receiver_ssrc = draw_ssrc();
-    session->media_type = draw_type();
-    session->rtx_type = draw_type();
-    session->any_media_type = one_in(3) ? (gozdrit_bool)between(1, 255) : 0;
-    if (session->any_media_type && one_in(2)) session->media_type = (uint8_t)below(64);
+    session->media_payload_type = draw_type();
+    session->rtx_payload_type = draw_type();
+    session->any_media_payload_type = one_in(3) ? (gozdrit_bool)between(1, 255) : 0;
+    if (session->any_media_payload_type && one_in(2)) session->media_payload_type = (uint8_t)below(64);
 }
 
 static gozdrit_session sessions[SESSIONS];
@@ -25,12 +25,12 @@ void change_session(unsigned number) { draw_session(&sessions[number]); }
 
 void draw_header(gozdrit_header *header) {
     random_octets((uint8_t *)header, sizeof *header);
-    header->source_count = (uint8_t)(one_in(3) ? below(GOZDRIT_MAX_SOURCES + 1) : 0);
-    header->word_count = (uint8_t)below(GOZDRIT_MAX_WORDS + 1);
+    header->csrc_count = (uint8_t)(one_in(3) ? below(GOZDRIT_MAX_CSRCS + 1) : 0);
+    header->extension_words = (uint8_t)below(GOZDRIT_MAX_EXTENSION_WORDS + 1);
     header->has_extension = one_in(3) ? (gozdrit_bool)between(1, 255) : 0;
     header->marker = one_in(2) ? (gozdrit_bool)between(1, 255) : 0;
-    if (one_in(100)) header->source_count = (uint8_t)between(GOZDRIT_MAX_SOURCES, 255);
-    if (one_in(60)) header->word_count = (uint8_t)between(GOZDRIT_MAX_WORDS, 255);
+    if (one_in(100)) header->csrc_count = (uint8_t)between(GOZDRIT_MAX_CSRCS, 255);
+    if (one_in(60)) header->extension_words = (uint8_t)between(GOZDRIT_MAX_EXTENSION_WORDS, 255);
 }
 
 size_t draw_payload(uint8_t *out) {
@@ -102,7 +102,7 @@ static uint64_t draw_kept(uint64_t made, uint64_t many, uint64_t *fed) {
 
 /* A random RTP packet, whose extension and payload may be larger than a packet's may. */
 static size_t craft_rtp(uint8_t *out, uint8_t type, uint16_t sequence, uint32_t ssrc) {
-    size_t at, words = one_in(8) ? below(60) : below(GOZDRIT_MAX_WORDS + 1), length = draw_payload(out + 200);
+    size_t at, words = one_in(8) ? below(60) : below(GOZDRIT_MAX_EXTENSION_WORDS + 1), length = draw_payload(out + 200);
     bool has_extension = one_in(3), is_padded = one_in(5);
     out[0] = (uint8_t)(128 | (is_padded ? 32 : 0) | (has_extension ? 16 : 0) | (one_in(2) ? below(16) : 0));
     out[1] = one_in(2) ? 128 : 0;
@@ -138,7 +138,7 @@ static uint16_t draw_number(uint16_t near) {
 static size_t craft_media(uint8_t *out, const gozdrit_session *session, uint16_t near) {
     uint16_t number = draw_number(near);
     bool is_media = one_in(2);
-    uint8_t type = (is_media ? session->media_type : session->rtx_type) & 127;
+    uint8_t type = (is_media ? session->media_payload_type : session->rtx_payload_type) & 127;
     uint32_t ssrc = is_media ? session->media_ssrc : session->rtx_ssrc;
     size_t length;
     if (one_in(10)) ssrc = one_in(2) ? session->receiver_ssrc : draw_ssrc();

@@ -11,17 +11,18 @@
 
 #define CALLS(X) \
     X(version) X(max_payload) X(sender_defaults) X(sender_new) X(sender_free) X(send) X(feedback) X(retransmit) \
-    X(mark_last) X(sender_time) X(sender_counts) X(receiver_defaults) X(receiver_new) X(receiver_free) X(receive) X(play) X(nack) \
-    X(next_moment) X(begin) X(restart) X(set_times) X(follow) X(missing) X(rtx_source) X(next_sequence) X(highest_sequence) \
-    X(receiver_times) X(receiver_counts) X(receiver_kinds) X(rtp_read) X(rtp_write)
+    X(tail_loss_probe) X(sender_set_time) X(sender_counts) X(receiver_defaults) X(receiver_new) X(receiver_free) X(receive) \
+    X(play) X(nack) X(next_timeout) X(begin) X(reset) X(set_times) X(set_adaptive) X(missing) X(rtx_ssrc) X(next_sequence) \
+    X(highest_sequence) X(receiver_times) X(receiver_counts) X(receiver_probe_counts) X(rtp_read) X(rtp_write)
 #define CALL_NUMBER(name) CALL_##name,
 enum call { CALLS(CALL_NUMBER) CALL_COUNT };
 
-/* Begins a call: from here on its pointers are drawn, some of them null. */
+/* Begins a call: from here on its pointers are drawn, some of them null, and the size that its struct says. */
 void begin_call(enum call call);
-/* The same without a null pointer. */
+/* The same without a null pointer, and with the size that the struct has. */
 void begin_plain_call(enum call call);
-/* Takes the answer of the call that was begun: 76 where a pointer was null that may not be, and else what is expected. */
+/* Takes the answer of the call that was begun: 76 where a pointer was null that may not be, 77 where a size was none and what
+ * is expected is not of the handle, and else what is expected. */
 void end_call(int32_t expected, int32_t came);
 /* A pointer of the call, or null. */
 void *pointer(void *at);
@@ -29,7 +30,7 @@ void *pointer(void *at);
 void *octets_pointer(void *at, size_t length);
 
 /* What a call told where it answered 0, of which is counted how often each was told. */
-enum told { HEARD_KIND, HEARD_REFUSAL, TOLD_KIND, TOLD_REFUSAL, PLAYED_KIND, TOLD_COUNT };
+enum told { RECEIVED_KIND, RECEIVED_REFUSAL, OUTCOME_KIND, OUTCOME_REFUSAL, PLAYED_KIND, TOLD_COUNT };
 void count_told(enum told what, uint8_t number);
 
 /* Ends the program, with the seed and the number of the call, where two numbers differ, or something does not hold. */
@@ -53,6 +54,8 @@ enum area { AREA_IN, AREA_STRUCT, AREA_TOLD, AREA_OUT, AREA_NUMBER, AREA_HANDLE,
 void make_areas(void);
 /* Lends octets that the call writes to; what stands there is arbitrary. */
 void *lend_out(enum area area, size_t length);
+/* The same of octets that begin with this size. */
+void *lend_sized(enum area area, size_t length, size_t size);
 /* Lends a copy of octets that the call only reads: a write to them faults. */
 void *lend_in(enum area area, const void *from, size_t length);
 /* A handle stays where it is, and is lent to be written or to be read. */
@@ -62,6 +65,29 @@ void *lies(enum area area);
 const void *lay(enum area area);
 /* Tells that what was lent is as it was, behind so many octets at its front. */
 void check_kept(enum area area, size_t written);
+
+/* ---- structs that say their size (sizes.c) */
+
+/* What a struct says: the size that it has, less, more, or more with something behind that is not blank. */
+enum said { SAID_SIZE, SAID_LESS, SAID_MORE, SAID_UNKNOWN, SAID_COUNT };
+
+/* Begins a call, whose struct may say another size. */
+void begin_sizes(bool may);
+enum said what_was_said(void);
+/* 77 where that is no size, unless what is expected is of the handle, which is looked at before; else what is expected. */
+int32_t unless_bad_size(int32_t expected);
+/* What a struct of this size says: another one, one in so many times. */
+size_t draw_size(size_t size, uint32_t many);
+/* Lends a struct of this size that the call fills: as many octets as it says. */
+void *lend_told(size_t size);
+/* Tells that what the struct says is as it was, and so is what lies behind this size. */
+void check_told(int32_t answer, size_t size);
+/* Lends a configuration of this size, with what it says, and where that is more, octets behind it: blank or not. */
+void *lend_config(const void *config, size_t size);
+/* Lends so many octets, which a call of defaults fills. */
+void *lend_defaults(size_t size);
+/* Tells that they say so, and that those behind the ones that are known are blank. */
+void check_defaults(int32_t answer, size_t known, size_t size);
 
 /* ---- packets, by the RFCs alone (wire.c) */
 
@@ -73,7 +99,7 @@ struct packet {
     size_t at;     /* where the payload begins */
     size_t length; /* of it */
     uint8_t padding;
-    uint32_t words; /* of the extension; the header has the first GOZDRIT_MAX_WORDS */
+    uint32_t words; /* of the extension; the header has the first GOZDRIT_MAX_EXTENSION_WORDS */
     gozdrit_header header;
     uint32_t ssrc;
     uint16_t sequence;
@@ -136,6 +162,8 @@ void make_senders(void);
 void make_receivers(void);
 /* 0, or what is wrong with a session. */
 int32_t check_session(const gozdrit_session *session);
+/* Tells that a session is as defaults have it. */
+void check_no_session(const gozdrit_session *session);
 void call_sender(void);
 void call_receiver(void);
 void call_packet(void);

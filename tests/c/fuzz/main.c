@@ -4,8 +4,9 @@
  *
  *   fuzz [CALLS [SEED]]    1000000 calls, seed 1
  *
- * It prints how often each call gave each answer, and what it told with the answer 0. At the first thing that is not as it
- * has to be it tells the seed and the number of the call, and ends with status 1. The same seed makes the same calls.
+ * It prints how often each call gave each answer, what it told with the answer 0, and what was answered where a struct said
+ * another size than it has. At the first thing that is not as it has to be it tells the seed and the number of the call, and
+ * ends with status 1. The same seed makes the same calls.
  */
 #define _DEFAULT_SOURCE /* sigaction */
 #include "fuzz.h"
@@ -19,10 +20,12 @@
 #define CALL_NAME(name) #name,
 static const char *const NAMES[] = {CALLS(CALL_NAME)};
 
-enum { ANSWERS = 77 };
+enum { ANSWERS = GOZDRIT_BAD_SIZE + 1 };
 
-static uint64_t counts[CALL_COUNT][ANSWERS], told_counts[TOLD_COUNT][ANSWERS];
-static const char *const TOLD[] = {"heard->kind", "heard->refusal", "told->kind", "told->refusal", "played->kind"};
+static uint64_t counts[CALL_COUNT][ANSWERS], told_counts[TOLD_COUNT][ANSWERS], said_counts[SAID_COUNT][ANSWERS];
+static const char *const TOLD[] = {"received->kind", "received->refusal", "outcome->kind", "outcome->refusal",
+                                   "played->kind"};
+static const char *const SAID[] = {"size", "size: less", "size: more", "size: more, and not 0"};
 static uint64_t seed = 1, made;
 
 /* The call that is made now. */
@@ -59,11 +62,13 @@ void begin_call(enum call call) {
     current = call;
     has_nulls = one_in(50);
     is_null = false;
+    begin_sizes(true);
 }
 
 void begin_plain_call(enum call call) {
     begin_call(call);
     has_nulls = false;
+    begin_sizes(false);
 }
 
 void *pointer(void *at) {
@@ -78,7 +83,7 @@ void *octets_pointer(void *at, size_t length) {
 }
 
 void end_call(int32_t expected, int32_t came) {
-    if (is_null) expected = GOZDRIT_NULL;
+    expected = is_null ? GOZDRIT_NULL : unless_bad_size(expected);
     if (expected != came) {
         char text[100];
         snprintf(text, sizeof text, "the answer: expected %d, got %d", (int)expected, (int)came);
@@ -86,6 +91,7 @@ void end_call(int32_t expected, int32_t came) {
     }
     holds(*gozdrit_refusal_name(came) != 0, "the answer has a name");
     counts[current][came]++;
+    said_counts[what_was_said()][came]++;
 }
 
 void count_told(enum told what, uint8_t number) { told_counts[what][number]++; }
@@ -123,7 +129,7 @@ static uint64_t number_of(const char *text) {
 
 static void tell_row(const char *name, const uint64_t *row) {
     unsigned number;
-    printf("%-18s", name);
+    printf("%-22s", name);
     for (number = 0; number < ANSWERS; number++)
         if (row[number] > 0) printf(" %u: %" PRIu64, number, row[number]);
     printf("\n");
@@ -133,6 +139,7 @@ static void tell(void) {
     unsigned row;
     for (row = 0; row < CALL_COUNT; row++) tell_row(NAMES[row], counts[row]);
     for (row = 0; row < TOLD_COUNT; row++) tell_row(TOLD[row], told_counts[row]);
+    for (row = SAID_LESS; row < SAID_COUNT; row++) tell_row(SAID[row], said_counts[row]);
     printf("seed %" PRIu64 ", %" PRIu64 " calls\n0 failed\n", seed, made);
 }
 

@@ -114,6 +114,13 @@ void *lend_out(enum area area, size_t length) {
     return it->written + it->at;
 }
 
+void *lend_sized(enum area area, size_t length, size_t size) {
+    uint8_t *out = lend_out(area, length);
+    memcpy(out, &size, sizeof size);
+    copy_to_shadow(&areas[area]);
+    return out;
+}
+
 void *lend_in(enum area area, const void *octets, size_t length) {
     struct lent *it = &areas[area];
     put(it, length);

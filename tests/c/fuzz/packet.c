@@ -25,7 +25,7 @@ static bool rtp_read(const uint8_t *octets, size_t length, gozdrit_packet *read)
     int32_t answer, fault;
     begin_call(CALL_rtp_read);
     read_packet(octets, length, &expected);
-    fault = expected.fault == 0 && expected.words > GOZDRIT_MAX_WORDS ? GOZDRIT_TOO_LONG : expected.fault;
+    fault = expected.fault == 0 && expected.words > GOZDRIT_MAX_EXTENSION_WORDS ? GOZDRIT_TOO_LONG : expected.fault;
     lent = octets_pointer(lend_in(AREA_IN, octets, length), length);
     answer = gozdrit_rtp_read(lent, length, pointer(lend_out(AREA_TOLD, sizeof(gozdrit_packet))));
     end_call(fault, answer);
@@ -39,10 +39,10 @@ static bool rtp_read(const uint8_t *octets, size_t length, gozdrit_packet *read)
 
 static int32_t expect_write(const gozdrit_packet *packet, size_t length, size_t room) {
     const gozdrit_header *header = &packet->header;
-    if (length > GOZDRIT_MAX_PAYLOAD || header->source_count > GOZDRIT_MAX_SOURCES) return GOZDRIT_TOO_LARGE;
-    if (header->has_extension && header->word_count > GOZDRIT_MAX_WORDS) return GOZDRIT_TOO_LARGE;
+    if (length > GOZDRIT_MAX_PAYLOAD || header->csrc_count > GOZDRIT_MAX_CSRCS) return GOZDRIT_TOO_LARGE;
+    if (header->has_extension && header->extension_words > GOZDRIT_MAX_EXTENSION_WORDS) return GOZDRIT_TOO_LARGE;
     if (room < packet_length(header, length, packet->padding)) return GOZDRIT_NO_ROOM;
-    if (packet->payload_type > 127) return GOZDRIT_BAD_TYPE;
+    if (packet->payload_type > 127) return GOZDRIT_BAD_PAYLOAD_TYPE;
     return packet->padding != 0 && length == 0 ? GOZDRIT_PADDED_EMPTY : GOZDRIT_OK;
 }
 

@@ -9,6 +9,13 @@ static bool ends_query(const struct receiver *it, int32_t answer, size_t size) {
     return answer == GOZDRIT_OK;
 }
 
+/* The same of one whose struct says its size. */
+static bool ends_sized_query(const struct receiver *it, int32_t answer, size_t size) {
+    bool is_told = ends_query(it, answer, size);
+    check_told(answer, size);
+    return is_told;
+}
+
 static void ask_missing(struct receiver *it) {
     size_t *count;
     begin_call(CALL_missing);
@@ -17,16 +24,16 @@ static void ask_missing(struct receiver *it) {
     same(count_missing(&it->window), *count, "count");
 }
 
-static void ask_source(struct receiver *it) {
-    gozdrit_source *source, before;
-    bool is_known = !it->config.learns || it->has_learnt;
-    begin_call(CALL_rtx_source);
-    source = lend_out(AREA_TOLD, sizeof *source);
-    before = *source;
-    if (!ends_query(it, gozdrit_rtx_source(lend_receiver(it, false), pointer(source)), sizeof *source)) return;
-    same(is_known, source->known, "source->known");
-    if (!is_known) same(before.ssrc, source->ssrc, "source->ssrc is as it was");
-    else same(it->config.learns ? it->learnt : it->config.session.rtx_ssrc, source->ssrc, "source->ssrc");
+static void ask_ssrc(struct receiver *it) {
+    gozdrit_ssrc *ssrc, before;
+    bool is_known = !it->config.learn_rtx_ssrc || it->has_learnt;
+    begin_call(CALL_rtx_ssrc);
+    ssrc = lend_out(AREA_TOLD, sizeof *ssrc);
+    before = *ssrc;
+    if (!ends_query(it, gozdrit_rtx_ssrc(lend_receiver(it, false), pointer(ssrc)), sizeof *ssrc)) return;
+    same(is_known, ssrc->known, "ssrc->known");
+    if (!is_known) same(before.ssrc, ssrc->ssrc, "ssrc->ssrc is as it was");
+    else same(it->config.learn_rtx_ssrc ? it->learnt : it->config.session.rtx_ssrc, ssrc->ssrc, "ssrc->ssrc");
 }
 
 static void check_sequence(bool is_known, uint64_t expected, uint64_t before) {
@@ -56,8 +63,8 @@ static void ask_highest(struct receiver *it) {
 static void ask_counts(struct receiver *it) {
     gozdrit_receive_counts *counts;
     begin_call(CALL_receiver_counts);
-    counts = lend_out(AREA_TOLD, sizeof *counts);
-    if (!ends_query(it, gozdrit_receiver_counts(lend_receiver(it, false), pointer(counts)), sizeof *counts)) return;
+    counts = lend_told(sizeof *counts);
+    if (!ends_sized_query(it, gozdrit_receiver_counts(lend_receiver(it, false), pointer(counts)), sizeof *counts)) return;
     same(it->counts.media, counts->media, "counts->media");
     same(it->counts.retransmissions, counts->retransmissions, "counts->retransmissions");
     same(it->counts.held_back, counts->held_back, "counts->held_back");
@@ -65,7 +72,7 @@ static void ask_counts(struct receiver *it) {
     same(it->counts.rtcp, counts->rtcp, "counts->rtcp");
     same(it->counts.duplicate, counts->duplicate, "counts->duplicate");
     same(it->counts.late, counts->late, "counts->late");
-    same(it->counts.far, counts->far, "counts->far");
+    same(it->counts.too_far, counts->too_far, "counts->too_far");
     same(it->counts.refused, counts->refused, "counts->refused");
     same(it->counts.overrun, counts->overrun, "counts->overrun");
     same(it->counts.abandoned, counts->abandoned, "counts->abandoned");
@@ -76,25 +83,27 @@ static void ask_counts(struct receiver *it) {
 }
 
 /* Each late, double or refused datagram is of one kind; what is kept apart leaves the rest no larger. */
-static void ask_kinds(struct receiver *it) {
-    const gozdrit_receive_counts *counts = &it->counts;
-    gozdrit_receive_kinds *kinds;
-    begin_call(CALL_receiver_kinds);
-    kinds = lend_out(AREA_TOLD, sizeof *kinds);
-    if (!ends_query(it, gozdrit_receiver_kinds(lend_receiver(it, false), pointer(kinds)), sizeof *kinds)) return;
-    same(counts->duplicate + counts->late + counts->refused,
-         kinds->padding + kinds->unasked + kinds->duplicate + kinds->late + kinds->refused, "the sum of the kinds");
-    holds(kinds->duplicate <= counts->duplicate && kinds->late <= counts->late && kinds->refused <= counts->refused,
+static void ask_probe_counts(struct receiver *it) {
+    const gozdrit_receive_counts *all = &it->counts;
+    gozdrit_probe_counts *counts;
+    int32_t answer;
+    begin_call(CALL_receiver_probe_counts);
+    counts = lend_told(sizeof *counts);
+    answer = gozdrit_receiver_probe_counts(lend_receiver(it, false), pointer(counts));
+    if (!ends_sized_query(it, answer, sizeof *counts)) return;
+    same(all->duplicate + all->late + all->refused,
+         counts->padding + counts->unrequested + counts->duplicate + counts->late + counts->refused, "the sum of the kinds");
+    holds(counts->duplicate <= all->duplicate && counts->late <= all->late && counts->refused <= all->refused,
           "no kind of more than was counted");
 }
 
 /* Whether a play or a NACK does something at a moment. */
 static bool acts(struct receiver *it, uint64_t now) {
     if (play(it, now, GOZDRIT_MAX_PAYLOAD, true) != GOZDRIT_WAIT) return true;
-    return nack(it, now, GOZDRIT_MOST, GOZDRIT_MAX_NACK, true) > 0;
+    return nack(it, now, GOZDRIT_MAX_NACKED, GOZDRIT_MAX_NACK_DATAGRAM, true) > 0;
 }
 
-/* What a moment promises, by the calls themselves: until then neither does anything, and from then on one of them does. */
+/* What a timeout promises, by the calls themselves: until then neither does anything, and from then on one of them does. */
 static void check_promise(struct receiver *it, bool is_known, uint64_t moment) {
     uint64_t now = one_in(2) && is_known && moment > 0 ? moment - 1 : draw_now();
     bool has_come = is_known && moment <= now;
@@ -102,35 +111,36 @@ static void check_promise(struct receiver *it, bool is_known, uint64_t moment) {
     if (is_known && !has_come) same(true, acts(it, moment), "a play or a NACK does something at the moment");
 }
 
-static void ask_moment(struct receiver *it) {
-    gozdrit_moment *moment, before;
+static void ask_timeout(struct receiver *it) {
+    gozdrit_timeout *timeout, before;
     uint64_t expected;
-    bool is_known = expect_moment(it, &expected);
-    begin_call(CALL_next_moment);
-    moment = lend_out(AREA_TOLD, sizeof *moment);
-    before = *moment;
-    if (!ends_query(it, gozdrit_next_moment(lend_receiver(it, false), pointer(moment)), sizeof *moment)) return;
-    same(is_known, moment->known, "moment->known");
-    same(is_known ? expected : before.moment, moment->moment, "moment->moment");
-    if (one_in(8)) check_promise(it, moment->known, moment->moment);
+    bool is_known = expect_timeout(it, &expected);
+    begin_call(CALL_next_timeout);
+    timeout = lend_out(AREA_TOLD, sizeof *timeout);
+    before = *timeout;
+    if (!ends_query(it, gozdrit_next_timeout(lend_receiver(it, false), pointer(timeout)), sizeof *timeout)) return;
+    same(is_known, timeout->known, "timeout->known");
+    same(is_known ? expected : before.time, timeout->time, "timeout->time");
+    if (one_in(8)) check_promise(it, timeout->known, timeout->time);
 }
 
-/* It follows no path, and so measures none. */
+/* It is not adaptive, and so measures no round trip. */
 static void ask_times(struct receiver *it) {
-    gozdrit_times *times, before;
+    const gozdrit_times *before;
+    gozdrit_times *times;
     begin_call(CALL_receiver_times);
-    times = lend_out(AREA_TOLD, sizeof *times);
-    before = *times;
-    if (!ends_query(it, gozdrit_receiver_times(lend_receiver(it, false), pointer(times)), sizeof *times)) return;
-    same(it->config.delay, times->delay, "times->delay");
-    same(it->config.retry, times->retry, "times->retry");
-    holds(times->known == 0 && times->round_trip == before.round_trip && times->variation == before.variation,
+    times = lend_told(sizeof *times);
+    if (!ends_sized_query(it, gozdrit_receiver_times(lend_receiver(it, false), pointer(times)), sizeof *times)) return;
+    before = lay(AREA_TOLD);
+    same(it->config.reorder_delay, times->reorder_delay, "times->reorder_delay");
+    same(it->config.nack_interval, times->nack_interval, "times->nack_interval");
+    holds(times->known == 0 && times->round_trip == before->round_trip && times->variation == before->variation,
           "no round trip is told");
 }
 
 void call_query(struct receiver *it) {
-    static void (*const queries[])(struct receiver *) = {ask_missing, ask_source, ask_next,  ask_highest,
-                                                         ask_counts,  ask_kinds,  ask_times, ask_moment};
+    static void (*const queries[])(struct receiver *) = {ask_missing, ask_ssrc,         ask_next,  ask_highest,
+                                                         ask_counts,  ask_probe_counts, ask_times, ask_timeout};
     void (*query)(struct receiver *) = queries[below(sizeof queries / sizeof *queries)];
     query(it);
     query(it);

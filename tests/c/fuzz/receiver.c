@@ -7,15 +7,15 @@ enum stream { MEDIA, RETRANSMISSION, CANDIDATE };
 /* The stream of a packet: 0, or why it has none. */
 static int32_t find_stream(const struct receiver *it, const struct packet *packet, enum stream *stream) {
     const gozdrit_session *session = &it->config.session;
-    bool is_known = !it->config.learns || it->has_learnt;
-    uint32_t known = it->config.learns ? it->learnt : session->rtx_ssrc;
+    bool is_known = !it->config.learn_rtx_ssrc || it->has_learnt;
+    uint32_t known = it->config.learn_rtx_ssrc ? it->learnt : session->rtx_ssrc;
     *stream = is_known ? RETRANSMISSION : CANDIDATE;
     if (packet->ssrc == session->media_ssrc) {
         *stream = MEDIA;
-        return packet->type == session->media_type ? 0 : GOZDRIT_UNKNOWN_TYPE;
+        return packet->type == session->media_payload_type ? 0 : GOZDRIT_UNKNOWN_PAYLOAD_TYPE;
     }
-    if (is_known ? packet->ssrc != known : packet->ssrc == session->receiver_ssrc) return GOZDRIT_UNKNOWN_SOURCE;
-    return packet->type == session->rtx_type ? 0 : GOZDRIT_UNKNOWN_TYPE;
+    if (is_known ? packet->ssrc != known : packet->ssrc == session->receiver_ssrc) return GOZDRIT_UNKNOWN_SSRC;
+    return packet->type == session->rtx_payload_type ? 0 : GOZDRIT_UNKNOWN_PAYLOAD_TYPE;
 }
 
 /* What a packet of a stream carries. */
@@ -40,7 +40,7 @@ static int32_t find_carried(const struct receiver *it, const uint8_t *octets, co
         carried->length -= 2;
         payload += 2;
     }
-    if (carried->length > GOZDRIT_MAX_PAYLOAD || packet->words > GOZDRIT_MAX_WORDS) return GOZDRIT_TOO_LONG;
+    if (carried->length > GOZDRIT_MAX_PAYLOAD || packet->words > GOZDRIT_MAX_EXTENSION_WORDS) return GOZDRIT_TOO_LONG;
     carried->digest = digest(&packet->header, payload, carried->length);
     return 0;
 }
@@ -52,13 +52,13 @@ static bool was_named(const struct window *window, uint64_t sequence) {
 
 /* Takes what a packet carries into a window. */
 static int32_t take_carried(const struct window *of, struct window *window, const struct carried *carried, uint64_t now,
-                            gozdrit_heard *heard) {
+                            gozdrit_received *received) {
     int32_t fault;
     if (carried->stream != MEDIA && !of->has_started) return GOZDRIT_NOT_STARTED;
-    fault = extend(window, carried->number, &heard->sequence);
+    fault = extend(window, carried->number, &received->sequence);
     if (fault != 0) return fault;
-    if (carried->stream == CANDIDATE && !was_named(window, heard->sequence)) return GOZDRIT_UNASKED;
-    return take_packet(window, heard->sequence, carried->digest, carried->length, now, &heard->overrun);
+    if (carried->stream == CANDIDATE && !was_named(window, received->sequence)) return GOZDRIT_UNASKED;
+    return take_packet(window, received->sequence, carried->digest, carried->length, now, &received->overrun);
 }
 
 static unsigned or_usual(unsigned number, unsigned usual) { return number ? number : usual; }
@@ -74,55 +74,56 @@ static bool has_jumped(const struct receiver *it, const struct window *window, u
 static unsigned wanted_for(const struct receiver *it, uint16_t number) {
     bool is_ahead = (uint16_t)(number - (uint16_t)it->window.highest) < 32768;
     if (!has_jumped(it, &it->window, number)) return 0;
-    return is_ahead && it->config.silence == 0 ? or_usual(it->config.min_ahead, 2) : or_usual(it->config.min_behind, 256);
+    if (is_ahead && it->config.idle_after == 0) return or_usual(it->config.min_sequential_ahead, 2);
+    return or_usual(it->config.min_sequential_behind, 256);
 }
 
 /* Whether a number goes on with what is held back. */
 static bool goes_on(const struct receiver *it, uint16_t number) {
     if (it->held_back == 0) return false;
-    return it->config.silence == 0 ? number == it->follows : !has_jumped(it, &it->spare, number);
+    return it->config.idle_after == 0 ? number == it->follows : !has_jumped(it, &it->spare, number);
 }
 
 /* Whether what is held back is enough. */
 static bool is_enough(const struct receiver *it, uint64_t now) {
-    uint64_t silence = it->config.silence;
-    bool is_silent = silence != 0 && now >= it->heard_at && now - it->heard_at >= silence;
-    return it->held_back >= it->wanted || (is_silent && it->held_back >= or_usual(it->config.min_ahead, 2));
+    uint64_t span = it->config.idle_after;
+    bool is_idle = span != 0 && now >= it->taken_at && now - it->taken_at >= span;
+    return it->held_back >= it->wanted || (is_idle && it->held_back >= or_usual(it->config.min_sequential_ahead, 2));
 }
 
 /* The stream restarts with what was held back. */
-static void restart_stream(struct receiver *it, gozdrit_heard *heard) {
+static void restart_stream(struct receiver *it, gozdrit_received *received) {
     struct window left = it->window;
-    if (left.next <= left.highest) heard->abandoned = left.highest + 1 - left.next;
+    if (left.next <= left.highest) received->abandoned = left.highest + 1 - left.next;
     it->window = it->spare;
     it->spare = left;
     it->held_back = 0;
     it->has_learnt = false;
     it->has_played = false;
-    heard->kind = GOZDRIT_RESTARTED;
+    received->kind = GOZDRIT_RESTARTED;
 }
 
 /* Holds back a media packet that has jumped. */
 static int32_t hold_back(struct receiver *it, int32_t fault, const struct carried *carried, unsigned wanted, uint64_t now,
-                         gozdrit_heard *heard) {
+                         gozdrit_received *received) {
     if (!goes_on(it, carried->number)) {
         clear_window(&it->spare);
         it->held_back = 0;
         it->wanted = wanted;
     }
-    if (fault == 0) fault = take_carried(&it->spare, &it->spare, carried, now, heard);
+    if (fault == 0) fault = take_carried(&it->spare, &it->spare, carried, now, received);
     if (fault != 0) {
-        if (it->config.silence == 0) it->held_back = 0;
+        if (it->config.idle_after == 0) it->held_back = 0;
         return fault;
     }
     it->follows = (uint16_t)(carried->number + 1);
-    heard->held = ++it->held_back;
+    received->held_back = ++it->held_back;
     if (is_enough(it, now)) {
-        it->heard_at = now;
-        restart_stream(it, heard);
+        it->taken_at = now;
+        restart_stream(it, received);
     } else {
-        heard->kind = GOZDRIT_HELD_BACK;
-        heard->sequence = heard->overrun = 0;
+        received->kind = GOZDRIT_HELD_BACK;
+        received->sequence = received->overrun = 0;
     }
     return 0;
 }
@@ -135,28 +136,28 @@ static void check_genuine(const struct origin *origin, const struct carried *car
     same(origin->digest, carried->digest, "what was sent");
 }
 
-/* Hears a packet that was read. */
-static int32_t hear_packet(struct receiver *it, const struct datagram *datagram, const struct packet *packet, uint64_t now,
-                           gozdrit_heard *heard) {
+/* Takes a packet that was read. */
+static int32_t take_rtp(struct receiver *it, const struct datagram *datagram, const struct packet *packet, uint64_t now,
+                           gozdrit_received *received) {
     struct carried carried;
     int32_t fault = find_carried(it, datagram->octets, packet, &carried);
-    bool is_media = packet->ssrc == it->config.session.media_ssrc && packet->type == it->config.session.media_type;
+    bool is_media = packet->ssrc == it->config.session.media_ssrc && packet->type == it->config.session.media_payload_type;
     if (fault == 0) check_genuine(&datagram->origin, &carried);
     if (is_media) {
         unsigned wanted = wanted_for(it, packet->sequence);
         if (wanted > 0) {
             carried.number = packet->sequence;
-            return hold_back(it, fault, &carried, wanted, now, heard);
+            return hold_back(it, fault, &carried, wanted, now, received);
         }
-        if (it->config.silence == 0) it->held_back = 0;
+        if (it->config.idle_after == 0) it->held_back = 0;
     }
-    if (fault == 0) fault = take_carried(&it->window, &it->window, &carried, now, heard);
+    if (fault == 0) fault = take_carried(&it->window, &it->window, &carried, now, received);
     if (fault != 0) return fault;
     if (is_media) {
         it->held_back = 0;
-        it->heard_at = now;
+        it->taken_at = now;
     }
-    heard->kind = is_media ? GOZDRIT_MEDIA : GOZDRIT_RETRANSMISSION;
+    received->kind = is_media ? GOZDRIT_MEDIA : GOZDRIT_RETRANSMISSION;
     if (carried.stream == CANDIDATE) {
         it->has_learnt = true;
         it->learnt = packet->ssrc;
@@ -164,25 +165,25 @@ static int32_t hear_packet(struct receiver *it, const struct datagram *datagram,
     return 0;
 }
 
-static void count_heard(gozdrit_receive_counts *counts, const gozdrit_heard *heard) {
-    counts->overrun += heard->overrun;
-    counts->abandoned += heard->abandoned;
-    if (heard->kind == GOZDRIT_MEDIA) counts->media++;
-    else if (heard->kind == GOZDRIT_RETRANSMISSION) counts->retransmissions++;
-    else if (heard->kind == GOZDRIT_RTCP) counts->rtcp++;
-    else if (heard->kind == GOZDRIT_HELD_BACK) counts->held_back++;
-    else if (heard->kind == GOZDRIT_RESTARTED) counts->restarts++;
-    else if (heard->refusal == GOZDRIT_DUPLICATE) counts->duplicate++;
-    else if (heard->refusal == GOZDRIT_LATE) counts->late++;
-    else if (heard->refusal == GOZDRIT_FAR) counts->far++;
+static void count_received(gozdrit_receive_counts *counts, const gozdrit_received *received) {
+    counts->overrun += received->overrun;
+    counts->abandoned += received->abandoned;
+    if (received->kind == GOZDRIT_MEDIA) counts->media++;
+    else if (received->kind == GOZDRIT_RETRANSMISSION) counts->retransmissions++;
+    else if (received->kind == GOZDRIT_RTCP) counts->rtcp++;
+    else if (received->kind == GOZDRIT_HELD_BACK) counts->held_back++;
+    else if (received->kind == GOZDRIT_RESTARTED) counts->restarts++;
+    else if (received->refusal == GOZDRIT_DUPLICATE) counts->duplicate++;
+    else if (received->refusal == GOZDRIT_LATE) counts->late++;
+    else if (received->refusal == GOZDRIT_TOO_FAR) counts->too_far++;
     else counts->refused++;
 }
 
-void hear_datagram(struct receiver *it, const struct datagram *datagram, uint64_t now, gozdrit_heard *heard) {
+void take_datagram(struct receiver *it, const struct datagram *datagram, uint64_t now, gozdrit_received *received) {
     struct packet packet;
-    memset(heard, 0, sizeof *heard);
+    memset(received, 0, sizeof *received);
     if (is_rtcp(datagram->octets, datagram->length)) {
-        heard->kind = GOZDRIT_RTCP;
+        received->kind = GOZDRIT_RTCP;
     } else {
         int32_t fault;
         read_packet(datagram->octets, datagram->length, &packet);
@@ -193,13 +194,13 @@ void hear_datagram(struct receiver *it, const struct datagram *datagram, uint64_
             packet.length = 0;
         }
         fault = packet.fault;
-        if (fault == 0) fault = hear_packet(it, datagram, &packet, now, heard);
+        if (fault == 0) fault = take_rtp(it, datagram, &packet, now, received);
         if (fault != 0) {
-            memset(heard, 0, sizeof *heard);
-            heard->refusal = (uint8_t)fault;
+            memset(received, 0, sizeof *received);
+            received->refusal = (uint8_t)fault;
         }
     }
-    count_heard(&it->counts, heard);
+    count_received(&it->counts, received);
 }
 
 /* ---- playing and asking */
@@ -210,13 +211,13 @@ uint8_t expect_play(const struct receiver *it, uint64_t now) {
     const struct slot *slot = front(&it->window);
     if (slot == NULL) return GOZDRIT_WAIT;
     if (slot->is_held) return GOZDRIT_PACKET;
-    return is_since(slot->noticed, it->config.patience, now) ? GOZDRIT_GAP : GOZDRIT_WAIT;
+    return is_since(slot->noticed, it->config.latency, now) ? GOZDRIT_GAP : GOZDRIT_WAIT;
 }
 
 static bool is_due(const struct receiver *it, const struct slot *slot, uint64_t now) {
-    if (slot->is_held || slot->nacks >= it->config.nacks) return false;
-    if (slot->nacks > 0) return is_since(slot->last, it->config.retry, now);
-    return it->config.delay == 0 || is_since(slot->noticed, it->config.delay, now);
+    if (slot->is_held || slot->nacks >= it->config.max_nacks) return false;
+    if (slot->nacks > 0) return is_since(slot->last, it->config.nack_interval, now);
+    return it->config.reorder_delay == 0 || is_since(slot->noticed, it->config.reorder_delay, now);
 }
 
 enum { MOST_PAIRS = 64 };
@@ -227,7 +228,7 @@ size_t expect_nack(const struct receiver *it, uint64_t now, size_t most, uint8_t
     size_t pairs = 0;
     *named = 0;
     if (front(window) == NULL) return 0;
-    for (sequence = window->next; sequence <= window->highest && *named < most && *named < GOZDRIT_MOST; sequence++) {
+    for (sequence = window->next; sequence <= window->highest && *named < most && *named < GOZDRIT_MAX_NACKED; sequence++) {
         uint8_t *pair = out + 8 + 4 * pairs; /* the last one so far */
         if (!is_due(it, slot_at(window, sequence), now)) continue;
         if (pairs > 0 && sequence - pid <= 16) {
@@ -270,7 +271,7 @@ static void sooner(bool *is_known, uint64_t *moment, uint64_t since, uint64_t sp
     *is_known = true;
 }
 
-bool expect_moment(const struct receiver *it, uint64_t *moment) {
+bool expect_timeout(const struct receiver *it, uint64_t *moment) {
     const gozdrit_receiver_config *config = &it->config;
     const struct slot *slot = front(&it->window);
     bool is_known = false;
@@ -278,20 +279,20 @@ bool expect_moment(const struct receiver *it, uint64_t *moment) {
     *moment = 0;
     if (slot == NULL) return false;
     if (slot->is_held) return true;
-    sooner(&is_known, moment, slot->noticed, config->patience);
+    sooner(&is_known, moment, slot->noticed, config->latency);
     for (sequence = it->window.next; sequence <= it->window.highest; sequence++) {
         slot = slot_at(&it->window, sequence);
-        if (slot->is_held || slot->nacks >= config->nacks) continue;
-        if (slot->nacks > 0) sooner(&is_known, moment, slot->last, config->retry);
-        else sooner(&is_known, moment, config->delay ? slot->noticed : 0, config->delay);
+        if (slot->is_held || slot->nacks >= config->max_nacks) continue;
+        if (slot->nacks > 0) sooner(&is_known, moment, slot->last, config->nack_interval);
+        else sooner(&is_known, moment, config->reorder_delay ? slot->noticed : 0, config->reorder_delay);
     }
     return is_known;
 }
 
-void restart(struct receiver *it) {
+void reset(struct receiver *it) {
     clear_window(&it->window);
     it->held_back = 0;
-    it->heard_at = 0;
+    it->taken_at = 0;
     it->has_learnt = false;
     it->has_played = false;
 }

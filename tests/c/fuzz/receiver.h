@@ -1,4 +1,4 @@
-/* The model of a receiver, which the files fuzz_receiv*.c and queries.c share. */
+/* The model of a receiver, which receiver.c, window.c, receiving.c and queries.c share. */
 #ifndef FUZZ_RECEIVER_H
 #define FUZZ_RECEIVER_H
 
@@ -46,23 +46,23 @@ struct receiver {
     uint32_t learnt;
     unsigned held_back, wanted; /* packets that have jumped */
     uint16_t follows;           /* the number of the next of them in sequence */
-    uint64_t heard_at;          /* when a media packet was last taken */
-    bool has_played;            /* since it restarted */
+    uint64_t taken_at;          /* when a media packet was last taken */
+    bool has_played;            /* since it was reset, or the stream restarted */
     uint64_t played;            /* the last sequence that was played or given up */
     uint64_t fed;
 };
 
-/* Hears a datagram, with its counts. */
-void hear_datagram(struct receiver *it, const struct datagram *datagram, uint64_t now, gozdrit_heard *heard);
+/* Takes a datagram, with its counts. */
+void take_datagram(struct receiver *it, const struct datagram *datagram, uint64_t now, gozdrit_received *received);
 /* What a play does at a moment: GOZDRIT_WAIT, GOZDRIT_PACKET or GOZDRIT_GAP. */
 uint8_t expect_play(const struct receiver *it, uint64_t now);
 /* Writes the NACK of a moment, and answers its length, or 0; `named` packets are named from the next one on. */
 size_t expect_nack(const struct receiver *it, uint64_t now, size_t most, uint8_t *out, size_t *named);
 /* Counts a NACK for the first of the packets that are due. */
 void count_nack(struct receiver *it, uint64_t now, size_t named);
-/* The next moment, if there is one. */
-bool expect_moment(const struct receiver *it, uint64_t *moment);
-void restart(struct receiver *it);
+/* The next timeout, if there is one. */
+bool expect_timeout(const struct receiver *it, uint64_t *moment);
+void reset(struct receiver *it);
 
 /* ---- its calls (receiving.c) */
 

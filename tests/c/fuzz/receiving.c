@@ -39,7 +39,7 @@ void check_receiver(const struct receiver *it, int32_t answer) {
     same(it->is_made, handle->held, "the handle's `held`");
 }
 
-int32_t unless_no_end(const struct receiver *it, int32_t answer) { return it->is_made ? answer : GOZDRIT_NO_END; }
+int32_t unless_no_end(const struct receiver *it, int32_t answer) { return it->is_made ? answer : GOZDRIT_EMPTY_HANDLE; }
 
 /* ---- made and freed */
 
@@ -47,7 +47,7 @@ static int32_t check_config(const gozdrit_receiver_config *config) {
     int32_t fault = check_session(&config->session);
     if (fault != GOZDRIT_OK) return fault;
     if (config->window == 0 || config->window > GOZDRIT_MAX_STORE) return GOZDRIT_BAD_LIMIT;
-    if (config->retry == 0 || config->nacks == 0 || config->follows > 2) return GOZDRIT_BAD_LIMIT;
+    if (config->nack_interval == 0 || config->max_nacks == 0 || config->adaptive > 2) return GOZDRIT_BAD_LIMIT;
     return GOZDRIT_OK;
 }
 
@@ -68,18 +68,18 @@ static void draw_config(struct receiver *it, gozdrit_receiver_config *config) {
     random_octets((uint8_t *)config, sizeof *config);
     config->session = *usual_session(it->session);
     if (one_in(30)) draw_session(&config->session);
-    config->patience = draw_span(400);
-    config->retry = one_in(40) ? 0 : 1 + draw_span(60);
+    config->latency = draw_span(400);
+    config->nack_interval = one_in(40) ? 0 : 1 + draw_span(60);
     config->window = one_in(40) ? below(2) * between(8192, 8194) : between(1, one_in(8) ? 8192 : one_in(3) ? 4 : 200);
-    config->nacks = (uint8_t)(one_in(30) ? 0 : between(1, one_in(3) ? 255 : 4));
-    config->learns = one_in(3) ? (gozdrit_bool)between(1, 255) : 0;
+    config->max_nacks = (uint8_t)(one_in(30) ? 0 : between(1, one_in(3) ? 255 : 4));
+    config->learn_rtx_ssrc = one_in(3) ? (gozdrit_bool)between(1, 255) : 0;
     config->max_dropout = draw_number(3000);
     config->max_misorder = draw_number(200);
-    config->min_ahead = draw_number(6);
-    config->min_behind = draw_number(6);
-    config->delay = draw_span(40);
-    config->silence = one_in(2) ? 0 : 1 + draw_span(400);
-    config->follows = one_in(40) ? (uint8_t)between(3, 255) : 0; /* the model measures nothing */
+    config->min_sequential_ahead = draw_number(6);
+    config->min_sequential_behind = draw_number(6);
+    config->reorder_delay = draw_span(40);
+    config->idle_after = one_in(2) ? 0 : 1 + draw_span(400);
+    config->adaptive = one_in(40) ? (uint8_t)between(3, 255) : 0; /* the model measures nothing */
 }
 
 static void call_new(struct receiver *it) {
@@ -88,8 +88,8 @@ static void call_new(struct receiver *it) {
     int32_t expected, answer;
     begin_call(CALL_receiver_new);
     draw_config(it, &config);
-    expected = it->is_made ? GOZDRIT_HELD : check_config(&config);
-    lent = pointer(lend_in(AREA_STRUCT, &config, sizeof config));
+    expected = it->is_made ? GOZDRIT_HANDLE_IN_USE : check_config(&config);
+    lent = pointer(lend_config(&config, sizeof config));
     answer = gozdrit_receiver_new(lent, lend_receiver(it, true));
     end_call(expected, answer);
     if (answer == GOZDRIT_OK) {
@@ -97,7 +97,7 @@ static void call_new(struct receiver *it) {
         it->config = config;
         it->window.capacity = it->spare.capacity = config.window;
         memset(&it->counts, 0, sizeof it->counts);
-        restart(it);
+        reset(it);
     }
     check_receiver(it, answer);
     check_kept(AREA_STRUCT, 0);
@@ -123,56 +123,58 @@ void free_receivers(void) {
 
 static void call_defaults(void) {
     gozdrit_receiver_config *config;
+    size_t size;
     int32_t answer;
     begin_call(CALL_receiver_defaults);
-    config = lend_out(AREA_STRUCT, sizeof *config);
-    answer = gozdrit_receiver_defaults(pointer(config));
+    size = draw_size(sizeof *config, 3);
+    config = lend_defaults(size);
+    answer = gozdrit_receiver_defaults(pointer(config), size);
     end_call(GOZDRIT_OK, answer);
-    check_kept(AREA_STRUCT, answer == GOZDRIT_OK ? sizeof *config : 0);
+    check_defaults(answer, sizeof *config, size);
     if (answer != GOZDRIT_OK) return;
     same(512, config->window, "window");
-    same(200, config->patience, "patience");
-    same(20, config->delay, "delay");
-    same(40, config->retry, "retry");
-    same(4, config->nacks, "nacks");
+    same(200, config->latency, "latency");
+    same(20, config->reorder_delay, "reorder_delay");
+    same(40, config->nack_interval, "nack_interval");
+    same(4, config->max_nacks, "max_nacks");
     same(0, config->max_dropout, "max_dropout, which is the usual number");
     holds(config->max_misorder == 0 || config->max_misorder == 100, "max_misorder is the usual number");
-    holds(config->min_ahead == 0 || config->min_ahead == 2, "min_ahead is the usual number");
-    holds(config->min_behind == 0 || config->min_behind == 256, "min_behind is the usual number");
-    same(200, config->silence, "silence");
-    holds(config->learns == 0 && config->follows == 0, "all else is 0");
-    holds(config->session.media_ssrc == 0 && config->session.rtx_ssrc == 0 && config->session.receiver_ssrc == 0
-              && config->session.media_type == 0 && config->session.rtx_type == 0 && config->session.any_media_type == 0,
-          "the session is 0");
+    holds(config->min_sequential_ahead == 0 || config->min_sequential_ahead == 2,
+          "min_sequential_ahead is the usual number");
+    holds(config->min_sequential_behind == 0 || config->min_sequential_behind == 256,
+          "min_sequential_behind is the usual number");
+    same(200, config->idle_after, "idle_after");
+    holds(config->learn_rtx_ssrc == 0 && config->adaptive == 0, "all else is 0");
+    check_no_session(&config->session);
 }
 
 /* ---- receiving */
 
 static void call_receive(struct receiver *it) {
     static struct datagram drawn;
-    gozdrit_heard *heard, expected;
+    gozdrit_received *received, expected;
     const uint8_t *octets;
     uint64_t now = draw_now();
     int32_t answer;
     begin_call(CALL_receive);
     draw_media(&drawn, it->session, &it->fed, (uint16_t)it->window.highest);
     octets = octets_pointer(lend_in(AREA_IN, drawn.octets, drawn.length), drawn.length);
-    heard = lend_out(AREA_TOLD, sizeof *heard);
-    answer = gozdrit_receive(lend_receiver(it, true), octets, drawn.length, now, pointer(heard));
+    received = lend_told(sizeof *received);
+    answer = gozdrit_receive(lend_receiver(it, true), octets, drawn.length, now, pointer(received));
     end_call(unless_no_end(it, GOZDRIT_OK), answer);
     check_receiver(it, answer);
     check_kept(AREA_IN, 0);
-    check_kept(AREA_TOLD, answer == GOZDRIT_OK ? sizeof *heard : 0);
+    check_told(answer, sizeof *received);
     if (answer != GOZDRIT_OK) return;
-    hear_datagram(it, &drawn, now, &expected);
-    same(expected.kind, heard->kind, "heard->kind");
-    same(expected.refusal, heard->refusal, "heard->refusal");
-    same(expected.sequence, heard->sequence, "heard->sequence");
-    same(expected.overrun, heard->overrun, "heard->overrun");
-    same(expected.abandoned, heard->abandoned, "heard->abandoned");
-    same(expected.held, heard->held, "heard->held");
-    count_told(HEARD_KIND, heard->kind);
-    count_told(HEARD_REFUSAL, heard->refusal);
+    take_datagram(it, &drawn, now, &expected);
+    same(expected.kind, received->kind, "received->kind");
+    same(expected.refusal, received->refusal, "received->refusal");
+    same(expected.sequence, received->sequence, "received->sequence");
+    same(expected.overrun, received->overrun, "received->overrun");
+    same(expected.abandoned, received->abandoned, "received->abandoned");
+    same(expected.held_back, received->held_back, "received->held_back");
+    count_told(RECEIVED_KIND, received->kind);
+    count_told(RECEIVED_REFUSAL, received->refusal);
 }
 
 /* ---- playing */
@@ -216,12 +218,12 @@ int play(struct receiver *it, uint64_t now, size_t room, bool is_plain) {
     int32_t answer;
     if (is_plain) begin_plain_call(CALL_play);
     else begin_call(CALL_play);
-    played = pointer(lend_out(AREA_TOLD, sizeof *played));
+    played = pointer(lend_told(sizeof *played));
     payload = octets_pointer(lend_out(AREA_OUT, room), room);
     answer = gozdrit_play(lend_receiver(it, true), now, played, payload, room);
     end_call(unless_no_end(it, has_room ? GOZDRIT_OK : GOZDRIT_NO_ROOM), answer);
     check_receiver(it, answer);
-    check_kept(AREA_TOLD, answer == GOZDRIT_OK ? sizeof *played : 0);
+    check_told(answer, sizeof *played);
     if (answer == GOZDRIT_OK) check_played(it, kind);
     else check_kept(AREA_OUT, 0);
     return answer == GOZDRIT_OK ? kind : -answer;
@@ -237,18 +239,15 @@ static void call_play(struct receiver *it) {
 /* ---- asking */
 
 int nack(struct receiver *it, uint64_t now, size_t most, size_t room, bool is_plain) {
-    static uint8_t datagram[GOZDRIT_MAX_NACK];
+    static uint8_t datagram[GOZDRIT_MAX_NACK_DATAGRAM];
     size_t named = 0, expected = it->is_made ? expect_nack(it, now, most, datagram, &named) : 0, *length;
-    gozdrit_receiver *handle;
     uint8_t *out;
     int32_t answer;
     if (is_plain) begin_plain_call(CALL_nack);
     else begin_call(CALL_nack);
     length = pointer(lend_out(AREA_NUMBER, sizeof *length));
     out = octets_pointer(lend_out(AREA_OUT, room), room);
-    handle = lend_receiver(it, true);
-    answer = most == GOZDRIT_MOST ? gozdrit_ask(handle, now, length, out, room)
-                                  : gozdrit_nack(handle, now, most, length, out, room);
+    answer = gozdrit_nack(lend_receiver(it, true), now, most, length, out, room);
     end_call(unless_no_end(it, room < expected ? GOZDRIT_NO_ROOM : GOZDRIT_OK), answer);
     check_receiver(it, answer);
     check_kept(AREA_NUMBER, answer == GOZDRIT_OK ? sizeof *length : 0);
@@ -264,12 +263,12 @@ int nack(struct receiver *it, uint64_t now, size_t most, size_t room, bool is_pl
 }
 
 static void call_nack(struct receiver *it) {
-    static uint8_t datagram[GOZDRIT_MAX_NACK];
+    static uint8_t datagram[GOZDRIT_MAX_NACK_DATAGRAM];
     uint64_t now = draw_now();
-    size_t most = one_in(2) ? GOZDRIT_MOST : one_in(2) ? (size_t)below(3) : one_in(2) ? SIZE_MAX : (size_t)below(1200), named;
-    size_t length = it->is_made ? expect_nack(it, now, most, datagram, &named) : 0;
+    size_t most = one_in(2) ? GOZDRIT_MAX_NACKED : one_in(2) ? (size_t)below(3) : one_in(2) ? SIZE_MAX : (size_t)below(1200);
+    size_t named, length = it->is_made ? expect_nack(it, now, most, datagram, &named) : 0;
     if (length > 0 && one_in(4)) nack(it, now, most, length - 1, false);
-    nack(it, now, most, draw_room(length, GOZDRIT_MAX_NACK), false);
+    nack(it, now, most, draw_room(length, GOZDRIT_MAX_NACK_DATAGRAM), false);
 }
 
 /* ---- the rest */
@@ -284,36 +283,36 @@ static void call_begin(struct receiver *it) {
     check_receiver(it, answer);
 }
 
-static void call_restart(struct receiver *it) {
+static void call_reset(struct receiver *it) {
     int32_t answer;
-    begin_call(CALL_restart);
-    answer = gozdrit_restart(lend_receiver(it, true));
+    begin_call(CALL_reset);
+    answer = gozdrit_reset(lend_receiver(it, true));
     end_call(unless_no_end(it, GOZDRIT_OK), answer);
-    if (answer == GOZDRIT_OK) restart(it);
+    if (answer == GOZDRIT_OK) reset(it);
     check_receiver(it, answer);
 }
 
 static void call_set_times(struct receiver *it) {
-    uint64_t patience = draw_span(400), delay = draw_span(40), retry = one_in(10) ? 0 : 1 + draw_span(60);
+    uint64_t latency = draw_span(400), delay = draw_span(40), interval = one_in(10) ? 0 : 1 + draw_span(60);
     int32_t answer;
     begin_call(CALL_set_times);
-    answer = gozdrit_set_times(lend_receiver(it, true), patience, delay, retry);
-    end_call(unless_no_end(it, retry == 0 ? GOZDRIT_BAD_LIMIT : GOZDRIT_OK), answer);
+    answer = gozdrit_set_times(lend_receiver(it, true), latency, delay, interval);
+    end_call(unless_no_end(it, interval == 0 ? GOZDRIT_BAD_LIMIT : GOZDRIT_OK), answer);
     if (answer == GOZDRIT_OK) {
-        it->config.patience = patience;
-        it->config.delay = delay;
-        it->config.retry = retry;
+        it->config.latency = latency;
+        it->config.reorder_delay = delay;
+        it->config.nack_interval = interval;
     }
     check_receiver(it, answer);
 }
 
-/* To follow no path is what the model knows, and what can't be followed. */
-static void call_follow(struct receiver *it) {
-    uint8_t follows = one_in(3) ? (uint8_t)between(3, 255) : GOZDRIT_FOLLOWS_NOTHING;
+/* The model knows a receiver that is not adaptive. The other numbers that are drawn are none. */
+static void call_set_adaptive(struct receiver *it) {
+    uint8_t adaptive = one_in(3) ? (uint8_t)between(3, 255) : GOZDRIT_ADAPTIVE_OFF;
     int32_t answer;
-    begin_call(CALL_follow);
-    answer = gozdrit_follow(lend_receiver(it, true), follows);
-    end_call(unless_no_end(it, follows ? GOZDRIT_BAD_LIMIT : GOZDRIT_OK), answer);
+    begin_call(CALL_set_adaptive);
+    answer = gozdrit_set_adaptive(lend_receiver(it, true), adaptive);
+    end_call(unless_no_end(it, adaptive ? GOZDRIT_BAD_LIMIT : GOZDRIT_OK), answer);
     check_receiver(it, answer);
 }
 
@@ -324,10 +323,10 @@ void call_receiver(void) {
     else if (which < 1) call_free(it);
     else if (which < 6) call_new(it);
     else if (which < 8) call_defaults();
-    else if (which < 11) call_restart(it);
+    else if (which < 11) call_reset(it);
     else if (which < 18) call_begin(it);
     else if (which < 24) call_set_times(it);
-    else if (which < 26) call_follow(it);
+    else if (which < 26) call_set_adaptive(it);
     else if (which < 600) call_receive(it);
     else if (which < 820) call_play(it);
     else if (which < 900) call_nack(it);

@@ -1,33 +1,10 @@
-/* The model of a sender (docs/PROTOCOL.md, "Sending", "The sender's history", "Compound datagrams"), and the calls of one. */
-#include "fuzz.h"
+/* The model of a sender (docs/PROTOCOL.md, "Sending", "The sender's history"), and the calls of one. */
+#include "sender.h"
 
 #include <stdio.h>
 #include <stdlib.h>
 
-/* A packet of the history. */
-struct kept {
-    size_t length; /* of the datagram, and of it */
-    size_t at;     /* where the payload begins, and */
-    uint8_t padding;
-    uint64_t digest;
-    unsigned repeats;
-    bool is_marked;
-    uint64_t sent_at, resent_at;
-    bool was_resent;
-    uint8_t datagram[GOZDRIT_MAX_DATAGRAM];
-};
-
-static struct sender {
-    bool is_made;
-    unsigned session;
-    gozdrit_sender_config config;
-    gozdrit_send_counts counts;
-    uint64_t first, next; /* the first packet's sequence, and the next one's */
-    uint16_t rtx_next;
-    uint64_t now;
-    uint64_t fed;
-    struct kept *history; /* of GOZDRIT_MAX_STORE packets, each at its sequence modulo that */
-} senders[SESSIONS];
+static struct sender senders[SESSIONS];
 
 static enum area handle_of(const struct sender *it) { return (enum area)(AREA_HANDLE + (it - senders)); }
 
@@ -43,10 +20,9 @@ void make_senders(void) {
     }
 }
 
-static struct kept *kept_at(struct sender *it, uint64_t sequence) { return &it->history[sequence % GOZDRIT_MAX_STORE]; }
+struct kept *kept_at(struct sender *it, uint64_t sequence) { return &it->history[sequence % GOZDRIT_MAX_STORE]; }
 
-/* The oldest packet of the history. */
-static uint64_t oldest(const struct sender *it) {
+uint64_t oldest(const struct sender *it) {
     return it->next - it->first > it->config.history ? it->next - it->config.history : it->first;
 }
 
@@ -61,25 +37,31 @@ static void check_handle(struct sender *it, int32_t answer) {
     same(it->is_made, handle->held, "the handle's `held`");
 }
 
-static int32_t unless_none(const struct sender *it, int32_t answer) { return it->is_made ? answer : GOZDRIT_NO_END; }
+static int32_t unless_none(const struct sender *it, int32_t answer) { return it->is_made ? answer : GOZDRIT_EMPTY_HANDLE; }
 
 /* ---- made and freed */
 
 int32_t check_session(const gozdrit_session *session) {
-    uint8_t media_type = session->media_type, rtx_type = session->rtx_type;
-    bool is_static = session->any_media_type && media_type < 64;
-    if (!is_static && (media_type < 96 || media_type > 127)) return GOZDRIT_BAD_TYPE;
-    if (rtx_type < 96 || rtx_type > 127 || rtx_type == media_type) return GOZDRIT_BAD_TYPE;
+    uint8_t media = session->media_payload_type, rtx = session->rtx_payload_type;
+    bool is_static = session->any_media_payload_type && media < 64;
+    if (!is_static && (media < 96 || media > 127)) return GOZDRIT_BAD_PAYLOAD_TYPE;
+    if (rtx < 96 || rtx > 127 || rtx == media) return GOZDRIT_BAD_PAYLOAD_TYPE;
     if (session->media_ssrc == session->rtx_ssrc || session->media_ssrc == session->receiver_ssrc
         || session->rtx_ssrc == session->receiver_ssrc)
         return GOZDRIT_SAME_SSRC;
     return GOZDRIT_OK;
 }
 
+void check_no_session(const gozdrit_session *session) {
+    holds(session->media_ssrc == 0 && session->rtx_ssrc == 0 && session->receiver_ssrc == 0
+              && session->media_payload_type == 0 && session->rtx_payload_type == 0 && session->any_media_payload_type == 0,
+          "the session is 0");
+}
+
 static int32_t check_config(const gozdrit_sender_config *config) {
     int32_t fault = check_session(&config->session);
     if (fault != GOZDRIT_OK) return fault;
-    if (config->history == 0 || config->history > GOZDRIT_MAX_STORE || config->repeats == 0)
+    if (config->history == 0 || config->history > GOZDRIT_MAX_STORE || config->max_retransmissions == 0)
         return GOZDRIT_BAD_LIMIT;
     return GOZDRIT_OK;
 }
@@ -89,8 +71,8 @@ static void draw_config(struct sender *it, gozdrit_sender_config *config) {
     if (!it->is_made && one_in(6)) change_session(it->session);
     config->session = *usual_session(it->session);
     config->history = one_in(40) ? below(2) * between(8192, 8194) : between(1, one_in(8) ? 8192 : one_in(3) ? 3 : 100);
-    if (one_in(2)) config->first = (uint16_t)it->next; /* as if the stream went on */
-    config->repeats = (uint8_t)(one_in(30) ? 0 : between(1, one_in(3) ? 255 : 4));
+    if (one_in(2)) config->first_sequence = (uint16_t)it->next; /* as if the stream went on */
+    config->max_retransmissions = (uint8_t)(one_in(30) ? 0 : between(1, one_in(3) ? 255 : 4));
     config->any_reporter = one_in(4) ? (gozdrit_bool)between(1, 255) : 0;
     config->min_resend = one_in(3) ? below(100) : 0;
     config->deadline = one_in(3) ? below(300) : 0;
@@ -102,15 +84,15 @@ static void call_new(struct sender *it) {
     int32_t expected, answer;
     begin_call(CALL_sender_new);
     draw_config(it, &config);
-    expected = it->is_made ? GOZDRIT_HELD : check_config(&config);
-    lent = pointer(lend_in(AREA_STRUCT, &config, sizeof config));
+    expected = it->is_made ? GOZDRIT_HANDLE_IN_USE : check_config(&config);
+    lent = pointer(lend_config(&config, sizeof config));
     answer = gozdrit_sender_new(lent, lend(it, true));
     end_call(expected, answer);
     if (answer == GOZDRIT_OK) {
         it->is_made = true;
         it->config = config;
-        it->first = it->next = 65536 + (uint64_t)config.first;
-        it->rtx_next = config.rtx_first;
+        it->first = it->next = 65536 + (uint64_t)config.first_sequence;
+        it->rtx_next = config.rtx_first_sequence;
         it->now = 0;
         memset(&it->counts, 0, sizeof it->counts);
     }
@@ -137,21 +119,21 @@ void free_senders(void) {
 
 static void call_defaults(void) {
     gozdrit_sender_config *config;
+    size_t size;
     int32_t answer;
     begin_call(CALL_sender_defaults);
-    config = lend_out(AREA_STRUCT, sizeof *config);
-    answer = gozdrit_sender_defaults(pointer(config));
+    size = draw_size(sizeof *config, 3);
+    config = lend_defaults(size);
+    answer = gozdrit_sender_defaults(pointer(config), size);
     end_call(GOZDRIT_OK, answer);
-    check_kept(AREA_STRUCT, answer == GOZDRIT_OK ? sizeof *config : 0);
+    check_defaults(answer, sizeof *config, size);
     if (answer != GOZDRIT_OK) return;
     same(1024, config->history, "history");
-    same(4, config->repeats, "repeats");
-    holds(config->first == 0 && config->rtx_first == 0 && config->any_reporter == 0 && config->min_resend == 0
-              && config->deadline == 0,
+    same(4, config->max_retransmissions, "max_retransmissions");
+    holds(config->first_sequence == 0 && config->rtx_first_sequence == 0 && config->any_reporter == 0
+              && config->min_resend == 0 && config->deadline == 0,
           "all else is 0");
-    holds(config->session.media_ssrc == 0 && config->session.rtx_ssrc == 0 && config->session.receiver_ssrc == 0
-              && config->session.media_type == 0 && config->session.rtx_type == 0 && config->session.any_media_type == 0,
-          "the session is 0");
+    check_no_session(&config->session);
 }
 
 /* ---- sent and retransmitted */
@@ -160,22 +142,22 @@ static void call_defaults(void) {
  * history, but not yet counted as one of it. */
 static bool make_packet(struct sender *it, struct kept *made, const gozdrit_header *header, const uint8_t *payload,
                         size_t length, uint8_t padding) {
-    if (length > GOZDRIT_MAX_PAYLOAD || header->source_count > GOZDRIT_MAX_SOURCES) return false;
-    if (header->has_extension && header->word_count > GOZDRIT_MAX_WORDS) return false;
+    if (length > GOZDRIT_MAX_PAYLOAD || header->csrc_count > GOZDRIT_MAX_CSRCS) return false;
+    if (header->has_extension && header->extension_words > GOZDRIT_MAX_EXTENSION_WORDS) return false;
     made->length = write_packet(made->datagram, header, payload, length, padding);
-    set_stream(made->datagram, it->config.session.media_type, (uint16_t)it->next, it->config.session.media_ssrc);
+    set_stream(made->datagram, it->config.session.media_payload_type, (uint16_t)it->next, it->config.session.media_ssrc);
     made->padding = padding;
     made->at = made->length - padding - length;
     made->digest = digest(header, payload, length);
-    made->repeats = 0;
-    made->is_marked = false;
+    made->retransmissions = 0;
+    made->is_queued = false;
     made->sent_at = it->now;
     made->was_resent = false;
     return true;
 }
 
 static int32_t expect_send(const struct sender *it, const struct kept *made, bool fits, size_t length, size_t room) {
-    if (!it->is_made) return GOZDRIT_NO_END;
+    if (!it->is_made) return GOZDRIT_EMPTY_HANDLE;
     if (!fits) return GOZDRIT_TOO_LARGE;
     if (room < made->length) return GOZDRIT_NO_ROOM;
     return made->padding > 0 && length == 0 ? GOZDRIT_PADDED_EMPTY : GOZDRIT_OK;
@@ -185,7 +167,7 @@ static int32_t expect_send(const struct sender *it, const struct kept *made, boo
 static void check_sent(int32_t answer, const uint8_t *datagram, size_t length, uint64_t sequence) {
     const gozdrit_sent *sent = lies(AREA_TOLD), *before = lay(AREA_TOLD);
     bool is_ok = answer == GOZDRIT_OK;
-    check_kept(AREA_TOLD, is_ok ? sizeof *sent : 0);
+    check_told(answer, sizeof *sent);
     check_kept(AREA_OUT, is_ok ? length : 0);
     if (!is_ok) return;
     same(length, sent->length, "sent->length");
@@ -209,7 +191,7 @@ static bool send_packet(struct sender *it, const gozdrit_header *header, const u
     bool fits = make_packet(it, &made, header, payload, length, padding);
     const gozdrit_header *lent = pointer(lend_in(AREA_STRUCT, header, sizeof *header));
     const uint8_t *octets = octets_pointer(lend_in(AREA_IN, payload, length), length);
-    gozdrit_sent *sent = pointer(lend_out(AREA_TOLD, sizeof *sent));
+    gozdrit_sent *sent = pointer(lend_told(sizeof *sent));
     uint8_t *out = octets_pointer(lend_out(AREA_OUT, room), room);
     int32_t answer = gozdrit_send(lend(it, true), lent, octets, length, padding, sent, out, room);
     end_call(expect_send(it, &made, fits, length, room), answer);
@@ -249,14 +231,14 @@ static size_t make_retransmission(struct sender *it, const struct kept *kept, ui
     memcpy(out + kept->at + 2, kept->datagram + kept->at, length - kept->at);
     memcpy(out + kept->at, kept->datagram + 2, 2);
     out[0] &= 0xdf;
-    set_stream(out, it->config.session.rtx_type, it->rtx_next, it->config.session.rtx_ssrc);
+    set_stream(out, it->config.session.rtx_payload_type, it->rtx_next, it->config.session.rtx_ssrc);
     return length + 2;
 }
 
 /* The least sequence that is to be retransmitted, or the next one where there is none. */
-static uint64_t next_marked(struct sender *it) {
+static uint64_t next_queued(struct sender *it) {
     uint64_t sequence = it->is_made ? oldest(it) : it->next;
-    while (sequence < it->next && !kept_at(it, sequence)->is_marked) sequence++;
+    while (sequence < it->next && !kept_at(it, sequence)->is_queued) sequence++;
     return sequence;
 }
 
@@ -274,21 +256,21 @@ static bool is_early(const struct sender *it, const struct kept *kept) {
 
 /* The least sequence that is to be retransmitted and fits the time, or the next one where there is none. */
 static uint64_t next_fitting(struct sender *it) {
-    uint64_t sequence = next_marked(it);
+    uint64_t sequence = next_queued(it);
     while (sequence < it->next) {
         struct kept *kept = kept_at(it, sequence);
-        if (kept->is_marked && !is_expired(it, kept) && !is_early(it, kept)) return sequence;
+        if (kept->is_queued && !is_expired(it, kept) && !is_early(it, kept)) return sequence;
         sequence++;
     }
     return sequence;
 }
 
-/* Takes the marks of what lies below that. */
+/* What lies below that is no more to be retransmitted. */
 static void pass_over(struct sender *it, uint64_t end) {
     uint64_t sequence;
-    while ((sequence = next_marked(it)) < end) {
+    while ((sequence = next_queued(it)) < end) {
         struct kept *kept = kept_at(it, sequence);
-        kept->is_marked = false;
+        kept->is_queued = false;
         if (is_expired(it, kept)) it->counts.expired++;
         else it->counts.early++;
     }
@@ -296,20 +278,19 @@ static void pass_over(struct sender *it, uint64_t end) {
 
 static void retransmit(struct sender *it, uint64_t sequence, const uint8_t *datagram, size_t length, size_t room) {
     size_t wanted = it->is_made && has_rule(it) ? GOZDRIT_MAX_DATAGRAM : length;
-    gozdrit_sent *sent = pointer(lend_out(AREA_TOLD, sizeof *sent));
+    gozdrit_sent *sent = pointer(lend_told(sizeof *sent));
     uint8_t *out = octets_pointer(lend_out(AREA_OUT, room), room);
-    gozdrit_sender *handle = lend(it, true);
-    int32_t answer = one_in(8) ? gozdrit_next_repair(handle, sent, out, room) : gozdrit_retransmit(handle, sent, out, room);
+    int32_t answer = gozdrit_retransmit(lend(it, true), sent, out, room);
     end_call(unless_none(it, room < wanted ? GOZDRIT_NO_ROOM : GOZDRIT_OK), answer);
     check_handle(it, answer);
     check_sent(answer, datagram, length, sequence);
     if (answer == GOZDRIT_OK) pass_over(it, sequence);
     if (answer == GOZDRIT_OK && length > 0) {
         struct kept *kept = kept_at(it, sequence);
-        kept->is_marked = false;
+        kept->is_queued = false;
         kept->was_resent = true;
         kept->resent_at = it->now;
-        kept->repeats++;
+        kept->retransmissions++;
         it->rtx_next++;
         it->counts.retransmissions++;
         keep(it, datagram, length, sequence, true);
@@ -322,7 +303,7 @@ static void retransmit_next(struct sender *it, bool is_short) {
     bool ruled = it->is_made && has_rule(it);
     uint64_t sequence;
     size_t length, room;
-    sequence = ruled ? next_fitting(it) : next_marked(it);
+    sequence = ruled ? next_fitting(it) : next_queued(it);
     length = sequence < it->next ? make_retransmission(it, kept_at(it, sequence), datagram) : 0;
     if (is_short && !ruled && length == 0) return;
     room = ruled ? GOZDRIT_MAX_DATAGRAM : is_short ? length : draw_room(length, GOZDRIT_MAX_DATAGRAM);
@@ -336,185 +317,81 @@ static void call_retransmit(struct sender *it) {
 }
 
 /* Moments fall too, now and then. */
-static void call_time(struct sender *it) {
+static void call_set_time(struct sender *it) {
     uint64_t now = one_in(20) ? random_bits() : it->now + below(80);
     int32_t answer;
-    begin_call(CALL_sender_time);
-    answer = gozdrit_sender_time(lend(it, true), now);
+    begin_call(CALL_sender_set_time);
+    answer = gozdrit_sender_set_time(lend(it, true), now);
     end_call(unless_none(it, GOZDRIT_OK), answer);
     if (answer == GOZDRIT_OK) it->now = now;
     check_handle(it, answer);
 }
 
-/* ---- what it hears */
-
-/* The walk over RTCP packets: 0 where there is a NACK, or the fault that decides. */
-static int32_t walk(const uint8_t *octets, size_t length) {
-    bool has_nack = false, has_feedback = false;
-    size_t at = 0;
-    if (length == 0) return GOZDRIT_FEEDBACK_SHORT;
-    while (at < length) {
-        const uint8_t *packet = octets + at;
-        bool is_nack;
-        size_t whole;
-        if (length - at < 4) return GOZDRIT_FEEDBACK_SHORT;
-        if (packet[0] >> 6 != 2) return GOZDRIT_FEEDBACK_VERSION;
-        is_nack = packet[1] == 205 && (packet[0] & 31) == 1;
-        if (is_nack && (packet[0] & 32) != 0) return GOZDRIT_FEEDBACK_PADDED;
-        whole = 4 + 4 * (size_t)get16(packet + 2);
-        if (whole > length - at) return GOZDRIT_FEEDBACK_LENGTH;
-        if (is_nack && whole < 12) return GOZDRIT_FEEDBACK_SHORT;
-        if (is_nack && whole == 12) return GOZDRIT_FEEDBACK_EMPTY;
-        has_nack |= is_nack;
-        has_feedback |= packet[1] == 205;
-        at += whole;
-    }
-    return has_nack ? 0 : has_feedback ? GOZDRIT_NOT_NACK : GOZDRIT_NOT_RTPFB;
-}
-
-/* A number that a NACK of the session names. */
-static void hear_number(struct sender *it, uint16_t number, gozdrit_told *told) {
-    uint64_t back = (uint16_t)((uint16_t)it->next - number), sequence = it->next - (back == 0 ? 65536 : back);
-    struct kept *kept = kept_at(it, sequence);
-    told->numbers++;
-    if (back == 0 || sequence < oldest(it)) {
-        told->unknown++;
-    } else if (kept->repeats == it->config.repeats) {
-        told->exhausted++;
-    } else if (!kept->is_marked) {
-        kept->is_marked = true;
-        told->marked++;
-    }
-}
-
-static void hear_nack(struct sender *it, const uint8_t *packet, size_t length, gozdrit_told *told) {
-    size_t at, bit;
-    for (at = 12; at < length; at += 4) {
-        uint16_t pid = get16(packet + at), blp = get16(packet + at + 2);
-        hear_number(it, pid, told);
-        for (bit = 0; bit < 16; bit++)
-            if (blp >> bit & 1) hear_number(it, (uint16_t)(pid + 1 + bit), told);
-    }
-    told->nacks++;
-}
-
-/* 0 where a NACK is for this sender, or 18 or 19. */
-static int32_t refuse_nack(const struct sender *it, const uint8_t *packet) {
-    if (get32(packet + 8) != it->config.session.media_ssrc) return GOZDRIT_WRONG_MEDIA;
-    if (!it->config.any_reporter && get32(packet + 4) != it->config.session.receiver_ssrc) return GOZDRIT_WRONG_REPORTER;
-    return 0;
-}
-
-/* Goes on with the NACKs of a datagram without a fault. */
-static void hear_nacks(struct sender *it, const uint8_t *octets, size_t length, gozdrit_told *told) {
-    int32_t first = 0;
-    size_t at, whole;
-    for (at = 0; at < length; at += whole) {
-        int32_t fault;
-        whole = 4 + 4 * (size_t)get16(octets + at + 2);
-        if (octets[at + 1] != 205 || (octets[at] & 31) != 1) continue;
-        fault = refuse_nack(it, octets + at);
-        if (fault == 0) {
-            hear_nack(it, octets + at, whole, told);
-            continue;
-        }
-        told->others++;
-        if (first == 0) first = fault;
-    }
-    told->kind = GOZDRIT_FEEDBACK;
-    if (told->nacks > 0) return;
-    memset(told, 0, sizeof *told);
-    told->refusal = (uint8_t)first;
-}
-
-/* What the model hears, with its counts. */
-static void hear(struct sender *it, const uint8_t *octets, size_t length, gozdrit_told *told) {
-    int32_t fault;
-    memset(told, 0, sizeof *told);
-    if (!is_rtcp(octets, length)) {
-        told->kind = GOZDRIT_MEDIA;
-        it->counts.media++;
-        return;
-    }
-    fault = walk(octets, length);
-    if (fault == GOZDRIT_NOT_RTPFB || fault == GOZDRIT_NOT_NACK) {
-        told->kind = GOZDRIT_REPORTS;
-        it->counts.reports++;
-        return;
-    }
-    told->refusal = (uint8_t)fault;
-    if (fault == 0) hear_nacks(it, octets, length, told);
-    if (told->kind == GOZDRIT_NOT_TAKEN) it->counts.refused++;
-    it->counts.nacks += told->nacks;
-    it->counts.others += told->others;
-    it->counts.numbers += told->numbers;
-    it->counts.unknown += told->unknown;
-    it->counts.exhausted += told->exhausted;
-}
+/* ---- feedback, and the rest */
 
 static void call_feedback(struct sender *it) {
     static struct datagram drawn;
-    gozdrit_told *told, expected;
+    gozdrit_outcome *outcome, expected;
     const uint8_t *octets;
     int32_t answer;
     begin_call(CALL_feedback);
     draw_feedback(&drawn, it->session, &it->fed, (uint16_t)it->next);
     octets = octets_pointer(lend_in(AREA_IN, drawn.octets, drawn.length), drawn.length);
-    told = lend_out(AREA_TOLD, sizeof *told);
-    answer = gozdrit_feedback(lend(it, true), octets, drawn.length, pointer(told));
+    outcome = lend_told(sizeof *outcome);
+    answer = gozdrit_feedback(lend(it, true), octets, drawn.length, pointer(outcome));
     end_call(unless_none(it, GOZDRIT_OK), answer);
     check_handle(it, answer);
     check_kept(AREA_IN, 0);
-    check_kept(AREA_TOLD, answer == GOZDRIT_OK ? sizeof *told : 0);
+    check_told(answer, sizeof *outcome);
     if (answer != GOZDRIT_OK) return;
     hear(it, drawn.octets, drawn.length, &expected);
-    same(expected.kind, told->kind, "told->kind");
-    same(expected.refusal, told->refusal, "told->refusal");
-    same(expected.marked, told->marked, "told->marked");
-    same(expected.nacks, told->nacks, "told->nacks");
-    same(expected.others, told->others, "told->others");
-    same(expected.numbers, told->numbers, "told->numbers");
-    same(expected.unknown, told->unknown, "told->unknown");
-    same(expected.exhausted, told->exhausted, "told->exhausted");
-    count_told(TOLD_KIND, told->kind);
-    count_told(TOLD_REFUSAL, told->refusal);
+    same(expected.kind, outcome->kind, "outcome->kind");
+    same(expected.refusal, outcome->refusal, "outcome->refusal");
+    same(expected.queued, outcome->queued, "outcome->queued");
+    same(expected.nacks, outcome->nacks, "outcome->nacks");
+    same(expected.other_nacks, outcome->other_nacks, "outcome->other_nacks");
+    same(expected.nacked, outcome->nacked, "outcome->nacked");
+    same(expected.not_in_history, outcome->not_in_history, "outcome->not_in_history");
+    same(expected.exhausted, outcome->exhausted, "outcome->exhausted");
+    count_told(OUTCOME_KIND, outcome->kind);
+    count_told(OUTCOME_REFUSAL, outcome->refusal);
 }
 
-static void call_mark_last(struct sender *it) {
-    uint32_t *marked, expected = 0;
+static void call_tail_loss_probe(struct sender *it) {
+    uint32_t *queued, expected = 0;
     int32_t answer;
-    begin_call(CALL_mark_last);
-    marked = lend_out(AREA_NUMBER, sizeof *marked);
-    answer = gozdrit_mark_last(lend(it, true), pointer(marked));
+    begin_call(CALL_tail_loss_probe);
+    queued = lend_out(AREA_NUMBER, sizeof *queued);
+    answer = gozdrit_tail_loss_probe(lend(it, true), pointer(queued));
     end_call(unless_none(it, GOZDRIT_OK), answer);
     check_handle(it, answer);
-    check_kept(AREA_NUMBER, answer == GOZDRIT_OK ? sizeof *marked : 0);
+    check_kept(AREA_NUMBER, answer == GOZDRIT_OK ? sizeof *queued : 0);
     if (answer != GOZDRIT_OK) return;
     if (it->next > it->first) {
         struct kept *kept = kept_at(it, it->next - 1);
-        expected = !kept->is_marked && kept->repeats < it->config.repeats;
-        if (expected) kept->is_marked = true;
+        expected = !kept->is_queued && kept->retransmissions < it->config.max_retransmissions;
+        if (expected) kept->is_queued = true;
     }
-    same(expected, *marked, "marked");
+    same(expected, *queued, "queued");
 }
 
 static void call_counts(struct sender *it) {
     gozdrit_send_counts *counts;
     int32_t answer;
     begin_call(CALL_sender_counts);
-    counts = lend_out(AREA_TOLD, sizeof *counts);
+    counts = lend_told(sizeof *counts);
     answer = gozdrit_sender_counts(lend(it, false), pointer(counts));
     end_call(unless_none(it, GOZDRIT_OK), answer);
     check_handle(it, answer);
-    check_kept(AREA_TOLD, answer == GOZDRIT_OK ? sizeof *counts : 0);
+    check_told(answer, sizeof *counts);
     if (answer != GOZDRIT_OK) return;
     same(it->counts.sent, counts->sent, "counts->sent");
     same(it->counts.octets, counts->octets, "counts->octets");
     same(it->counts.retransmissions, counts->retransmissions, "counts->retransmissions");
     same(it->counts.nacks, counts->nacks, "counts->nacks");
-    same(it->counts.others, counts->others, "counts->others");
-    same(it->counts.numbers, counts->numbers, "counts->numbers");
-    same(it->counts.unknown, counts->unknown, "counts->unknown");
+    same(it->counts.other_nacks, counts->other_nacks, "counts->other_nacks");
+    same(it->counts.nacked, counts->nacked, "counts->nacked");
+    same(it->counts.not_in_history, counts->not_in_history, "counts->not_in_history");
     same(it->counts.exhausted, counts->exhausted, "counts->exhausted");
     same(it->counts.media, counts->media, "counts->media");
     same(it->counts.reports, counts->reports, "counts->reports");
@@ -533,7 +410,7 @@ void call_sender(void) {
     else if (which < 500) call_send(it);
     else if (which < 700) call_feedback(it);
     else if (which < 940) call_retransmit(it);
-    else if (which < 960) call_mark_last(it);
-    else if (which < 980) call_time(it);
+    else if (which < 960) call_tail_loss_probe(it);
+    else if (which < 980) call_set_time(it);
     else call_counts(it);
 }

@@ -47,7 +47,7 @@ int32_t extend(const struct window *window, uint16_t number, uint64_t *sequence)
     uint64_t highest = window->highest, ahead = (uint16_t)(number - (uint16_t)highest), limit = (uint64_t)1 << 48;
     *sequence = 65536 + (uint64_t)number;
     if (!window->has_started) return GOZDRIT_OK;
-    if (ahead >= 16384 && ahead <= 49152) return GOZDRIT_FAR;
+    if (ahead >= 16384 && ahead <= 49152) return GOZDRIT_TOO_FAR;
     *sequence = ahead < 16384 ? highest + ahead : highest - (65536 - ahead);
     return *sequence < limit ? GOZDRIT_OK : GOZDRIT_PAST_END; /* below 0 it is above the limit */
 }

@@ -21,19 +21,20 @@ bool is_rtcp(const uint8_t *octets, size_t length) { return length >= 2 && octet
 static int32_t read_lists(const uint8_t *octets, size_t length, struct packet *packet) {
     gozdrit_header *header = &packet->header;
     unsigned i;
-    header->source_count = octets[0] & 15;
-    packet->at = 12 + 4 * (size_t)header->source_count;
+    header->csrc_count = octets[0] & 15;
+    packet->at = 12 + 4 * (size_t)header->csrc_count;
     if (packet->at > length) return GOZDRIT_RTP_CSRC_LIST;
-    for (i = 0; i < header->source_count; i++) header->sources[i] = get32(octets + 12 + 4 * i);
+    for (i = 0; i < header->csrc_count; i++) header->csrcs[i] = get32(octets + 12 + 4 * i);
     header->has_extension = octets[0] >> 4 & 1;
     if (!header->has_extension) return 0;
     if (length - packet->at < 4) return GOZDRIT_RTP_EXTENSION;
-    header->profile = get16(octets + packet->at);
+    header->extension_profile = get16(octets + packet->at);
     packet->words = get16(octets + packet->at + 2);
     packet->at += 4;
     if (length - packet->at < 4 * (size_t)packet->words) return GOZDRIT_RTP_EXTENSION;
-    for (i = 0; i < packet->words && i < GOZDRIT_MAX_WORDS; i++) header->words[i] = get32(octets + packet->at + 4 * i);
-    header->word_count = (uint8_t)i;
+    for (i = 0; i < packet->words && i < GOZDRIT_MAX_EXTENSION_WORDS; i++)
+        header->extension[i] = get32(octets + packet->at + 4 * i);
+    header->extension_words = (uint8_t)i;
     packet->at += 4 * (size_t)packet->words;
     return 0;
 }
@@ -62,22 +63,22 @@ void read_packet(const uint8_t *octets, size_t length, struct packet *packet) {
 }
 
 size_t packet_length(const gozdrit_header *header, size_t length, uint8_t padding) {
-    size_t extension = header->has_extension ? 4 + 4 * (size_t)header->word_count : 0;
-    return 12 + 4 * (size_t)header->source_count + extension + length + padding;
+    size_t extension = header->has_extension ? 4 + 4 * (size_t)header->extension_words : 0;
+    return 12 + 4 * (size_t)header->csrc_count + extension + length + padding;
 }
 
 size_t write_packet(uint8_t *out, const gozdrit_header *header, const uint8_t *payload, size_t length, uint8_t padding) {
     size_t at = 12;
     unsigned i;
-    out[0] = (uint8_t)(128 | (padding ? 32 : 0) | (header->has_extension ? 16 : 0) | header->source_count);
+    out[0] = (uint8_t)(128 | (padding ? 32 : 0) | (header->has_extension ? 16 : 0) | header->csrc_count);
     out[1] = header->marker ? 128 : 0;
     put32(out + 4, header->timestamp);
-    for (i = 0; i < header->source_count; i++, at += 4) put32(out + at, header->sources[i]);
+    for (i = 0; i < header->csrc_count; i++, at += 4) put32(out + at, header->csrcs[i]);
     if (header->has_extension) {
-        put16(out + at, header->profile);
-        put16(out + at + 2, header->word_count);
+        put16(out + at, header->extension_profile);
+        put16(out + at + 2, header->extension_words);
         at += 4;
-        for (i = 0; i < header->word_count; i++, at += 4) put32(out + at, header->words[i]);
+        for (i = 0; i < header->extension_words; i++, at += 4) put32(out + at, header->extension[i]);
     }
     if (length > 0) memcpy(out + at, payload, length);
     at += length;
@@ -99,12 +100,12 @@ static uint64_t mix(uint64_t sum, uint64_t bits) {
 }
 
 uint64_t digest(const gozdrit_header *header, const uint8_t *payload, size_t length) {
-    uint64_t sum = mix(header->timestamp, (uint64_t)(header->marker != 0) << 8 | header->source_count);
+    uint64_t sum = mix(header->timestamp, (uint64_t)(header->marker != 0) << 8 | header->csrc_count);
     unsigned i;
-    for (i = 0; i < header->source_count; i++) sum = mix(sum, header->sources[i]);
+    for (i = 0; i < header->csrc_count; i++) sum = mix(sum, header->csrcs[i]);
     if (header->has_extension) {
-        sum = mix(sum, (uint64_t)header->profile << 16 | (uint64_t)header->word_count << 8 | 1);
-        for (i = 0; i < header->word_count; i++) sum = mix(sum, header->words[i]);
+        sum = mix(sum, (uint64_t)header->extension_profile << 16 | (uint64_t)header->extension_words << 8 | 1);
+        for (i = 0; i < header->extension_words; i++) sum = mix(sum, header->extension[i]);
     }
     sum = mix(sum, length);
     while (length > 0) {
@@ -119,15 +120,16 @@ uint64_t digest(const gozdrit_header *header, const uint8_t *payload, size_t len
 }
 
 void check_header_rest(const gozdrit_header *before, const gozdrit_header *after) {
-    size_t sources = after->source_count, words = after->word_count;
-    holds(sources <= GOZDRIT_MAX_SOURCES && words <= GOZDRIT_MAX_WORDS, "the counts of a header are within its arrays");
+    size_t csrcs = after->csrc_count, words = after->extension_words;
+    holds(csrcs <= GOZDRIT_MAX_CSRCS && words <= GOZDRIT_MAX_EXTENSION_WORDS,
+          "the counts of a header are within its arrays");
     holds(after->has_extension <= 1 && after->marker <= 1, "what is true is 1");
     if (!after->has_extension) {
-        same(0, words, "word_count without an extension");
-        same(before->profile, after->profile, "profile without an extension");
+        same(0, words, "extension_words without an extension");
+        same(before->extension_profile, after->extension_profile, "extension_profile without an extension");
     }
-    holds(memcmp(before->sources + sources, after->sources + sources, 4 * (GOZDRIT_MAX_SOURCES - sources)) == 0,
-          "the sources behind their count are as they were");
-    holds(memcmp(before->words + words, after->words + words, 4 * (GOZDRIT_MAX_WORDS - words)) == 0,
+    holds(memcmp(before->csrcs + csrcs, after->csrcs + csrcs, 4 * (GOZDRIT_MAX_CSRCS - csrcs)) == 0,
+          "the CSRCs behind their count are as they were");
+    holds(memcmp(before->extension + words, after->extension + words, 4 * (GOZDRIT_MAX_EXTENSION_WORDS - words)) == 0,
           "the words behind their count are as they were");
 }

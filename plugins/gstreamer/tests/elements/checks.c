@@ -210,7 +210,7 @@ int main(int count, char **words) {
     static const struct { const gchar *name; void (*test)(void); } tests[] = {
         {"send", test_send},       {"feedback", test_feedback}, {"tail", test_tail},         {"receive", test_receive},
         {"times", test_times},     {"streams", test_streams},   {"restarts", test_restarts}, {"states", test_states},
-        {"flushes", test_flushes}, {"caps", test_rtx_caps},      {"silence", test_silence},
+        {"flushes", test_flushes}, {"caps", test_rtx_caps},      {"silence", test_silence}, {"storm", test_storm},
     };
     gst_init(NULL, NULL);
     for (guint i = 0; i < G_N_ELEMENTS(tests); i++) {

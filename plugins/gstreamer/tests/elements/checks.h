@@ -98,5 +98,6 @@ void test_flushes(void);
 void test_restarts(void);
 void test_rtx_caps(void);
 void test_states(void);
+void test_storm(void);
 
 #endif

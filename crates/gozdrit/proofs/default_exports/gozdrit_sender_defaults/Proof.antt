@@ -1,6 +1,8 @@
 -- `gozdrit_sender_defaults` hands what it was passed to `sender_defaults_lent`, and gives the memory back.
-use Rattle.gozdrit.proofs.Steps.{ℤ, [], ◌∷◌, refl, Option, proved, word, word-Good, id⊢, emp, ex, ex_i, sep, fact, fact_i, tables, sem, ‵, raw, ◌$◌, ◌∵◌, !, qed, by, move, drop, use0, use1, join, fjoin, enter, of_opd, stop, fld, no_more, and_then, returns, alloc_all, pass_all, free_all, look_at, get, get_in, sets, lands_as, agg, sub, whole, rawptr_vals, rawptr_Tells, nothing, heard, calls_at, on_entry, Vals, triple_of, framed, value_lies_at, Lent, ptr_good, value_made, a_value, code_val, answer1_had, drops, answered, gone_ptr, moved_to, leave}
+use Rattle.gozdrit.proofs.Steps.{usize, uint_Makes, owned, ℕ, ℤ, List, [], ◌∷◌, refl, Option, proved, word, word-Good, id⊢, emp, ex, ex_i, sep, fact, fact_i, tables, sem, ‵, raw, ◌⊛◌, ◌$◌, ◌∵◌, !, qed, by, move, drop, use0, use1, split, join, fjoin, enter, of_opd, stop, fld, no_more, and_then, returns, alloc_all, pass_all, free_all, look_at, get, get_in, sets, lands_as, agg, sub, whole, w64, uint_vals, uint_Tells, rawptr_vals, rawptr_Tells, nothing, heard, calls_at, on_entry, Vals, triple_of, framed, sized_lies_at, LentSized, ptr_good, sized_made, a_sized, code_val, answer1_had, drops, answered, gone_ptr, gone_int, sized_moved, leave}
 use Rattle.gozdrit.specs.Lent.{SenderDefaultsFor}
+use Rattle.gozdrit.specs.Sizes.{HasRest}
+use Rattle.gozdrit.specs.declared.sizes.TheConstants.{SENDER_CONFIG}
 use Rattle.gozdrit.specs.contracts.config.SenderFields.{the_row as sender_config_row}
 use Rattle.gozdrit.specs.declared.config.SenderFields.{SenderFields}
 use Rattle.gozdrit.specs.contracts.default_exports.gozdrit_sender_defaults as f
@@ -12,30 +14,30 @@ use Rattle.gozdrit.proofs.default_exports.sender_defaults_lent.Met.{met}
 pub gozdrit_sender_defaults_spec : {M : Type 1} → statement M
 gozdrit_sender_defaults_spec 𝓤 𝓛 𝓜 𝓡 wired =
     let c = f.clauses 𝓛 𝓜.mem 𝓡.returns in let 𝓣 = tables 𝓤 𝓛.H 𝓜 𝓡 𝓡.env in
-    proved 𝓛 f.ended (drops f.ended.signature.params f.ended.kept) c 𝓜 𝓡 (gone_ptr 𝓛, tt)
+    proved 𝓛 f.ended (drops f.ended.signature.params f.ended.kept) c 𝓜 𝓡 (gone_ptr 𝓛, (gone_int 𝓛 w64, tt))
     f.Key.name code.function (code.unfolded 𝓤 𝓛.H 𝓜 𝓡 wired)
-    (λ κs. (rawptr_vals, tt))
-    (λ κs. (rawptr_Tells, tt)) (λ κs qs bounds a before are.
-    let p1 = a.0 in
-    let vss : Vals f.signature κs = (rawptr_vals p1, tt) in
-    let d1 : (Lent sender_config_row).Denot = record { at = p1; value = before } in
+    (λ κs. (rawptr_vals, (uint_vals w64, tt)))
+    (λ κs. (rawptr_Tells, (uint_Tells w64, tt))) (λ κs qs bounds a before are.
+    let p1 = a.0 in let n2 = a.1.0 in let fits2 = are.1.0.1 in let has : Type 0 = HasRest (λ (fields : SenderFields). n2) SENDER_CONFIG before.0 before.1 in
+    let vss : Vals f.signature κs = (rawptr_vals p1, (uint_vals w64 n2, tt)) in
+    let d1 : (LentSized sender_config_row).Denot = record { at = p1; value = before.0; rest = before.1 } in
     let G = triple_of 𝓛 g.signature (g.spec 𝓛 𝓜.mem 𝓡.returns) in
-    let z : G.Ghost = ((κs, qs, bounds, (d1, tt), (word p1 ∷ [], tt)), tt) in
-    let F = λ (r : ℤ) (after : Option SenderFields). sep 𝓤 (sem 𝓛 (value_lies_at sender_config_row p1 after)) (fact 𝓤 (SenderDefaultsFor before r after)) in
-    qed 𝓛 (raw (on_entry 𝓛 f.signature κs qs a vss) ∷ (‵ (value_lies_at sender_config_row p1 before)) ∷ []) ∵ drop ! $
+    let z : G.Ghost = ((κs, qs, bounds, (d1, (n2, tt)), (word p1 ∷ [], (uint_vals w64 n2, tt))), tt) in
+    let F = λ (r : ℤ) (after : Option SenderFields × List ℕ). sep 𝓤 (sem 𝓛 (sized_lies_at sender_config_row p1 after.0 after.1)) (fact 𝓤 (SenderDefaultsFor n2 before.0 before.1 r after.0 after.1)) in
+    qed 𝓛 (raw (on_entry 𝓛 f.signature κs qs a vss) ∷ (raw (fact 𝓤 has) ⊛ ‵ (sized_lies_at sender_config_row p1 before.0 before.1)) ∷ []) ∵ drop ! $ split ! $ heard ! has (λ rest.
     -- what `sender_defaults_lent` takes, from the last parameter on
-    nothing ! $ move ! (1 ∷ []) $ value_made sender_config_row ! d1 $ fjoin ! $
-    nothing ! $ join ! $ nothing ! $ move ! (1 ∷ 0 ∷ []) $ join ! $ use1 𝓛 (raw (G.pre z)) (id⊢ 𝓤 _) $
-    enter ! _ _ _ _ _ $ alloc_all ! (λ l. pass_all ! refl (ptr_good p1, tt) $
+    nothing ! $ owned ! usize _ (uint_Makes 𝓛 w64) n2 _ (refl, fits2) $ fjoin ! $ move ! (1 ∷ []) $ sized_made sender_config_row ! d1 $ fjoin ! $
+    nothing ! $ join ! $ use0 𝓛 (raw (fact 𝓤 has)) (fact_i 𝓤 has (emp 𝓤) rest) $ move ! (1 ∷ 0 ∷ []) $ join ! $ use1 𝓛 (raw (G.pre z)) (id⊢ 𝓤 _) $
+    enter ! _ _ _ _ _ $ alloc_all ! (λ l. pass_all ! refl (ptr_good p1, ((tt, record { fits = fits2 }), tt)) $
     sets ! (agg ! (and_then ! (get ! refl) (no_more !))) refl (word-Good [] p1) $
     calls_at ! (framed 𝓤 𝓛.H 𝓜 𝓣) G (met 𝓤 𝓛 𝓜 𝓡 (code.calls-gozdrit::default_exports::sender_defaults_lent 𝓡.env wired)) z
-    (and_then ! (get ! refl) (no_more !)) (λ v.
-    answered ! tt g.ended (g.clauses 𝓛 𝓜.mem 𝓡.returns) z v (λ r ws. answer1_had (a_value sender_config_row) ! r v (λ is whole' good. move ! (2 ∷ []) $ heard ! _ (λ said.
+    (and_then ! (get ! refl) (and_then ! (get ! refl) (no_more !))) (λ v.
+    answered ! tt g.ended (g.clauses 𝓛 𝓜.mem 𝓡.returns) z v (λ r ws. answer1_had (a_sized sender_config_row) ! r v (λ is whole' good. move ! (2 ∷ []) $ heard ! _ (λ said.
     -- [the code; what lies at the pointers]
     lands_as ! is refl whole' $ sets ! (of_opd ! (get_in ! (fld ! refl (stop !)) (sub ! 0 refl (whole !)))) refl good $
     returns ! (look_at ! 0 refl) $ free_all ! refl $
-    let after : Option SenderFields = r.1.value in let fits = said.1 in
-    use0 𝓛 (raw (fact 𝓤 (SenderDefaultsFor before r.0 after))) (fact_i 𝓤 (SenderDefaultsFor before r.0 after) (emp 𝓤) fits) $
-    move ! (2 ∷ []) $ moved_to ! sender_config_row r.1.value (said.0) $ join ! $
+    let after : Option SenderFields × List ℕ = (r.1.value, r.1.rest) in let fits = said.1 in
+    use0 𝓛 (raw (fact 𝓤 (SenderDefaultsFor n2 before.0 before.1 r.0 after.0 after.1))) (fact_i 𝓤 (SenderDefaultsFor n2 before.0 before.1 r.0 after.0 after.1) (emp 𝓤) fits) $
+    move ! (2 ∷ []) $ sized_moved ! sender_config_row r.1.value r.1.rest (said.0) $ join ! $
     use1 𝓛 (raw (ex 𝓤 (F r.0))) (ex_i 𝓤 (F r.0) after) $
-    move ! (1 ∷ 0 ∷ []) $ by ! (leave 𝓛 f.ended c ((κs, qs, bounds, a, vss), before) (code_val r.0) r.0 (tt, tt) (id⊢ 𝓤 (emp 𝓤)))))))))
+    move ! (1 ∷ 0 ∷ []) $ by ! (leave 𝓛 f.ended c ((κs, qs, bounds, a, vss), before) (code_val r.0) r.0 (tt, (tt, tt)) (id⊢ 𝓤 (emp 𝓤))))))))))

@@ -2,9 +2,9 @@
 use Rattle.gozdrit.proofs.Steps.{ℕ, ℤ, List, [], ◌∷◌, refl, w64, Option, proved, word, word-Good, id⊢, emp, ex, ex_i, sep, fact, fact_i, tables, sem, ‵, raw, ◌⊛◌, ◌$◌, ◌∵◌, !, qed, by, move, drop, use0, use1, split, join, fjoin, enter, of_opd, stop, fld, no_more, and_then, returns, alloc_all, pass_all, free_all, look_at, get, get_in, sets, lands_as, agg, sub, whole, u8, uint_vals, uint_Tells, rawptr_vals, rawptr_Tells, nothing, heard, calls_at, on_entry, Vals, triple_of, framed, value_lies_at, slice_lies_at, Lent, ptr_good, value_made, a_value, a_slice, code_val, answer3_had, LentSlice, lent_slice_val, lent_slice-Good, slice_made, drops, answered, gone_ptr, gone_int, moved_to, slice_moved, leave}
 use Rattle.gozdrit.specs.Lent.{FeedbackFor}
 use Rattle.gozdrit.specs.Ends.{Sender, SenderRow}
-use Rattle.gozdrit.specs.contracts.heard.ToldFields.{the_row as told_row}
+use Rattle.gozdrit.specs.contracts.heard.OutcomeFields.{the_row as told_row}
 use Rattle.gozdrit.specs.declared.handle.Handle.{Handle}
-use Rattle.gozdrit.specs.declared.heard.ToldFields.{ToldFields}
+use Rattle.gozdrit.specs.declared.heard.OutcomeFields.{OutcomeFields}
 use Rattle.gozdrit.specs.contracts.sender_exports.gozdrit_feedback as f
 use Rattle.gozdrit.proofs.sender_exports.gozdrit_feedback.Statement.{statement}
 use Rattle.gozdrit.proofs.sender_exports.gozdrit_feedback.Code as code
@@ -23,7 +23,7 @@ gozdrit_feedback_spec 𝓤 𝓛 𝓜 𝓡 wired =
     let d1 : (Lent SenderRow).Denot = record { at = p1; value = before.0 } in let d2 : (LentSlice u8).Denot = record { at = p2; len = n2; items = before.1 } in let d3 : (Lent told_row).Denot = record { at = p3; value = before.2 } in
     let G = triple_of 𝓛 g.signature (g.spec 𝓛 𝓜.mem 𝓡.returns) in
     let z : G.Ghost = ((κs, qs, bounds, (d1, (d2, (d3, tt))), (word p1 ∷ [], (lent_slice_val p2 n2 ∷ [], (word p3 ∷ [], tt)))), tt) in
-    let F = λ (r : ℤ) (after : Option (Handle Sender) × Option (List ℕ) × Option ToldFields). sep 𝓤 (sem 𝓛 (value_lies_at SenderRow p1 after.0)) (sep 𝓤 (sem 𝓛 (slice_lies_at u8 p2 n2 after.1)) (sep 𝓤 (sem 𝓛 (value_lies_at told_row p3 after.2)) (fact 𝓤 (FeedbackFor before.0 before.1 before.2 r after.0 after.1 after.2)))) in
+    let F = λ (r : ℤ) (after : Option (Handle Sender) × Option (List ℕ) × Option OutcomeFields). sep 𝓤 (sem 𝓛 (value_lies_at SenderRow p1 after.0)) (sep 𝓤 (sem 𝓛 (slice_lies_at u8 p2 n2 after.1)) (sep 𝓤 (sem 𝓛 (value_lies_at told_row p3 after.2)) (fact 𝓤 (FeedbackFor before.0 before.1 before.2 r after.0 after.1 after.2)))) in
     qed 𝓛 (raw (on_entry 𝓛 f.signature κs qs a vss) ∷ (‵ (value_lies_at SenderRow p1 before.0) ⊛ ‵ (slice_lies_at u8 p2 n2 before.1) ⊛ ‵ (value_lies_at told_row p3 before.2)) ∷ []) ∵ drop ! $ split ! $ move ! (1 ∷ []) $ split ! $ move ! (1 ∷ []) $
     -- what `feedback_lent` takes, from the last parameter on
     nothing ! $ move ! (1 ∷ []) $ value_made told_row ! d3 $ fjoin ! $ move ! (1 ∷ []) $ slice_made u8 ! d2 fits2 $ fjoin ! $ move ! (1 ∷ []) $ value_made SenderRow ! d1 $ fjoin ! $
@@ -36,7 +36,7 @@ gozdrit_feedback_spec 𝓤 𝓛 𝓜 𝓡 wired =
     -- [the code; what lies at the pointers]
     lands_as ! is refl whole' $ sets ! (of_opd ! (get_in ! (fld ! refl (stop !)) (sub ! 0 refl (whole !)))) refl good $
     returns ! (look_at ! 0 refl) $ free_all ! refl $
-    let after : Option (Handle Sender) × Option (List ℕ) × Option ToldFields = (r.1.value, r.2.items, r.3.value) in let fits = said.1 in
+    let after : Option (Handle Sender) × Option (List ℕ) × Option OutcomeFields = (r.1.value, r.2.items, r.3.value) in let fits = said.1 in
     use0 𝓛 (raw (fact 𝓤 (FeedbackFor before.0 before.1 before.2 r.0 after.0 after.1 after.2))) (fact_i 𝓤 (FeedbackFor before.0 before.1 before.2 r.0 after.0 after.1 after.2) (emp 𝓤) fits) $
     move ! (4 ∷ []) $ moved_to ! told_row r.3.value (said.0.3) $ join ! $ move ! (3 ∷ []) $ slice_moved ! u8 r.2.items (said.0.1) (said.0.2) $ join ! $ move ! (2 ∷ []) $ moved_to ! SenderRow r.1.value (said.0.0) $ join ! $
     use1 𝓛 (raw (ex 𝓤 (F r.0))) (ex_i 𝓤 (F r.0) after) $

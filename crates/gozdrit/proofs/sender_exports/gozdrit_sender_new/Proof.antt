@@ -1,6 +1,8 @@
 -- `gozdrit_sender_new` hands what it was passed to `sender_new_lent`, and gives the memory back.
-use Rattle.gozdrit.proofs.Steps.{ℤ, [], ◌∷◌, refl, Option, proved, word, word-Good, heap_val, heap_Tells, id⊢, emp, ex, ex_i, sep, fact, fact_i, tables, sem, ‵, raw, ◌⊛◌, ◌$◌, ◌∵◌, !, qed, by, move, drop, use0, use1, split, join, fjoin, enter, of_opd, stop, fld, no_more, and_then, returns, alloc_all, pass_all, free_all, look_at, get, get_in, sets, lands_as, agg, sub, whole, rawptr_vals, rawptr_Tells, nothing, heard, calls_at, on_entry, Vals, triple_of, framed, value_lies_at, Lent, ptr_good, value_made, a_value, code_val, answer2_had, drops, answered, gone_ptr, gone_heap, alloc_made, moved_to, leave}
+use Rattle.gozdrit.proofs.Steps.{ℕ, ℤ, List, [], ◌∷◌, refl, Option, proved, word, word-Good, heap_val, heap_Tells, id⊢, emp, ex, ex_i, sep, fact, fact_i, tables, sem, ‵, raw, ◌⊛◌, ◌$◌, ◌∵◌, !, qed, by, move, drop, use0, use1, split, join, fjoin, enter, of_opd, stop, fld, no_more, and_then, returns, alloc_all, pass_all, free_all, look_at, get, get_in, sets, lands_as, agg, sub, whole, rawptr_vals, rawptr_Tells, nothing, heard, calls_at, on_entry, Vals, triple_of, framed, value_lies_at, sized_lies_at, Lent, LentSized, ptr_good, value_made, sized_made, a_value, a_sized, code_val, answer2_had, drops, answered, gone_ptr, gone_heap, alloc_made, moved_to, sized_moved, leave}
 use Rattle.gozdrit.specs.Lent.{SenderNewFor}
+use Rattle.gozdrit.specs.Sizes.{HasRest}
+use Rattle.gozdrit.specs.declared.sizes.TheConstants.{SENDER_CONFIG}
 use Rattle.gozdrit.specs.Ends.{Sender, SenderRow}
 use Rattle.gozdrit.specs.contracts.config.SenderFields.{the_row as sender_config_row}
 use Rattle.gozdrit.specs.declared.config.SenderFields.{SenderFields}
@@ -18,26 +20,26 @@ gozdrit_sender_new_spec 𝓤 𝓛 𝓜 𝓡 wired =
     f.Key.name code.function (code.unfolded 𝓤 𝓛.H 𝓜 𝓡 wired)
     (λ κs. ((λ _. heap_val ∷ []), (rawptr_vals, (rawptr_vals, tt))))
     (λ κs. (heap_Tells, (rawptr_Tells, (rawptr_Tells, tt)))) (λ κs qs bounds a before are.
-    let p1 = a.1.0 in let p2 = a.1.1.0 in
+    let p1 = a.1.0 in let p2 = a.1.1.0 in let has : Type 0 = HasRest (λ (fields : SenderFields). fields.size) SENDER_CONFIG before.0 before.1 in
     let vss : Vals f.signature κs = (heap_val ∷ [], (rawptr_vals p1, (rawptr_vals p2, tt))) in
-    let d1 : (Lent sender_config_row).Denot = record { at = p1; value = before.0 } in let d2 : (Lent SenderRow).Denot = record { at = p2; value = before.1 } in
+    let d1 : (LentSized sender_config_row).Denot = record { at = p1; value = before.0; rest = before.1 } in let d2 : (Lent SenderRow).Denot = record { at = p2; value = before.2 } in
     let G = triple_of 𝓛 g.signature (g.spec 𝓛 𝓜.mem 𝓡.returns) in
     let z : G.Ghost = ((κs, qs, bounds, (a.0, (d1, (d2, tt))), (heap_val ∷ [], (word p1 ∷ [], (word p2 ∷ [], tt)))), tt) in
-    let F = λ (r : ℤ) (after : Option SenderFields × Option (Handle Sender)). sep 𝓤 (sem 𝓛 (value_lies_at sender_config_row p1 after.0)) (sep 𝓤 (sem 𝓛 (value_lies_at SenderRow p2 after.1)) (fact 𝓤 (SenderNewFor before.0 before.1 r after.0 after.1))) in
-    qed 𝓛 (raw (on_entry 𝓛 f.signature κs qs a vss) ∷ (‵ (value_lies_at sender_config_row p1 before.0) ⊛ ‵ (value_lies_at SenderRow p2 before.1)) ∷ []) ∵ drop ! $ split ! $ move ! (1 ∷ []) $
+    let F = λ (r : ℤ) (after : Option SenderFields × List ℕ × Option (Handle Sender)). sep 𝓤 (sem 𝓛 (sized_lies_at sender_config_row p1 after.0 after.1)) (sep 𝓤 (sem 𝓛 (value_lies_at SenderRow p2 after.2)) (fact 𝓤 (SenderNewFor before.0 before.1 before.2 r after.0 after.1 after.2))) in
+    qed 𝓛 (raw (on_entry 𝓛 f.signature κs qs a vss) ∷ (raw (fact 𝓤 has) ⊛ ‵ (sized_lies_at sender_config_row p1 before.0 before.1) ⊛ ‵ (value_lies_at SenderRow p2 before.2)) ∷ []) ∵ drop ! $ split ! $ heard ! has (λ rest. split ! $ move ! (1 ∷ []) $
     -- what `sender_new_lent` takes, from the last parameter on
-    nothing ! $ move ! (1 ∷ []) $ value_made SenderRow ! d2 $ fjoin ! $ move ! (1 ∷ []) $ value_made sender_config_row ! d1 $ fjoin ! $ alloc_made ! a.0 are.0 $ fjoin ! $
-    nothing ! $ join ! $ nothing ! $ move ! (1 ∷ 0 ∷ []) $ join ! $ use1 𝓛 (raw (G.pre z)) (id⊢ 𝓤 _) $
+    nothing ! $ move ! (1 ∷ []) $ value_made SenderRow ! d2 $ fjoin ! $ move ! (1 ∷ []) $ sized_made sender_config_row ! d1 $ fjoin ! $ alloc_made ! a.0 are.0 $ fjoin ! $
+    nothing ! $ join ! $ use0 𝓛 (raw (fact 𝓤 has)) (fact_i 𝓤 has (emp 𝓤) rest) $ move ! (1 ∷ 0 ∷ []) $ join ! $ use1 𝓛 (raw (G.pre z)) (id⊢ 𝓤 _) $
     enter ! _ _ _ _ _ $ alloc_all ! (λ l. pass_all ! refl ((tt, ((tt, tt), tt)), (ptr_good p1, (ptr_good p2, tt))) $
     sets ! (agg ! (and_then ! (get ! refl) (no_more !))) refl (word-Good [] p1) $ sets ! (of_opd ! (get ! refl)) refl (ptr_good p2) $ sets ! (agg ! (and_then ! (get ! refl) (no_more !))) refl (word-Good [] p2) $
     calls_at ! (framed 𝓤 𝓛.H 𝓜 𝓣) G (met 𝓤 𝓛 𝓜 𝓡 (code.calls-gozdrit::sender_exports::sender_new_lent 𝓡.env wired)) z
     (and_then ! (get ! refl) (and_then ! (get ! refl) (and_then ! (get ! refl) (no_more !)))) (λ v.
-    answered ! tt g.ended (g.clauses 𝓛 𝓜.mem 𝓡.returns) z v (λ r ws. answer2_had (a_value sender_config_row) (a_value SenderRow) ! r v (λ is whole' good. move ! (3 ∷ []) $ heard ! _ (λ said.
+    answered ! tt g.ended (g.clauses 𝓛 𝓜.mem 𝓡.returns) z v (λ r ws. answer2_had (a_sized sender_config_row) (a_value SenderRow) ! r v (λ is whole' good. move ! (3 ∷ []) $ heard ! _ (λ said.
     -- [the code; what lies at the pointers]
     lands_as ! is refl whole' $ sets ! (of_opd ! (get_in ! (fld ! refl (stop !)) (sub ! 0 refl (whole !)))) refl good $
     returns ! (look_at ! 0 refl) $ free_all ! refl $
-    let after : Option SenderFields × Option (Handle Sender) = (r.1.value, r.2.value) in let fits = said.1 in
-    use0 𝓛 (raw (fact 𝓤 (SenderNewFor before.0 before.1 r.0 after.0 after.1))) (fact_i 𝓤 (SenderNewFor before.0 before.1 r.0 after.0 after.1) (emp 𝓤) fits) $
-    move ! (3 ∷ []) $ moved_to ! SenderRow r.2.value (said.0.1) $ join ! $ move ! (2 ∷ []) $ moved_to ! sender_config_row r.1.value (said.0.0) $ join ! $
+    let after : Option SenderFields × List ℕ × Option (Handle Sender) = (r.1.value, r.1.rest, r.2.value) in let fits = said.1 in
+    use0 𝓛 (raw (fact 𝓤 (SenderNewFor before.0 before.1 before.2 r.0 after.0 after.1 after.2))) (fact_i 𝓤 (SenderNewFor before.0 before.1 before.2 r.0 after.0 after.1 after.2) (emp 𝓤) fits) $
+    move ! (3 ∷ []) $ moved_to ! SenderRow r.2.value (said.0.1) $ join ! $ move ! (2 ∷ []) $ sized_moved ! sender_config_row r.1.value r.1.rest (said.0.0) $ join ! $
     use1 𝓛 (raw (ex 𝓤 (F r.0))) (ex_i 𝓤 (F r.0) after) $
-    move ! (1 ∷ 0 ∷ []) $ by ! (leave 𝓛 f.ended c ((κs, qs, bounds, a, vss), before) (code_val r.0) r.0 (tt, (tt, (tt, tt))) (id⊢ 𝓤 (emp 𝓤)))))))))
+    move ! (1 ∷ 0 ∷ []) $ by ! (leave 𝓛 f.ended c ((κs, qs, bounds, a, vss), before) (code_val r.0) r.0 (tt, (tt, (tt, tt))) (id⊢ 𝓤 (emp 𝓤))))))))))

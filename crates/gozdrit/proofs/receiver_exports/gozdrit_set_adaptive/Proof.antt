@@ -1,16 +1,16 @@
--- `gozdrit_follow` hands what it was passed to `follow_lent`, and gives the memory back.
+-- `gozdrit_set_adaptive` hands what it was passed to `follow_lent`, and gives the memory back.
 use Rattle.gozdrit.proofs.Steps.{ℤ, [], ◌∷◌, refl, w8, Option, proved, word, word-Good, id⊢, emp, ex, ex_i, sep, fact, fact_i, tables, sem, ‵, raw, ◌$◌, ◌∵◌, !, qed, by, move, drop, use0, use1, join, fjoin, enter, of_opd, stop, fld, no_more, and_then, returns, alloc_all, pass_all, free_all, look_at, get, get_in, sets, lands_as, agg, sub, whole, u8, uint_vals, uint_Tells, uint_Makes, rawptr_vals, rawptr_Tells, nothing, heard, owned, calls_at, on_entry, Vals, triple_of, framed, value_lies_at, Lent, ptr_good, value_made, a_value, code_val, answer1_had, drops, answered, gone_ptr, gone_int, moved_to, leave}
 use Rattle.gozdrit.specs.Lent.{FollowFor}
 use Rattle.gozdrit.specs.Ends.{Receiver, ReceiverRow}
 use Rattle.gozdrit.specs.declared.handle.Handle.{Handle}
-use Rattle.gozdrit.specs.contracts.receiver_exports.gozdrit_follow as f
-use Rattle.gozdrit.proofs.receiver_exports.gozdrit_follow.Statement.{statement}
-use Rattle.gozdrit.proofs.receiver_exports.gozdrit_follow.Code as code
+use Rattle.gozdrit.specs.contracts.receiver_exports.gozdrit_set_adaptive as f
+use Rattle.gozdrit.proofs.receiver_exports.gozdrit_set_adaptive.Statement.{statement}
+use Rattle.gozdrit.proofs.receiver_exports.gozdrit_set_adaptive.Code as code
 use Rattle.gozdrit.specs.contracts.receiver_exports.follow_lent as g
 use Rattle.gozdrit.proofs.receiver_exports.follow_lent.Met.{met}
 
-pub gozdrit_follow_spec : {M : Type 1} → statement M
-gozdrit_follow_spec 𝓤 𝓛 𝓜 𝓡 wired =
+pub gozdrit_set_adaptive_spec : {M : Type 1} → statement M
+gozdrit_set_adaptive_spec 𝓤 𝓛 𝓜 𝓡 wired =
     let c = f.clauses 𝓛 𝓜.mem 𝓡.returns in let 𝓣 = tables 𝓤 𝓛.H 𝓜 𝓡 𝓡.env in
     proved 𝓛 f.ended (drops f.ended.signature.params f.ended.kept) c 𝓜 𝓡 (gone_ptr 𝓛, (gone_int 𝓛 w8, tt))
     f.Key.name code.function (code.unfolded 𝓤 𝓛.H 𝓜 𝓡 wired)

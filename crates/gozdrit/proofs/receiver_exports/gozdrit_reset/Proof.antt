@@ -1,16 +1,16 @@
--- `gozdrit_restart` hands what it was passed to `restart_lent`, and gives the memory back.
+-- `gozdrit_reset` hands what it was passed to `restart_lent`, and gives the memory back.
 use Rattle.gozdrit.proofs.Steps.{ℤ, [], ◌∷◌, refl, Option, proved, word, word-Good, id⊢, emp, ex, ex_i, sep, fact, fact_i, tables, sem, ‵, raw, ◌$◌, ◌∵◌, !, qed, by, move, drop, use0, use1, join, fjoin, enter, of_opd, stop, fld, no_more, and_then, returns, alloc_all, pass_all, free_all, look_at, get, get_in, sets, lands_as, agg, sub, whole, rawptr_vals, rawptr_Tells, nothing, heard, calls_at, on_entry, Vals, triple_of, framed, value_lies_at, Lent, ptr_good, value_made, a_value, code_val, answer1_had, drops, answered, gone_ptr, moved_to, leave}
 use Rattle.gozdrit.specs.Lent.{RestartFor}
 use Rattle.gozdrit.specs.Ends.{Receiver, ReceiverRow}
 use Rattle.gozdrit.specs.declared.handle.Handle.{Handle}
-use Rattle.gozdrit.specs.contracts.receiver_exports.gozdrit_restart as f
-use Rattle.gozdrit.proofs.receiver_exports.gozdrit_restart.Statement.{statement}
-use Rattle.gozdrit.proofs.receiver_exports.gozdrit_restart.Code as code
+use Rattle.gozdrit.specs.contracts.receiver_exports.gozdrit_reset as f
+use Rattle.gozdrit.proofs.receiver_exports.gozdrit_reset.Statement.{statement}
+use Rattle.gozdrit.proofs.receiver_exports.gozdrit_reset.Code as code
 use Rattle.gozdrit.specs.contracts.receiver_exports.restart_lent as g
 use Rattle.gozdrit.proofs.receiver_exports.restart_lent.Met.{met}
 
-pub gozdrit_restart_spec : {M : Type 1} → statement M
-gozdrit_restart_spec 𝓤 𝓛 𝓜 𝓡 wired =
+pub gozdrit_reset_spec : {M : Type 1} → statement M
+gozdrit_reset_spec 𝓤 𝓛 𝓜 𝓡 wired =
     let c = f.clauses 𝓛 𝓜.mem 𝓡.returns in let 𝓣 = tables 𝓤 𝓛.H 𝓜 𝓡 𝓡.env in
     proved 𝓛 f.ended (drops f.ended.signature.params f.ended.kept) c 𝓜 𝓡 (gone_ptr 𝓛, tt)
     f.Key.name code.function (code.unfolded 𝓤 𝓛.H 𝓜 𝓡 wired)

@@ -1,0 +1,43 @@
+/* The model of a sender, which sender.c and hearing.c share. */
+#ifndef FUZZ_SENDER_H
+#define FUZZ_SENDER_H
+
+#include "fuzz.h"
+
+/* A packet of the history. */
+struct kept {
+    size_t length; /* of the datagram, and of it */
+    size_t at;     /* where the payload begins, and */
+    uint8_t padding;
+    uint64_t digest;
+    unsigned retransmissions;
+    bool is_queued; /* it is to be retransmitted */
+    uint64_t sent_at, resent_at;
+    bool was_resent;
+    uint8_t datagram[GOZDRIT_MAX_DATAGRAM];
+};
+
+struct sender {
+    bool is_made;
+    unsigned session;
+    gozdrit_sender_config config;
+    gozdrit_send_counts counts;
+    uint64_t first, next; /* the first packet's sequence, and the next one's */
+    uint16_t rtx_next;
+    uint64_t now;
+    uint64_t fed;
+    struct kept *history; /* of GOZDRIT_MAX_STORE packets, each at its sequence modulo that */
+};
+
+/* ---- its history (sender.c) */
+
+struct kept *kept_at(struct sender *it, uint64_t sequence);
+/* The oldest packet's sequence. */
+uint64_t oldest(const struct sender *it);
+
+/* ---- what it hears (hearing.c) */
+
+/* Hears a datagram, with its counts. */
+void hear(struct sender *it, const uint8_t *octets, size_t length, gozdrit_outcome *outcome);
+
+#endif
