@@ -3,22 +3,26 @@
 #   make demo                                    a stream over a path that loses, with two relays and without, in ten seconds
 #   make lib [PAYLOAD=1460]                      proves the library with payloads of so many octets, and builds it
 #   make relay [PAYLOAD=1460]                    proves the program gozdrit-relay for such payloads, and builds it
+#   make rtxtool [PAYLOAD=1460]                  the same of the program rtxtool
 #   make install [PREFIX=FOLDER] [DESTDIR=ROOT]  installs it; the packager's ROOT stands before every path; LIBDIR=FOLDER for another lib
 #   make uninstall [PREFIX=FOLDER] [DESTDIR=ROOT]
+#   make dist                                    the archives of a release in out/dist: the sources, and what the three above build
 #   make help                                    these lines
 #
 # ARCHIVE and INCLUDE install another build, an archive with the folder of its headers, in the place of `make lib`.
 PAYLOAD ?= 1460
 PREFIX ?= /usr/local
-VERSION = 1.1.0
-SONAME = libgozdrit.so.1
+VERSION := $(shell cat $(dir $(firstword $(MAKEFILE_LIST)))VERSION)
+SONAME = libgozdrit.so.$(firstword $(subst ., ,$(VERSION)))
 SHARED = libgozdrit.so.$(VERSION)
 
 BUILD ?= out/$(PAYLOAD)
 TREE = $(BUILD)/tree
 ARCHIVE ?= $(TREE)/crates/gozdrit/out/libgozdrit.a
 INCLUDE ?= $(TREE)/include
-PROGRAM ?= crates/rtxtool/out/rtxtool
+PROGRAM ?= $(BUILD)/rtxtool
+RELAY ?= $(BUILD)/gozdrit-relay
+DIST ?= out/dist
 HEAP ?= $(dir $(shell rt doc))c/liblibc_c.a
 
 BINDIR = $(PREFIX)/bin
@@ -53,6 +57,13 @@ $(BUILD)/gozdrit-relay: $(TREE)/crates/gozdrit/out/libgozdrit.a
 	@tools/proving gozdrit_relay $(BUILD)/relay.log sh -c 'cd $(TREE)/crates/gozdrit_relay && rt run -- --version'
 	cp $(TREE)/crates/gozdrit_relay/out/gozdrit_relay $@
 
+rtxtool: $(BUILD)/rtxtool
+	@echo "$(BUILD)/rtxtool is built, and proved for payloads of $(PAYLOAD) octets; next: make install, or $(BUILD)/rtxtool --help (docs/SCRIPT.md)"
+
+$(BUILD)/rtxtool: $(TREE)/crates/gozdrit/out/libgozdrit.a
+	@tools/proving rtxtool $(BUILD)/rtxtool.log sh -c 'cd $(TREE)/crates/rtxtool && rt run -- --version'
+	cp $(TREE)/crates/rtxtool/out/rtxtool $@
+
 # What the header declares, a name a line.
 $(BUILD)/exports: $(ARCHIVE)
 	mkdir -p $(BUILD)
@@ -65,10 +76,13 @@ $(BUILD)/gozdrit.o: $(ARCHIVE) $(BUILD)/exports
 
 $(BUILD)/libgozdrit.a: $(BUILD)/gozdrit.o
 	rm -f $@
-	$(AR) rcs $@ $<
+	$(AR) rcsD $@ $<
 
-$(BUILD)/$(SHARED): $(BUILD)/gozdrit.o
-	$(CC) -shared -Wl,-soname,$(SONAME) -Wl,-z,defs -o $@ $<
+$(BUILD)/symbols: $(INCLUDE)/gozdrit.h VERSION
+	tools/symbols $(VERSION) $< >$@
+
+$(BUILD)/$(SHARED): $(BUILD)/gozdrit.o $(BUILD)/symbols
+	$(CC) -shared -Wl,-soname,$(SONAME) -Wl,--version-script=$(BUILD)/symbols -Wl,-z,defs -o $@ $<
 
 install: lib
 	install -d $(DESTDIR)$(HEADERS) $(DESTDIR)$(PKGCONFIG) $(DESTDIR)$(MAN)/man1 $(DESTDIR)$(MAN)/man3 $(DESTDIR)$(DOC)/docs/pictures
@@ -80,12 +94,19 @@ install: lib
 	sed 's|@PREFIX@|$(PREFIX)|; s|@LIBDIR@|$(call below,$(LIBDIR))|; s|@INCLUDEDIR@|$(call below,$(HEADERS))|; s|@VERSION@|$(VERSION)|' include/gozdrit.pc.in >$(DESTDIR)$(PKGCONFIG)/gozdrit.pc
 	install -m 644 docs/gozdrit.3 $(DESTDIR)$(MAN)/man3
 	install -m 644 docs/rtxtool.1 docs/gozdrit-relay.1 $(DESTDIR)$(MAN)/man1
-	install -m 644 README.md CONTRIBUTING.md SECURITY.md LICENSE LICENSE-APACHE LICENSE-MIT $(DESTDIR)$(DOC)
+	install -m 644 README.md CHANGELOG.md CONTRIBUTING.md SECURITY.md LICENSE LICENSE-APACHE LICENSE-MIT $(DESTDIR)$(DOC)
 	install -m 644 docs/*.md $(DESTDIR)$(DOC)/docs
 	install -m 644 docs/pictures/*.png $(DESTDIR)$(DOC)/docs/pictures
 	[ ! -x $(PROGRAM) ] || install -D -m 755 $(PROGRAM) $(DESTDIR)$(BINDIR)/rtxtool
-	[ ! -x $(BUILD)/gozdrit-relay ] || install -D -m 755 $(BUILD)/gozdrit-relay $(DESTDIR)$(BINDIR)/gozdrit-relay
+	[ ! -x $(RELAY) ] || install -D -m 755 $(RELAY) $(DESTDIR)$(BINDIR)/gozdrit-relay
 	@echo "installed below $(DESTDIR)$(PREFIX); next: cc ... \$$(pkg-config --cflags --libs gozdrit), and ldconfig where the loader knows $(LIBDIR)"
+
+# Its parts stand below no prefix, since nobody knows where a user unpacks them.
+dist: lib $(RELAY) $(PROGRAM)
+	@tools/need python3
+	@rm -rf $(BUILD)/stage
+	@$(MAKE) -s --no-print-directory install PREFIX= DESTDIR=$(abspath $(BUILD)/stage) PAYLOAD=$(PAYLOAD) BUILD=$(BUILD) ARCHIVE=$(ARCHIVE) INCLUDE=$(INCLUDE) PROGRAM=$(PROGRAM) RELAY=$(RELAY) >$(BUILD)/stage.log
+	@tools/dist $(VERSION) $(BUILD)/stage $(DIST)
 
 uninstall:
 	rm -f $(DESTDIR)$(HEADERS)/gozdrit.h $(DESTDIR)$(HEADERS)/gozdrit_limits.h $(DESTDIR)$(PKGCONFIG)/gozdrit.pc
@@ -94,4 +115,4 @@ uninstall:
 	rm -f $(addprefix $(DESTDIR)$(BINDIR)/,rtxtool gozdrit-relay)
 	rm -rf $(DESTDIR)$(DOC)
 
-.PHONY: demo lib relay install uninstall help
+.PHONY: demo lib relay rtxtool install dist uninstall help
