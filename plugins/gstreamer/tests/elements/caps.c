@@ -27,6 +27,29 @@ static void test_rtx_payload(void) {
     drop_receiver(&r);
 }
 
+/* A type below 64, as browsers agree on: retransmissions have it, and those that the library knows them by are none. */
+static void test_low_type(void) {
+    static const guint8 media[] = {96, 97, 98};
+    for (guint i = 0; i < G_N_ELEMENTS(media); i++) {
+        gchar *caps = g_strdup_printf(BARE ",payload=%u,rtx-payload=36%s", media[i], i > 0 ? ",rtx-ssrc=(uint)5" : "");
+        receiver r = make_receiver(caps);
+        GstBus *bus = bus_of(r.element);
+        SEND(&r, .sequence = 10, .type = media[i]);
+        SEND(&r, .sequence = 12, .type = media[i]);
+        COMES(r.media, .sequence = 10, .type = media[i]);
+        TICKS(&r, 20);
+        GstBuffer *nack = next_buffer(r.feedback);
+        CHECK(is_nack(nack, 11, 0));
+        gst_clear_buffer(&nack);
+        CHECK(!repairs(&r, 5, 97) && !repairs(&r, 5, 98) && repairs(&r, 5, 36));
+        COMES(r.media, .sequence = 11, .type = media[i]);
+        CHECK(!posted(bus, GST_MESSAGE_ERROR | GST_MESSAGE_WARNING));
+        drop_bus(r.element, bus);
+        drop_receiver(&r);
+        g_free(caps);
+    }
+}
+
 /* Caps of the retransmissions by themselves, as SDP has them: behind those of the media, and before its packets. */
 static void test_apt(void) {
     static const gchar *const rtx =
@@ -52,6 +75,31 @@ static void test_apt(void) {
     drop_receiver(&r);
 }
 
+/* Downstream of a depayloader's kind, which takes caps of its media alone: those of the retransmissions come as well, as a funnel has
+ * both, and no others. */
+static void test_depayloader(void) {
+    static const gchar *const rtx = "application/x-rtp,media=video,clock-rate=90000,encoding-name=RTX,payload=99,apt=(string)96";
+    static const gchar *const other = "application/x-rtp,media=video,clock-rate=90000,encoding-name=Y,payload=96";
+    receiver r = make_receiver(BARE ",payload=96");
+    gst_harness_set_sink_caps_str(r.media, "application/x-rtp,media=video,encoding-name=X");
+    GstCaps *caps[] = {gst_caps_from_string(rtx), gst_caps_from_string(other), gst_caps_from_string(BARE ",payload=96")};
+    GstPad *sink = gst_pad_get_peer(r.media->srcpad);
+    for (guint i = 0; i < G_N_ELEMENTS(caps); i++) {
+        GstCaps *left = gst_pad_peer_query_caps(r.media->srcpad, caps[i]);
+        CHECK(gst_caps_is_empty(left) == (i == 1) && gst_pad_query_accept_caps(sink, caps[i]) == (i != 1));
+        gst_caps_unref(left);
+    }
+    SEND(&r, .sequence = 10);
+    CHECK(gst_pad_push_event(r.media->srcpad, gst_event_new_caps(caps[0])));
+    CHECK(gst_harness_push(r.media, repair_of_type((packet){.sequence = 9}, 1, 99)) == GST_FLOW_OK);
+    CHECK(gst_pad_push_event(r.media->srcpad, gst_event_new_caps(caps[2])));
+    CHECK(SEND(&r, .sequence = 11) == GST_FLOW_OK);
+    for (guint16 i = 10; i < 12; i++) COMES(r.media, .sequence = i);
+    for (guint i = 0; i < G_N_ELEMENTS(caps); i++) gst_caps_unref(caps[i]);
+    gst_object_unref(sink);
+    drop_receiver(&r);
+}
+
 /* Where NACKs are not wanted, what is missing is waited for, and not asked for. */
 static void test_no_nack(void) {
     receiver r = make_receiver(CAPS ",rtcp-fb-nack=(boolean)false");
@@ -73,6 +121,8 @@ static void test_no_nack(void) {
 
 void test_rtx_caps(void) {
     test_rtx_payload();
+    test_low_type();
+    test_depayloader();
     test_apt();
     test_no_nack();
 }

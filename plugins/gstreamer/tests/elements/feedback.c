@@ -70,11 +70,152 @@ static void test_in_time(void) {
     drop_sender(&s);
 }
 
+/* A type of the retransmissions that is below 64, beside media that has the one by which the library knows them else. */
+static void test_low_type(void) {
+    GstHarness *media = gst_harness_new_with_padnames("gozdritsend", "sink", "src");
+    GstHarness *feedback = gst_harness_new_with_element(media->element, "feedback_sink", NULL);
+    guint8 octets[2] = {0};
+    g_object_set(media->element, "rtx-payload-type", 36, NULL);
+    gst_harness_set_src_caps_str(media, CAPS);
+    gst_harness_set_src_caps_str(feedback, "application/x-rtcp");
+    CHECK(gst_harness_push(media, make_packet((packet){.sequence = 7, .type = RTX_TYPE, .marker = TRUE})) == GST_FLOW_OK);
+    COMES(media, .sequence = 7, .type = RTX_TYPE, .marker = TRUE);
+    gst_harness_push(feedback, make_nack(7, 0));
+    GstBuffer *repair = next_buffer(media);
+    if (repair) gst_buffer_extract(repair, 0, octets, sizeof octets);
+    CHECK(repair && octets[1] == (128 | 36));
+    gst_clear_buffer(&repair);
+    gst_harness_teardown(feedback);
+    gst_harness_teardown(media);
+}
+
+static gboolean request(sender *s, guint32 ssrc, guint16 number) {
+    GstStructure *told = gst_structure_new("GstRTPRetransmissionRequest", "seqnum", G_TYPE_UINT, (guint)number, "ssrc", G_TYPE_UINT, ssrc,
+                                           "payload-type", G_TYPE_UINT, TYPE, NULL);
+    return gst_harness_push_upstream_event(s->media, gst_event_new_custom(GST_EVENT_CUSTOM_UPSTREAM, told));
+}
+
+/* What an rtpsession behind the element tells of a NACK is answered like one; what it tells of other streams goes on upstream. */
+static void test_requests(void) {
+    sender s = make_sender();
+    CHECK(gst_harness_upstream_events_in_queue(s.media) == 1); /* that it was linked */
+    send_five(&s);
+    CHECK(request(&s, MEDIA, 2) && repair_comes(&s, (packet){.sequence = 2, .fill = 2}));
+    CHECK(request(&s, MEDIA, 77) && is_silent(s.media));
+    CHECK(gst_harness_upstream_events_in_queue(s.media) == 1);
+    request(&s, 5, 2);
+    CHECK(gst_harness_upstream_events_in_queue(s.media) == 2 && is_silent(s.media));
+    CHECK(count_of(s.element, "nacks") == 2 && count_of(s.element, "unknown") == 1);
+    drop_sender(&s);
+}
+
+static guint rtx_ssrc_of(GstHarness *h) {
+    GstCaps *caps = gst_pad_get_current_caps(h->sinkpad);
+    guint ssrc = 0;
+    gst_structure_get_uint(gst_caps_get_structure(caps, 0), "rtx-ssrc", &ssrc);
+    gst_caps_unref(caps);
+    return ssrc;
+}
+
+/* Whether a collision of an SSRC is kept from upstream. */
+static gboolean avoids(sender *s, guint32 ssrc) {
+    guint before = gst_harness_upstream_events_in_queue(s->media);
+    GstStructure *told = gst_structure_new("GstRTPCollision", "ssrc", G_TYPE_UINT, ssrc, NULL);
+    gst_harness_push_upstream_event(s->media, gst_event_new_custom(GST_EVENT_CUSTOM_UPSTREAM, told));
+    return gst_harness_upstream_events_in_queue(s->media) == before;
+}
+
+/* Where the SSRC of the retransmissions collides they have another one, by caps and in what goes out, of packets that went before too. */
+static void test_collision(void) {
+    sender s = make_sender();
+    send_five(&s);
+    CHECK(!avoids(&s, RTX) && rtx_ssrc_of(s.media) == RTX); /* a property says which it is */
+    gst_element_set_state(s.element, GST_STATE_NULL);
+    g_object_set(s.element, "rtx-ssrc", G_MAXUINT32, NULL);
+    gst_element_set_state(s.element, GST_STATE_PLAYING);
+    gst_harness_set_src_caps_str(s.media, CAPS);
+    send_five(&s);
+    guint before = rtx_ssrc_of(s.media);
+    CHECK(!avoids(&s, MEDIA) && !avoids(&s, before + 1) && rtx_ssrc_of(s.media) == before);
+    CHECK(request(&s, MEDIA, 1) && repair_comes(&s, (packet){.sequence = 1, .fill = 1, .ssrc = before}));
+    CHECK(avoids(&s, before) && rtx_ssrc_of(s.media) != before);
+    CHECK(request(&s, MEDIA, 3) && repair_comes(&s, (packet){.sequence = 3, .fill = 3, .ssrc = rtx_ssrc_of(s.media)}));
+    drop_sender(&s);
+}
+
+static GstFlowReturn take_media(GstPad *pad, GstObject *parent, GstBuffer *buffer) {
+    (void)parent;
+    g_async_queue_push(gst_pad_get_element_private(pad), buffer);
+    return GST_FLOW_OK;
+}
+
+/* A pad of the test's, linked to an element's, that pushes a stream of these caps. */
+static GstPad *source_to(GstElement *element, const gchar *name, const gchar *text) {
+    GstPad *pad = gst_pad_new(NULL, GST_PAD_SRC), *to = gst_element_get_static_pad(element, name);
+    GstCaps *caps = gst_caps_from_string(text);
+    GstSegment segment;
+    if (!to) to = gst_element_request_pad_simple(element, name);
+    gst_segment_init(&segment, GST_FORMAT_TIME);
+    CHECK(gst_pad_link(pad, to) == GST_PAD_LINK_OK);
+    gst_pad_set_active(pad, TRUE);
+    gst_pad_push_event(pad, gst_event_new_stream_start(name));
+    gst_pad_push_event(pad, gst_event_new_caps(caps));
+    gst_pad_push_event(pad, gst_event_new_segment(&segment));
+    gst_caps_unref(caps);
+    gst_object_unref(to);
+    return pad;
+}
+
+/* The same with an rtpsession itself, where there is one: a datagram of RTCP with a NACK brings the packet again. */
+static void test_rtpsession(void) {
+    GError *error = NULL;
+    GstElement *bin = gst_parse_launch("gozdritsend name=send ! session.send_rtp_sink rtpsession name=session rtp-profile=avpf", &error);
+    if (error) { /* there is no rtpsession */
+        g_error_free(error);
+        gst_clear_object(&bin);
+        return;
+    }
+    GAsyncQueue *came = g_async_queue_new_full((GDestroyNotify)gst_buffer_unref);
+    GstElement *send = gst_bin_get_by_name(GST_BIN(bin), "send"), *session = gst_bin_get_by_name(GST_BIN(bin), "session");
+    GstPad *from = gst_element_get_static_pad(session, "send_rtp_src"), *sink = gst_pad_new(NULL, GST_PAD_SINK);
+    gst_pad_set_element_private(sink, came);
+    gst_pad_set_chain_function(sink, take_media);
+    gst_pad_set_active(sink, TRUE);
+    CHECK(gst_pad_link(from, sink) == GST_PAD_LINK_OK);
+    gst_element_set_state(bin, GST_STATE_PLAYING);
+    GstPad *media = source_to(send, "sink", CAPS), *rtcp = source_to(session, "recv_rtcp_sink", "application/x-rtcp");
+    for (guint16 i = 0; i < 3; i++) CHECK(gst_pad_push(media, make_packet((packet){.sequence = i, .fill = (guint8)i})) == GST_FLOW_OK);
+    CHECK(gst_pad_push(rtcp, make_nack(1, 0)) == GST_FLOW_OK);
+    for (guint16 i = 0; i < 4; i++) {
+        GstBuffer *buffer = g_async_queue_timeout_pop(came, 2 * G_USEC_PER_SEC);
+        guint8 octets[14] = {0};
+        if (buffer) gst_buffer_extract(buffer, 0, octets, sizeof octets);
+        CHECK(buffer && (octets[1] & 127) == (i < 3 ? TYPE : RTX_TYPE));
+        CHECK(i < 3 ? GST_READ_UINT16_BE(octets + 2) == i : GST_READ_UINT16_BE(octets + 12) == 1);
+        gst_clear_buffer(&buffer);
+    }
+    gst_element_set_state(bin, GST_STATE_NULL);
+    GstPad *pads[] = {media, rtcp, sink};
+    for (guint i = 0; i < G_N_ELEMENTS(pads); i++) {
+        gst_pad_set_active(pads[i], FALSE);
+        gst_object_unref(pads[i]);
+    }
+    gst_object_unref(from);
+    gst_object_unref(send);
+    gst_object_unref(session);
+    gst_object_unref(bin);
+    g_async_queue_unref(came);
+}
+
 void test_feedback(void) {
     test_nacks();
     test_in_time();
     test_limits();
     test_reporter();
+    test_low_type();
+    test_requests();
+    test_collision();
+    test_rtpsession();
 }
 
 static gpointer end_stream(gpointer harness) {

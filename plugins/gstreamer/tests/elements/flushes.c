@@ -1,4 +1,4 @@
-/* What a receiver forgets at a flush. */
+/* What a receiver forgets at a flush, and flushes while it is stopped. */
 #include "checks.h"
 
 #define MS(n) ((n) * (GstClockTime)GST_MSECOND)
@@ -92,10 +92,53 @@ static void test_query(void) {
     drop_receiver(&r);
 }
 
+/* A flush that ends while the pads are made inactive begins no task: nobody would end it. */
+static void test_inactive(void) {
+    receiver r = make_receiver(CAPS);
+    GstPad *pads[] = {gst_element_get_static_pad(r.element, "src"), gst_element_get_static_pad(r.element, "feedback_src")};
+    gst_harness_push_event(r.media, gst_event_new_flush_start());
+    for (guint i = 0; i < G_N_ELEMENTS(pads); i++) gst_pad_set_active(pads[i], FALSE);
+    gst_harness_push_event(r.media, gst_event_new_flush_stop(TRUE));
+    for (guint i = 0; i < G_N_ELEMENTS(pads); i++) {
+        CHECK(gst_pad_get_task_state(pads[i]) == GST_TASK_STOPPED);
+        gst_object_unref(pads[i]);
+    }
+    drop_receiver(&r);
+}
+
+static gboolean stopped;
+
+static gpointer flush_on(gpointer sink) {
+    while (!g_atomic_int_get(&stopped)) {
+        gst_pad_send_event(sink, gst_event_new_flush_start());
+        gst_pad_send_event(sink, gst_event_new_flush_stop(TRUE));
+    }
+    return NULL;
+}
+
+/* The same at any moment. Who hangs here waits for a task. */
+static void test_stops(void) {
+    for (gulong i = 0; i < 100; i++) {
+        GstElement *element = gst_element_factory_make("gozdritrecv", NULL);
+        GstPad *sink = gst_element_get_static_pad(element, "sink");
+        g_atomic_int_set(&stopped, FALSE);
+        gst_element_set_state(element, GST_STATE_PLAYING);
+        GThread *thread = g_thread_new("flush", flush_on, sink);
+        g_usleep(i * 37 % 1000);
+        CHECK(gst_element_set_state(element, GST_STATE_NULL) == GST_STATE_CHANGE_SUCCESS);
+        g_atomic_int_set(&stopped, TRUE);
+        g_thread_join(thread);
+        gst_object_unref(sink);
+        gst_object_unref(element);
+    }
+}
+
 void test_flushes(void) {
     test_ready();
     test_event();
     test_times_anew();
     test_ssrc();
     test_query();
+    test_inactive();
+    test_stops();
 }

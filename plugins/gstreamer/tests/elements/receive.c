@@ -155,7 +155,7 @@ static void test_others(void) {
     gst_harness_push(r.media, gst_buffer_new_memdup("noise", 5));
     SEND(&r, .sequence = 11, .ssrc = 77);
     SEND(&r, .sequence = 12, .ssrc = 77);
-    SEND(&r, .sequence = 11, .type = 100);
+    SEND(&r, .sequence = 11, .type = 72); /* RTCP, by RFC 5761, section 4 */
     CHECK(!posted(bus, GST_MESSAGE_WARNING));
     SEND(&r, .sequence = 11, .length = GOZDRIT_MAX_PAYLOAD + 1);
     CHECK(posted(bus, GST_MESSAGE_WARNING));
@@ -166,6 +166,24 @@ static void test_others(void) {
     CHECK(count_of(r.element, "refused") == 5 && count_of(r.element, "sessions") == 1);
     drop_bus(r.element, bus);
     drop_receiver(&r);
+}
+
+/* Packets of the stream with another payload type, as comfort noise or events of a telephone have one, have their place in it: nothing waits
+ * for them, and nobody asks for them. Where the caps say the type they go nowhere, which is told once, and else out as they came. */
+static void test_other_types(void) {
+    static const guint8 types[] = {96, 13, 96, 101, 8, 96};
+    for (gint is_free = 0; is_free < 2; is_free++) {
+        receiver r = make_receiver(is_free ? "application/x-rtp,media=video,clock-rate=90000,encoding-name=X" : CAPS);
+        GstBus *bus = bus_of(r.element);
+        for (guint16 i = 0; i < G_N_ELEMENTS(types); i++) SEND(&r, .sequence = i, .pts = MS(i), .type = types[i]);
+        for (guint16 i = 0; i < G_N_ELEMENTS(types); i++)
+            if (is_free || types[i] == 96) COMES(r.media, .sequence = i, .pts = MS(i), .type = types[i]);
+        CHECK(is_silent(r.media) && count_of(r.element, "gaps") == 0 && count_of(r.element, "nacked") == 0);
+        CHECK(posted(bus, GST_MESSAGE_WARNING) == !is_free && !posted(bus, GST_MESSAGE_WARNING | GST_MESSAGE_ERROR));
+        CHECK(count_of(r.element, "other-types") == (is_free ? 0 : 3) && count_of(r.element, "media") == G_N_ELEMENTS(types));
+        drop_bus(r.element, bus);
+        drop_receiver(&r);
+    }
 }
 
 /* A session that can't be is told. */
@@ -230,6 +248,7 @@ void test_receive(void) {
     test_loss_untold();
     test_overrun();
     test_others();
+    test_other_types();
     test_refused();
     /* an answer takes the trip of 10, its variation of 5 and 5, and NACKs lie no closer: as many as fit before the last answer that
      * is in time, and evenly */

@@ -4,10 +4,14 @@
 #define MS(n) ((n) * (GstClockTime)GST_MSECOND)
 #define FREE_CAPS "application/x-rtp,media=video,clock-rate=90000,encoding-name=X,payload=96"
 
+/* How long nothing of a stream came, in milliseconds, when two packets behind a jump are believed: the library's default. */
+enum { IDLE = 200 };
+
 /* Numbers and timestamps that jump, under the same SSRC: nothing of the new stream is lost. */
 static void test_jump(void) {
     receiver r = make_receiver(CAPS);
     SEND(&r, .sequence = 10, .pts = MS(20));
+    set_clock_to(&r, IDLE);
     SEND(&r, .sequence = 30000, .pts = MS(40), .offset = 12345678);
     SEND(&r, .sequence = 30001, .pts = MS(60), .offset = 12345678);
     COMES(r.media, .sequence = 10, .pts = MS(20));
@@ -23,9 +27,11 @@ static void test_jump(void) {
 /* An event that waits for a packet of the stream before does not wait for one of the new stream. */
 static void test_event(void) {
     receiver r = make_receiver(CAPS);
+    g_object_set(r.element, "latency", 5 * IDLE, NULL);
     SEND(&r, .sequence = 10);
     SEND(&r, .sequence = 12);
     gst_harness_push_event(r.media, gst_event_new_custom(GST_EVENT_CUSTOM_DOWNSTREAM, gst_structure_new_empty("one")));
+    set_clock_to(&r, IDLE);
     SEND(&r, .sequence = 30000);
     SEND(&r, .sequence = 30001);
     COMES(r.media, .sequence = 10);
@@ -35,6 +41,24 @@ static void test_event(void) {
     CHECK(event != NULL);
     if (event) gst_event_unref(event);
     drop_receiver(&r);
+}
+
+/* A stream that begins anew ahead or behind, and loses packets: it is heard as soon as the old one has been silent for a while. */
+static void test_lossy_jump(void) {
+    static const guint16 begins[] = {40000, 100, 29000};
+    for (guint i = 0; i < G_N_ELEMENTS(begins); i++) {
+        receiver r = make_receiver(CAPS);
+        guint sent = 0;
+        SEND(&r, .sequence = 30000);
+        COMES(r.media, .sequence = 30000);
+        for (; sent < 100 && count_of(r.element, "restarts") == 0; sent++) {
+            set_clock_to(&r, 20 * (sent + 1));
+            if (sent % 3 != 1) SEND(&r, .sequence = (guint16)(begins[i] + sent));
+        }
+        CHECK(sent <= IDLE / 20 + 1);
+        COMES(r.media, .sequence = begins[i]);
+        drop_receiver(&r);
+    }
 }
 
 /* Two packets in sequence of another SSRC take the place of a stream whose SSRC nobody named, and one does not. */
@@ -113,11 +137,31 @@ static void test_caps(void) {
     drop_receiver(&r);
 }
 
+/* An SSRC that is said to be the retransmissions' or the receiver's own is no stream of media, whatever type its packets have. */
+static void test_taken_ssrc(void) {
+    receiver r = make_receiver(FREE_CAPS);
+    GstBus *bus = bus_of(r.element);
+    g_object_set(r.element, "rtx-ssrc", RTX, "receiver-ssrc", REPORTER, NULL);
+    for (guint turn = 0; turn < 2; turn++) { /* before there is a session, and in one */
+        for (guint16 i = 0; i < 3; i++) {
+            CHECK(SEND(&r, .sequence = 500 + i, .ssrc = RTX) == GST_FLOW_OK);
+            CHECK(SEND(&r, .sequence = 700 + i, .ssrc = REPORTER) == GST_FLOW_OK);
+        }
+        SEND(&r, .sequence = (guint16)(10 + turn));
+        COMES(r.media, .sequence = (guint16)(10 + turn));
+    }
+    CHECK(!posted(bus, GST_MESSAGE_ERROR) && count_of(r.element, "sessions") == 1 && count_of(r.element, "strays") == 6);
+    drop_bus(r.element, bus);
+    drop_receiver(&r);
+}
+
 void test_restarts(void) {
     test_jump();
+    test_lossy_jump();
     test_event();
     test_ssrc();
     test_first();
     test_group();
     test_caps();
+    test_taken_ssrc();
 }

@@ -123,19 +123,57 @@ static void test_renegotiation(void) {
     gst_harness_teardown(h);
 }
 
+/* A packet that is too long to be kept goes out with the number that it has in the stream, and so do those behind it, of which a
+ * NACK brings each. One warning tells it. */
+static void test_too_long(void) {
+    sender s = make_sender();
+    GstBus *bus = bus_of(s.element);
+    send_five(&s);
+    CHECK(gst_harness_push(s.media, make_packet((packet){.sequence = 5, .length = GOZDRIT_MAX_PAYLOAD})) == GST_FLOW_OK);
+    COMES(s.media, .sequence = 5, .length = GOZDRIT_MAX_PAYLOAD);
+    CHECK(!posted(bus, GST_MESSAGE_ERROR | GST_MESSAGE_WARNING));
+    for (guint16 i = 0; i < 2; i++) { /* as if one was lost before the element */
+        CHECK(gst_harness_push(s.media, make_packet((packet){.sequence = 17 + i, .length = GOZDRIT_MAX_PAYLOAD + 1, .fill = 3})) == GST_FLOW_OK);
+        COMES(s.media, .sequence = 6 + i, .length = GOZDRIT_MAX_PAYLOAD + 1, .fill = 3);
+        CHECK(posted(bus, GST_MESSAGE_WARNING) == (i == 0) && !posted(bus, GST_MESSAGE_ERROR | GST_MESSAGE_WARNING));
+    }
+    CHECK(gst_harness_push(s.media, make_packet((packet){.sequence = 19, .fill = 4})) == GST_FLOW_OK);
+    COMES(s.media, .sequence = 8, .fill = 4);
+    gst_harness_push(s.feedback, make_nack(4, 31)); /* 4 to 9: of these it has 8 alone */
+    CHECK(repair_comes(&s, (packet){.sequence = 8, .fill = 4}));
+    CHECK(is_silent(s.media));
+    CHECK(count_of(s.element, "sent") == 7 && count_of(s.element, "passed") == 2);
+    drop_bus(s.element, bus);
+    drop_sender(&s);
+}
+
+/* One that is too long, and one that no session can have, in the middle of a list: those beside them go out. */
+static void test_list_with_others(void) {
+    GstHarness *h = make_media();
+    GstBufferList *list = gst_buffer_list_new();
+    gst_buffer_list_add(list, make_packet((packet){.sequence = 0}));
+    gst_buffer_list_add(list, make_packet((packet){.sequence = 1, .length = GOZDRIT_MAX_PAYLOAD + 1}));
+    gst_buffer_list_add(list, make_packet((packet){.sequence = 2}));
+    gst_buffer_list_add(list, make_packet((packet){.sequence = 3, .type = RTX_TYPE}));
+    CHECK(gst_pad_push_list(h->srcpad, list) == GST_FLOW_ERROR);
+    COMES(h, .sequence = 0);
+    COMES(h, .sequence = 1, .length = GOZDRIT_MAX_PAYLOAD + 1);
+    COMES(h, .sequence = 2);
+    CHECK(is_silent(h));
+    gst_harness_teardown(h);
+}
+
 /* What can't be sent is told. */
 static void test_refused(void) {
     GstHarness *h = make_media();
     GstBus *bus = bus_of(h->element);
-    CHECK(gst_harness_push(h, make_packet((packet){.length = GOZDRIT_MAX_PAYLOAD})) == GST_FLOW_OK);
-    CHECK(!posted(bus, GST_MESSAGE_ERROR | GST_MESSAGE_WARNING));
-    CHECK(gst_harness_push(h, make_packet((packet){.length = GOZDRIT_MAX_PAYLOAD + 1})) == GST_FLOW_ERROR);
-    CHECK(posted(bus, GST_MESSAGE_ERROR));
-    CHECK(gst_harness_push(h, gst_buffer_new_memdup("no packet of RTP", 16)) == GST_FLOW_OK);
-    CHECK(posted(bus, GST_MESSAGE_WARNING));
+    for (guint i = 0; i < 3; i++) {
+        CHECK(gst_harness_push(h, gst_buffer_new_memdup("no packet of RTP", 16)) == GST_FLOW_OK);
+        CHECK(posted(bus, GST_MESSAGE_WARNING) == (i == 0) && !posted(bus, GST_MESSAGE_ERROR | GST_MESSAGE_WARNING));
+    }
+    CHECK(count_of(h->element, "strays") == 3);
     CHECK(gst_harness_push(h, make_packet((packet){.type = RTX_TYPE})) == GST_FLOW_ERROR);
     CHECK(posted(bus, GST_MESSAGE_ERROR));
-    COMES(h, .length = GOZDRIT_MAX_PAYLOAD);
     CHECK(is_silent(h));
     drop_bus(h->element, bus);
     gst_harness_teardown(h);
@@ -148,5 +186,7 @@ void test_send(void) {
     test_caps();
     test_own_ssrc();
     test_renegotiation();
+    test_too_long();
+    test_list_with_others();
     test_refused();
 }

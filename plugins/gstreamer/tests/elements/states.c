@@ -160,16 +160,33 @@ static void on_nack(GstElement *sink, GstBuffer *buffer, GstPad *pad, gint *nack
     g_atomic_int_inc(nacks);
 }
 
+#define LIVE_END "appsrc name=source is-live=true format=time caps=" CAPS ",seqnum-base=(uint)10" \
+    " ! gozdritrecv name=recv latency=5000 ! fakesink "
+
+/* A live pipeline, whose sink of NACKs is named. */
+static GstElement *make_live(void) {
+    return gst_parse_launch(LIVE_END "recv.feedback_src ! fakesink name=sink signal-handoffs=true", NULL);
+}
+
+/* The same with the receiver in one bin, and the sink in another. */
+static GstElement *make_live_in_bins(void) {
+    GstElement *pipeline = gst_pipeline_new(NULL), *left = gst_parse_bin_from_description(LIVE_END, FALSE, NULL);
+    GstElement *right = gst_parse_bin_from_description("fakesink name=sink signal-handoffs=true", TRUE, NULL);
+    GstElement *recv = gst_bin_get_by_name(GST_BIN(left), "recv");
+    GstPad *feedback = gst_element_get_static_pad(recv, "feedback_src");
+    gst_element_add_pad(left, gst_ghost_pad_new("feedback", feedback));
+    gst_bin_add_many(GST_BIN(pipeline), left, right, NULL);
+    CHECK(gst_element_link_pads(left, "feedback", right, "sink"));
+    gst_object_unref(feedback);
+    gst_object_unref(recv);
+    return pipeline;
+}
+
 /* Whether the first packet, which was lost, is asked for in a live pipeline, while the media's sink waits for it. `least` becomes how
  * long the pipeline took to begin, in microseconds, if that is less. */
-static gboolean asks_for_the_first(gint64 *least) {
-    GError *error = NULL;
+static gboolean asks_for_the_first(GstElement *pipeline, gint64 *least) {
     gint nacks = 0;
     GstFlowReturn flow;
-    GstElement *pipeline = gst_parse_launch("appsrc name=source is-live=true format=time caps=" CAPS ",seqnum-base=(uint)10"
-                                            " ! gozdritrecv name=recv latency=5000 ! fakesink"
-                                            " recv.feedback_src ! fakesink name=sink signal-handoffs=true", &error);
-    CHECK(pipeline && !error);
     GstElement *source = gst_bin_get_by_name(GST_BIN(pipeline), "source"), *sink = gst_bin_get_by_name(GST_BIN(pipeline), "sink");
     g_signal_connect(sink, "handoff", G_CALLBACK(on_nack), &nacks);
     gint64 began = g_get_monotonic_time();
@@ -190,7 +207,9 @@ static gboolean asks_for_the_first(gint64 *least) {
 static void test_first_frame(void) {
     gint64 least = G_MAXINT64;
     gboolean each = TRUE;
-    for (gint i = 0; i < 20; i++) each &= asks_for_the_first(&least);
+    for (gint i = 0; i < 20; i++) each &= asks_for_the_first(make_live(), &least);
+    CHECK(each);
+    for (gint i = 0; i < 20; i++) each &= asks_for_the_first(make_live_in_bins(), &least);
     CHECK(each);
     CHECK(least < 90000);
 }

@@ -292,6 +292,62 @@ static void test_wanted_again(void) {
     drop_receiver(&r);
 }
 
+/* Events that wait for packets are bounded, and none is lost. */
+static void test_many_events(void) {
+    enum { EVENTS = 5000 };
+    receiver r = make_receiver(CAPS);
+    SEND(&r, .sequence = 0);
+    COMES(r.media, .sequence = 0);
+    for (guint16 i = 0; i < EVENTS; i++) {
+        if (i % 100 == 0) SEND(&r, .sequence = (guint16)(2 + i / 100));
+        gst_harness_push_event(r.media, gst_event_new_custom(GST_EVENT_CUSTOM_DOWNSTREAM, gst_structure_new_empty("one")));
+    }
+    for (gint i = 0; i < 2000 && gst_harness_events_received(r.media) < 3 + EVENTS - 2000; i++) g_usleep(1000);
+    CHECK(gst_harness_events_received(r.media) >= 3 + EVENTS - 2000 && gst_harness_events_received(r.media) < 3 + EVENTS);
+    CHECK(asks_for(&r, 1));
+    REPAIR(&r, 9, .sequence = 1);
+    for (guint16 i = 1; i < 2 + EVENTS / 100; i++) COMES(r.media, .sequence = i);
+    for (gint i = 0; i < 2000 && gst_harness_events_received(r.media) < 3 + EVENTS; i++) g_usleep(1000);
+    CHECK(gst_harness_events_received(r.media) == 3 + EVENTS);
+    drop_receiver(&r);
+}
+
+static gboolean has_event(GstHarness *h, GstEventType type) {
+    GstEvent *event = next_event(h, type);
+    if (event) gst_event_unref(event);
+    return event != NULL;
+}
+
+/* A stream behind the end of another one, without a flush between: what is lost of it is asked for as well, in a stream of feedback
+ * that begins anew, and given up in time. */
+static void test_behind_the_end(void) {
+    receiver r = make_receiver(CAPS);
+    GstSegment segment;
+    gst_segment_init(&segment, GST_FORMAT_TIME);
+    for (guint16 first = 0; first < 30; first += 10) {
+        SEND(&r, .sequence = first);
+        SEND(&r, .sequence = first + 2);
+        COMES(r.media, .sequence = first);
+        CHECK(asks_for(&r, first + 1));
+        REPAIR(&r, first, .sequence = first + 1);
+        COMES(r.media, .sequence = first + 1);
+        COMES(r.media, .sequence = first + 2);
+        for (guint16 i = 3; i < 10; i++) SEND(&r, .sequence = first + i);
+        for (guint16 i = 3; i < 10; i++) COMES(r.media, .sequence = first + i);
+        CHECK(gst_harness_push_event(r.media, gst_event_new_eos()));
+        CHECK(has_event(r.feedback, GST_EVENT_EOS) && ends(&r));
+        CHECK(gst_harness_push_event(r.media, gst_event_new_stream_start("another")));
+        gst_harness_set_src_caps_str(r.media, CAPS);
+        CHECK(gst_harness_push_event(r.media, gst_event_new_segment(&segment)));
+        CHECK(has_event(r.feedback, GST_EVENT_STREAM_START) && has_event(r.feedback, GST_EVENT_SEGMENT));
+    }
+    SEND(&r, .sequence = 31);
+    for (gint i = 0; i < 40 && count_of(r.element, "gaps") == 0; i++)
+        if (gst_harness_wait_for_clock_id_waits(r.media, 1, 2)) gst_harness_crank_single_clock_wait(r.media);
+    COMES(r.media, .sequence = 31);
+    drop_receiver(&r);
+}
+
 void test_streams(void) {
     test_event_order();
     test_end();
@@ -303,4 +359,6 @@ void test_streams(void) {
     test_bounded();
     test_bounded_late();
     test_wanted_again();
+    test_many_events();
+    test_behind_the_end();
 }
