@@ -30,10 +30,15 @@ def kit():
     made = loaded(f"{os.path.dirname(start)}/bin/rt")
     made.rtlib.guarded()  # (it has to be called by the main thread once)
     top = os.path.dirname(os.path.dirname(os.path.abspath(__file__)))
-    for name, one in ("linked", link), ("listing", listing), ("offer", lambda crate, stamp: None), ("work_for", lambda crate: kept_here(top, crate)):
+    for name, one in ("linked", copied), ("listing", listing), ("offer", lambda crate, stamp: None), ("work_for", lambda crate: kept_here(top, crate)):
         if not hasattr(made, name):
             setattr(made, name, one)
     return made
+
+
+def copied(here, there):
+    """Puts a folder there too, with files of its own: the prover of such a kit writes into those that it finds."""
+    shutil.copytree(here, there, dirs_exist_ok=True)
 
 
 def kept_here(top, crate):
