@@ -71,6 +71,28 @@ def one_type(checks, stage):
     checks.same([sender.counts().get(one) for one in ("sent", "unsent")], [10, 10], "a type: sent and unsent")
 
 
+@on_time(0.03)
+def first_asks(checks, stage):
+    """Before a round trip was measured four asks fit into the latency: two answers that are lost cost no packet."""
+    name, player, lost = "the first asks", End(stage), []
+
+    def rule(way, octets):
+        one = parse(octets) if way == "forth" else None
+        is_first = one and one.ssrc == SSRC and one.number == 10
+        is_answer = one and one.ssrc != SSRC and original(one)[0] == 10 and len(lost) < 2
+        if is_answer:
+            lost.append(one)
+        return () if is_first or is_answer else (0,)
+
+    receiver = stage.receive(player.at, "--packets", 40)
+    sender = stage.send(Path(stage, receiver.at, rule).at)
+    App(stage, sender.at, number=0).stream(plain(40), 100)
+    ends(checks, name, receiver)
+    checks.same([index(one) for one in player.packets()], list(range(40)), f"{name}: what came to the player")
+    checks.same(len(lost), 2, f"{name}: answers that were lost")
+    sender.stop()
+
+
 def plays(stage, player, sent, *words):
     """A receiving relay to which the far side has sent packets, of kinds, numbers and SSRCs."""
     far = End(stage)
@@ -210,4 +232,4 @@ def lost(octets):
 
 
 if __name__ == "__main__":
-    part(types, sending, one_type, choosing, first, burst, retransmissions, fitting, patience, window, round_trip)
+    part(types, sending, one_type, choosing, first, first_asks, burst, retransmissions, fitting, patience, window, round_trip)

@@ -1,5 +1,5 @@
 -- Which session a relay learns, and the relay that it makes of it.
-use Rattle.std.specs.Prelude.{◌≡◌, ◌↔◌, ℕ, ◌+◌, ◌-◌, ◌==◌, ◌&&◌, ◌||◌, Bool, true, false, not, List, length, Option, Some, None}
+use Rattle.std.specs.Prelude.{◌≡◌, ◌↔◌, ℕ, ◌+◌, ◌-◌, ◌/◌, ◌==◌, ◌&&◌, ◌||◌, Bool, true, false, not, max, min, List, length, Option, Some, None}
 use Rattle.std.specs.declared.net.socket_addr.SocketAddr.{SocketAddr}
 use Rattle.rtpwire.specs.Rtp.{RtpPacket, RtpSpells}
 use Rattle.rtpwire.specs.Session.{Streams}
@@ -106,14 +106,18 @@ abbrev pub held_by : Option ℕ → Option Playout
 held_by None = None
 held_by (Some rate) = Some (new_playout rate)
 
--- A missing packet is waited for as long as the latency; it is asked for after 20 milliseconds, 250 apart, until a round trip was
--- measured, and 255 times at most. The SSRC of the retransmissions is learnt where no option gives it.
+-- How far asks lie apart until a round trip was measured: a quarter of the latency, but 20 milliseconds at least and 250 at most.
+abbrev pub first_retry : (latency : ℕ) → ℕ
+first_retry latency = min (max (latency / 4) 20) 250
+
+-- A missing packet is waited for as long as the latency; it is asked for after 20 milliseconds, and 255 times at most. The SSRC of the
+-- retransmissions is learnt where no option gives it.
 abbrev pub learns_rtx : Option ℕ → Bool
 learns_rtx None = true
 learns_rtx (Some ssrc) = false
 
 abbrev pub config_for : ReceiveLearner → Streams → receiving.Config
-config_for l session = receiving.config_with session l.latency 20 250 255 (learns_rtx l.known.rtx_ssrc)
+config_for l session = receiving.config_with session l.latency 20 (first_retry l.latency) 255 (learns_rtx l.known.rtx_ssrc)
 
 abbrev pub receiver_for : ReceiveLearner → Beginning → (from : SocketAddr) → Option ReceiveSide → ReceiveSide
 receiver_for l b from before =

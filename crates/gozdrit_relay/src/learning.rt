@@ -1,9 +1,9 @@
 //! How a session is learnt from its first packet.
-ghost use Rattle.std.specs.Prelude.{◌≡◌, false, Some, IfSome};
+ghost use Rattle.std.specs.Prelude.{◌≡◌, ◌<◌, false, Some, IfSome};
 ghost use Rattle.relays.specs.declared.outside.Side.TheVariants.{Near, Far};
 ghost use Rattle.rtpwire.specs.Rtp.{RtpPacket, RtpSpells};
 ghost use Rattle.endpoint.specs.Demultiplex.{is_control};
-ghost use Rattle.gozdrit_relay.specs.Learning.{BeginsAs, IsBelieved, IsOfReceiver, ReceiveBegins, ReceiveBeginsOf, SendBegins, SendBeginsOf, bounds_left, config_for, held_by, is_of_sender, numbering_for, played_before, sent_before};
+ghost use Rattle.gozdrit_relay.specs.Learning.{BeginsAs, IsBelieved, IsOfReceiver, ReceiveBegins, ReceiveBeginsOf, SendBegins, SendBeginsOf, bounds_left, config_for, first_retry, held_by, is_of_sender, numbering_for, played_before, sent_before};
 
 use crate::learners::{ReceiveLearner, SendLearner};
 use crate::machine::{Beginning, Learner, Learnt};
@@ -20,7 +20,9 @@ use timing::Playout;
 /// With a long latency and a short round trip 32 times were over long before the patience was.
 const MOST: u8 = 255;
 
-/// How long a retransmission is waited for until the round-trip time is known, in milliseconds.
+/// How long a retransmission is waited for at least and at most until the round-trip time is known, in milliseconds.
+const LEAST_RETRY: u64 = 20;
+
 const RETRY: u64 = 250;
 
 /// How late a packet may be before it is asked for, until then, in milliseconds.
@@ -209,12 +211,22 @@ impl ReceiveLearner {
     fn config(&self, session: Session) -> ReceiverConfig
         ensures { result ≡ config_for self.now session }
     {
+        let retry = first_retry(self.latency);
         let made = match self.known.rtx_ssrc {
-            Some(_) => ReceiverConfig::new(session, self.latency, RETRY, MOST),
-            None => ReceiverConfig::learning(session, self.latency, RETRY, MOST),
+            Some(_) => ReceiverConfig::new(session, self.latency, retry, MOST),
+            None => ReceiverConfig::learning(session, self.latency, retry, MOST),
         };
         made.unwrap().with_delay(LATE)
     }
+}
+
+/// How long a retransmission is waited for until the round-trip time is known, in milliseconds: four asks fit into a latency of a second and
+/// less, so that the loss of one of them, or of its answer, costs no packet.
+fn first_retry(latency: u64) -> u64
+    ensures value { result ≡ first_retry latency }
+    ensures some_time { 0 < result }
+{
+    (latency / 4).max(LEAST_RETRY).min(RETRY)
 }
 
 /// Whether a packet from an address is one of the session that a relay has, by what it says and where it comes from.
