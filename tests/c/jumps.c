@@ -69,7 +69,8 @@ static void test_numbers(void) {
     config.max_dropout = 10, config.max_misorder = 5, config.min_sequential_ahead = 1, config.min_sequential_behind = 3;
     gozdrit_receiver r = started(&config, 100);
     HEARS_MEDIA(&r, 109, 0, MEDIA(65645));
-    HEARS_MEDIA(&r, 104, 0, HELD_BACK(1)); /* although it is missing */
+    HEARS_MEDIA(&r, 104, 0, MEDIA(65640)); /* it is missing, however far behind */
+    HEARS_MEDIA(&r, 104, 0, HELD_BACK(1)); /* and is so no longer */
     HEARS_MEDIA(&r, 105, 0, MEDIA(65641));
     HEARS_MEDIA(&r, 119, 0, RESTARTED(65655, 1, 10));
     HEARS_MEDIA(&r, 119 + 32767, 0, RESTARTED(98422, 1, 1));

@@ -3,6 +3,7 @@ pub mod Tallied
 pub mod SendTallied
 pub mod Believed
 mod Silences
+mod WaitedFor
 pub mod Passes
 pub mod Cells
 pub mod InTime

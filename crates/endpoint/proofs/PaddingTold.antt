@@ -7,7 +7,6 @@ use Rattle.rtpwire.specs.Retransmission.{Repair, IsRepair}
 use Rattle.rtpwire.specs.Rtp.{RtpPacket, RtpSpells}
 use Rattle.rtpwire.specs.RtpChecks.{rtp_fault}
 use Rattle.rtpwire.specs.Session.{Streams}
-use Rattle.stores.specs.Span.{highest_of}
 use Rattle.receiver.specs.declared.answer.Taken.{Taken}
 use Rattle.receiver.specs.declared.fault.ReceiveFault.{ReceiveFault}
 use Rattle.receiver.specs.declared.fault.ReceiveFault.TheVariants as refused
@@ -66,7 +65,7 @@ module _ (one : One) (refuses : Refuses) (long : Long) (plain : List ℕ) (packe
     packet_short : HearsPacket p old plain now answer new → answer ≡ Err (refused.Rtp rtp.NoOsn)
     packet_short hears =
         let none : hears.number ≡ None = hears.is_number packet spelled ∙ not_media old.core.config.session (source_of old.core.config (state_of old.core)) packet is in
-        let believes : Believes p old None plain now answer new = subst (λ (n : Option ℕ). HearsWanted p old (wanted_at p (highest_of old.core.span) n) n plain now answer new) none hears.heard in
+        let believes : Believes p old None plain now answer new = subst (λ (n : Option ℕ). HearsWanted p old (wanted_at p old.core.span n) n plain now answer new) none hears.heard in
         let it = believes.handed.hears in
         believes.answered
         ∙ ap (as_heard None) (said_short old.core.span.capacity now old.core.config (state_of old.core) (state_of new.core) it.said believes.taken it.says it.heard is)

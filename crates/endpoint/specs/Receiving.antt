@@ -4,6 +4,8 @@ use Rattle.std.specs.Prelude.{◌≡◌, ℕ, zero, suc, ◌+◌, ◌%◌, ◌==
 use Rattle.rtpwire.specs.Rtp.{RtpPacket, RtpSpells}
 use Rattle.rtpwire.specs.Session.{Streams}
 use Rattle.stores.specs.Span.{Span, highest_of, empty_span}
+use Rattle.stores.specs.Asking.{is_missing}
+use Rattle.stores.specs.ByPlace.{slot_at}
 use Rattle.receiver.specs.Config.{Config}
 use Rattle.receiver.specs.declared.answer.Taken.{Taken}
 use Rattle.receiver.specs.declared.fault.ReceiveFault.{ReceiveFault}
@@ -14,6 +16,7 @@ use Rattle.endpoint.specs.declared.holding.Run.{Run}
 use Rattle.endpoint.specs.declared.heard.Heard.{Heard}
 use Rattle.endpoint.specs.declared.heard.Heard.TheVariants as heard
 use Rattle.endpoint.specs.Probation.{wanted_for, goes_on, wanted_of_run, wanted_now}
+use Rattle.endpoint.specs.Asked.{asked_at}
 use Rattle.endpoint.specs.Demultiplex.{is_control}
 use Rattle.endpoint.specs.Padding.{IsStripped}
 
@@ -29,11 +32,19 @@ abbrev pub IsSpelledWhere : List ℕ → Option ℕ → Type 0
 IsSpelledWhere octets None = Unit {0}
 IsSpelledWhere octets (Some seq) = (p : RtpPacket) × RtpSpells p octets
 
--- How many in sequence are wanted before a media packet with this number is believed: a receiver that took nothing believes any.
-abbrev pub wanted_at : Probation → (highest : Option ℕ) → (number : Option ℕ) → ℕ
-wanted_at p highest None = 0
-wanted_at p None (Some seq) = 0
-wanted_at p (Some h) (Some seq) = wanted_for p h seq
+-- The place that has this number and lies nearest behind the highest one is missing: it is waited for.
+abbrev pub is_awaited : Span → (highest seq : ℕ) → Bool
+is_awaited s highest seq = is_missing (slot_at s (asked_at highest seq))
+
+abbrev pub wanted_behind : Probation → Span → (highest : Option ℕ) → (seq : ℕ) → ℕ
+wanted_behind p s None seq = 0
+wanted_behind p s (Some h) seq = if is_awaited s h seq then 0 else wanted_for p h seq
+
+-- How many in sequence are wanted before a media packet with this number is believed. A receiver that took nothing believes any; and
+-- what is waited for is believed however far behind it comes.
+abbrev pub wanted_at : Probation → Span → (number : Option ℕ) → ℕ
+wanted_at p s None = 0
+wanted_at p s (Some seq) = wanted_behind p s (highest_of s) seq
 
 -- One datagram at a receiver, which is as it was where that refuses it.
 pub record Handed (old : Receiving) (octets : List ℕ) (now : ℕ) (answer : Result Taken ReceiveFault) (new : Receiving) : Type 0 where
@@ -146,7 +157,7 @@ pub record HearsPacket (p : Probation) (old : Ends) (octets : List ℕ) (now : �
   pub number : Option ℕ
   pub is_number : IsMediaNumber old.core.config.session octets number
   pub spelled : IsSpelledWhere octets number
-  pub heard : HearsWanted p old (wanted_at p (highest_of old.core.span) number) number octets now answer new
+  pub heard : HearsWanted p old (wanted_at p old.core.span number) number octets now answer new
 
 -- a packet that is all padding is heard without it
 abbrev pub HearsStripped : Probation → Ends → (plain : Option (List ℕ)) → (octets : List ℕ) → (now : ℕ) → Result Heard ReceiveFault → Ends → Type 0

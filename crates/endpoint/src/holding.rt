@@ -1,15 +1,15 @@
 //! Hearing a packet: one that is believed goes to the receiver, and one that is not is held back.
 ghost use Rattle.std.specs.Prelude.{◌≡◌, Ok};
-ghost use Rattle.stores.specs.Span.{highest_of};
 ghost use Rattle.receiver.specs.Receiver.{Receiving};
-ghost use Rattle.endpoint.specs.Receiving.{ends_of, Handed, AfterHeld, Believes, HearsWanted, HoldsBack, follows, kept_in, none_held, run_refused, wanted_at};
+ghost use Rattle.endpoint.specs.Receiving.{ends_of, Handed, AfterHeld, Believes, HearsWanted, HoldsBack, follows, is_awaited, kept_in, none_held, run_refused, wanted_at};
 
+use crate::asked_places::asked_at;
 use crate::heard::{Heard, Restart};
 use crate::probation::Probation;
 use places::Place;
 use receiver::{ReceiveFault, Receiver, Taken};
 use std::mem;
-use stores::Window;
+use stores::{SlotRef, Window};
 
 /// Packets that are held back: how many, how many are wanted, and which number is the next in sequence; and the moment at which
 /// a media packet was last taken.
@@ -62,12 +62,31 @@ pub(crate) fn wanted_at<W: Window>(
     probation: &Probation,
     number: Option<u16>,
 ) -> u16
-    ensures { result ≡ wanted_at probation.now (highest_of core.now.span) number }
+    ensures { result ≡ wanted_at probation.now core.now.span number }
 {
-    match (core.window().highest(), number) {
-        (Some(highest), Some(seq)) => probation.wanted(highest, seq),
+    let window = core.window();
+    match (window.highest(), number) {
+        (Some(highest), Some(seq)) => {
+            let wanted = probation.wanted(highest, seq);
+            // Most have not jumped, and nothing is looked up for them.
+            if wanted > 0 && is_awaited(window, highest, seq) {
+                0
+            } else {
+                wanted
+            }
+        }
         _ => 0,
     }
+}
+
+/// Whether the place with this number that lies nearest behind the highest one is missing.
+fn is_awaited<W: Window>(window: &W, highest: Place, seq: u16) -> bool
+    ensures { result ≡ is_awaited (W.meaning window.now) highest seq }
+{
+    matches!(
+        window.slot(asked_at(highest, seq)),
+        Some(SlotRef::Missing { .. })
+    )
 }
 
 /// Hears a packet of which so many are wanted. `number` is its sequence number if it is media.

@@ -7,7 +7,13 @@ ghost use Rattle.endpoint.specs.Counts.{IsInFull};
 ghost use Rattle.receiver.specs.declared.fault.ReceiveFault.{ReceiveFault};
 ghost use Rattle.endpoint.specs.declared.heard.Heard.{Heard};
 ghost use Rattle.endpoint.specs.Events.{Event, Endpoint, RunsOver, heard};
+ghost use Rattle.endpoint.specs.Receiving.{Believes, Ends, HearsPacket, media_number_of};
 ghost use Rattle.endpoint.specs.Silence.{IsFounded};
+ghost use Rattle.places.specs.Place.{IsNear};
+ghost use Rattle.rtpwire.specs.Rtp.{RtpPacket, RtpSpells};
+ghost use Rattle.stores.specs.declared.slot.Slot.TheVariants.{Missing};
+ghost use Rattle.stores.specs.ByPlace.{slot_at};
+ghost use Rattle.stores.specs.Span.{highest_of};
 ghost use Rattle.endpoint.specs.Tally.{tally, media_in, repairs_in, held_in, restarts_in, control_in, refused_as, refused_else, overrun_in, abandoned_in, played_in, gaps_in, asks_in, places_in};
 ghost use Rattle.endpoint.specs.Ledger.{Reached, ledger};
 ghost use Rattle.endpoint.specs.declared.send_counts.SendCounts.{SendCounts};
@@ -60,4 +66,15 @@ pub fn restarts_are_founded()
     ensures { (c : Config) (capacity : ℕ) (p : Probation) (span : ℕ) → p.silence ≡ Some span
         → (before : List Event) (octets : List ℕ) (now : ℕ) (answer : Result Heard ReceiveFault) (e : Endpoint)
         → RunsOver c capacity p (heard octets now answer ∷ before) e → IsFounded p span before now answer }
+{}
+
+/// What is waited for is no jump.
+pub fn awaited_media_is_believed()
+    // Media of the session whose place is missing is handed to the receiver that has what is believed, however far behind the highest
+    // place it lies: it is not held back, and nothing restarts.
+    ensures { (p : Probation) (old new : Ends) (packet : RtpPacket) (octets : List ℕ) (now : ℕ) (answer : Result Heard ReceiveFault)
+        → HearsPacket p old octets now answer new → RtpSpells packet octets → media_number_of old.core.config.session packet ≡ Some packet.sequence
+        → (highest place noticed asks last : ℕ) → highest_of old.core.span ≡ Some highest → IsNear highest packet.sequence place
+        → slot_at old.core.span place ≡ Some (Missing noticed asks last)
+        → Believes p old (Some packet.sequence) octets now answer new }
 {}

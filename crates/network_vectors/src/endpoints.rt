@@ -58,13 +58,14 @@ fn repeated(alloc: Global, count: u16) -> Result<(u32, u32, u8), Fail> {
 
 #[test]
 fn jumps_of_the_number(rt: HostRuntime) -> Result<(), Fail> {
-    let rows: [(&[u16], &[u8]); 7] = [
+    let rows: [(&[u16], &[u8]); 8] = [
         (&[1, 2, 3, 20003, 20004, 20005], b"ttthrt"),
         (&[1, 2, 3, 16387, 4, 5], b"ttthtt"),
         (&[1, 2, 3, 3002], b"tttt"),
         (&[1, 2, 3, 3003], b"ttth"),
         (&[200, 101], b"tx"),
         (&[200, 100], b"th"),
+        (&[1, 250, 100, 100], b"ttth"),
         (&[65535, 0, 30000, 20000, 20001], b"tthhr"),
     ];
     for (numbers, letters) in rows {

@@ -42,6 +42,17 @@ static void test_order(void) {
     drop_receiver(&r);
 }
 
+/* What is missing is taken however far behind it comes, and is no stream that begins anew. */
+static void test_far_behind(void) {
+    receiver r = make_receiver(CAPS);
+    for (guint16 i = 0; i < 400; i++)
+        if (i != 100) SEND(&r, .sequence = i, .fill = (guint8)i);
+    SEND(&r, .sequence = 100, .fill = 100);
+    for (guint16 i = 0; i < 400; i++) COMES(r.media, .sequence = i, .fill = (guint8)i);
+    CHECK(is_silent(r.media) && count_of(r.element, "held-back") == 0 && count_of(r.element, "restarts") == 0);
+    drop_receiver(&r);
+}
+
 /* A missing packet is asked for when the delay is over and at each retry, and its repair has the times of its frame. */
 static void test_repair(void) {
     receiver r = make_receiver(CAPS);
@@ -243,6 +254,7 @@ static void test_in_doubt(void) {
 void test_receive(void) {
     test_whole_packet();
     test_order();
+    test_far_behind();
     test_repair();
     test_loss();
     test_loss_untold();
