@@ -4,6 +4,7 @@ pub mod SendTallied
 pub mod Believed
 mod Silences
 mod WaitedFor
+mod Typed
 pub mod Passes
 pub mod Cells
 pub mod InTime

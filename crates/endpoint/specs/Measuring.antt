@@ -1,26 +1,29 @@
 -- What a receiving endpoint measures of the path by what comes, and by what it asks for.
-use Rattle.std.specs.Prelude.{◌≡◌, ℕ, ◌+◌, ◌-◌, ◌/◌, ◌^◌, ◌<◌, ◌≤◌, ◌==◌, ◌||◌, Bool, false, nat_lt, List, length, drop, Option, Some, None, Result, Ok, if◌then◌else◌}
+use Rattle.std.specs.Prelude.{◌≡◌, ℕ, ◌+◌, ◌-◌, ◌/◌, ◌^◌, ◌<◌, ◌≤◌, ◌==◌, ◌||◌, Bool, false, nat_lt, List, length, drop, Option, Some, None, MatchOption, Result, Ok, Err, if◌then◌else◌}
 use Rattle.byteorder.specs.Endian.{big_number}
 use Rattle.places.specs.Place.{IsNear}
+use Rattle.rtpwire.specs.Session.{Streams}
 use Rattle.stores.specs.declared.slot.Slot.{Slot}
 use Rattle.stores.specs.declared.slot.Slot.TheVariants.{Missing}
 use Rattle.stores.specs.Span.{Span, highest_of}
 use Rattle.stores.specs.ByPlace.{slot_at}
 use Rattle.receiver.specs.Receiver.{Receiving, with_times}
 use Rattle.receiver.specs.declared.fault.ReceiveFault.{ReceiveFault}
+use Rattle.receiver.specs.declared.fault.ReceiveFault.TheVariants as refused
 use Rattle.endpoint.specs.declared.heard.Heard.{Heard}
 use Rattle.endpoint.specs.declared.heard.Heard.TheVariants as heard
 use Rattle.endpoint.specs.declared.path_meter.PathMeter.{PathMeter}
 use Rattle.endpoint.specs.declared.standing.Awaited.{Awaited}
 use Rattle.endpoint.specs.declared.standing.Standing.{Standing}
 use Rattle.endpoint.specs.Asked.{asked_at}
+use Rattle.endpoint.specs.Kinds.{IsRepairOf}
 use Rattle.timing.specs.declared.ask_times.AskTimes.{AskTimes}
 use Rattle.timing.specs.declared.path.Path.{Path}
 use Rattle.timing.specs.declared.arrivals.Arrivals.{Arrivals}
 use Rattle.timing.specs.declared.round_trip.Probe.{Probe}
 use Rattle.timing.specs.declared.round_trip.RoundTrip.{RoundTrip}
-use Rattle.timing.specs.Path.{new_path, times_over}
-use Rattle.timing.specs.RoundTrip.{doubted, heard_at, passed_at, probed}
+use Rattle.timing.specs.Path.{new_path}
+use Rattle.timing.specs.RoundTrip.{doubted, forgotten, heard_again, heard_at, passed_at, probed}
 use Rattle.timing.specs.Lately.{greatest_at, seen_at}
 use Rattle.timing.specs.Arrivals.{came_at, lead_at, none_came, restarted_at}
 use Rattle.timing.specs.Capped.{capped}
@@ -42,6 +45,11 @@ abbrev pub IsWaitedFor : Span → (octets : List ℕ) → Option Awaited → Typ
 IsWaitedFor s octets None = (place noticed : ℕ) → IsMissed s octets place noticed → ⊥
 IsWaitedFor s octets (Some a) = IsMissed s octets a.place a.noticed
 
+-- The place near the highest one whose packet the octets repeat, if they are a retransmission.
+abbrev pub IsOriginal : Streams → (highest : Option ℕ) → (octets : List ℕ) → Option ℕ → Type 0
+IsOriginal s None octets place = place ≡ None
+IsOriginal s (Some h) octets place = MatchOption place ((q : ℕ) → IsRepairOf s h octets q → ⊥) (λ q. IsRepairOf s h octets q)
+
 -- How long a silence is at least of which something is too late: by a quarter longer than a place is waited for. Of what was lost in a
 -- shorter one all but the first few packets can still be in time, and these are late by little.
 abbrev pub least_silence : (patience : ℕ) → ℕ
@@ -53,6 +61,7 @@ pub record IsStanding (core : Receiving) (octets : List ℕ) (standing : Standin
   pub cursor : standing.cursor ≡ core.span.cursor
   pub least : standing.least ≡ least_silence core.config.patience
   pub awaited : IsWaitedFor core.span octets standing.awaited
+  pub original : IsOriginal core.config.session (highest_of core.span) octets standing.original
 
 -- A media packet that was waited for came late: so far packets come behind later ones. The times of asks follow where that is farther
 -- than it was.
@@ -67,11 +76,17 @@ seen_by (Some a) p place now =
 abbrev pub path_came : Standing → Path → (place now : ℕ) → Path
 path_came s p place now = record p { arrivals = came_at p.arrivals s.highest s.cursor s.least place now }
 
+-- A retransmission that was refused at its place, as one was taken before, may be a measurement too.
+abbrev pub again_by : (original : Option ℕ) → Path → (now : ℕ) → Bool × Path
+again_by None p now = (false, p)
+again_by (Some place) p now = ((heard_again p.trip place now).0, record p { trip = (heard_again p.trip place now).1 })
+
 -- A retransmission that was taken may be a measurement of the round-trip time.
 abbrev pub measured_by : Result Heard ReceiveFault → Standing → Path → (now : ℕ) → Bool × Path
 measured_by (Ok (heard.Repair taken)) s p now = ((heard_at p.trip taken.place now).0, record p { trip = (heard_at p.trip taken.place now).1 })
 measured_by (Ok (heard.Media taken)) s p now = seen_by s.awaited (path_came s p taken.place now) taken.place now
 measured_by (Ok (heard.Restarted restart)) s p now = (false, record p { arrivals = restarted_at p.arrivals now })
+measured_by (Err (refused.Put fault)) s p now = again_by s.original p now
 measured_by answer s p now = (false, p)
 
 -- nothing was measured
@@ -101,7 +116,7 @@ trip_probed s highest nack now t =
 -- What is measured is in doubt from its second ask on; what is missing no longer is measured no longer.
 abbrev pub trip_watched : (asks : Option ℕ) → Span → (place highest : ℕ) → (nack : List ℕ) → (now : ℕ) → RoundTrip → RoundTrip
 trip_watched None s place highest nack now t = trip_probed s highest nack now (passed_at t place)
-trip_watched (Some asks) s place highest nack now t = if nat_lt 1 asks then doubted t else t
+trip_watched (Some asks) s place highest nack now t = if nat_lt 1 asks then doubted t now else t
 
 abbrev pub trip_after : Option Probe → Span → (highest : ℕ) → (nack : List ℕ) → (now : ℕ) → RoundTrip → RoundTrip
 trip_after None s highest nack now t = trip_probed s highest nack now t
@@ -121,7 +136,7 @@ meter_passed place m = record m { path = record m.path { trip = passed_at m.path
 
 -- all places are others, and none is measured any more
 abbrev pub meter_restarted : PathMeter → PathMeter
-meter_restarted m = record m { path = record m.path { trip = record m.path.trip { probe = None }; arrivals = none_came } }
+meter_restarted m = record m { path = record m.path { trip = forgotten m.path.trip; arrivals = none_came } }
 
 -- the times follow what was measured, as many asks as fit into the patience, which stays
 abbrev pub times_set : Option AskTimes → (patience : ℕ) → Receiving → Receiving

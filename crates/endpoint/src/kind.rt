@@ -90,7 +90,7 @@ fn is_foreign(asked: &AskedPlaces, session: &Session, highest: Place, octets: &[
 }
 
 /// The place of the original that a retransmission repeats.
-fn repaired(session: &Session, highest: Place, octets: &[u8]) -> Option<Place>
+pub(crate) fn repaired(session: &Session, highest: Place, octets: &[u8]) -> Option<Place>
     ensures { MatchOption result ((q : ℕ) → IsRepairOf session.now highest octets.now q → ⊥) (λ q. IsRepairOf session.now highest octets.now q) }
 {
     match RtpView::read(octets) {

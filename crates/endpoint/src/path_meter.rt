@@ -1,7 +1,7 @@
 //! How a path is measured by what a receiving endpoint hears of it, and asks there.
 ghost use Rattle.std.specs.Prelude.{◌≡◌, false, true};
 ghost use Rattle.stores.specs.ByPlace.{slot_at};
-ghost use Rattle.endpoint.specs.Measuring.{asks_of, left_at, measured_by, meter_asked, meter_heard, meter_passed, meter_restarted, new_meter, seen_by, times_set, trip_after, trip_probed};
+ghost use Rattle.endpoint.specs.Measuring.{again_by, asks_of, left_at, measured_by, meter_asked, meter_heard, meter_passed, meter_restarted, new_meter, seen_by, times_set, trip_after, trip_probed};
 ghost use Rattle.timing.specs.Path.{times_over};
 
 use crate::asked_places::asked_at;
@@ -70,9 +70,7 @@ impl PathMeter {
     pub fn restart(&mut self)
         ensures { self.new ≡ meter_restarted self.old }
     {
-        if let Some(place) = self.path.trip.place() {
-            self.path.trip.pass(place);
-        }
+        self.path.trip.forget();
         self.path.arrivals = Arrivals::new();
     }
 
@@ -150,7 +148,18 @@ fn measure(
             path.arrivals.restart(now);
             false
         }
+        Err(ReceiveFault::Put(_)) => hear_again(path, standing.original, now),
         _ => false,
+    }
+}
+
+/// A retransmission of this place was refused, as its packet came before.
+fn hear_again(path: &mut Path, original: Option<Place>, now: u64) -> bool
+    ensures { (result, path.new) ≡ again_by original path.old now }
+{
+    match original {
+        Some(place) => path.trip.hear_again(place, now),
+        None => false,
     }
 }
 
@@ -177,7 +186,7 @@ fn watch<W: Window>(trip: &mut RoundTrip, core: &Receiver<W>, highest: Place, na
     if let Some(place) = trip.place() {
         if let Some(asks) = asks_for(core, place) {
             if asks > 1 {
-                trip.doubt();
+                trip.doubt(now);
             }
             return;
         }

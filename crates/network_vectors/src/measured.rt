@@ -158,6 +158,48 @@ fn a_second_ask(rt: HostRuntime) -> Result<(), Fail> {
     Ok(())
 }
 
+/// Both asks are answered: the first answer was the first ask's, and came too late for the second one.
+#[test]
+fn a_second_answer(rt: HostRuntime) -> Result<(), Fail> {
+    const STEPS: &[(u64, Step)] = &[
+        (0, Media(1)),
+        (5, Media(3)),
+        (25, Asks),
+        (65, Asks),
+        (90, Repair(2)),
+        // What comes again within half of the 40 between both asks is a copy.
+        (109, Repair(2)),
+        (109, Knows(0, false)),
+        (110, Repair(2)),
+        (110, Knows(65, true)),
+        // It takes 65 + 32 + 5: no second one has its answer in time.
+        (110, Follows(200)),
+        (110, Times(200, 0, 200)),
+    ];
+    assert_eq!(rt; wrong_step(rt.alloc(), STEPS)?, None);
+    Ok(())
+}
+
+/// What is answered again behind a restart was asked for before it.
+#[test]
+fn a_second_answer_behind_a_restart(rt: HostRuntime) -> Result<(), Fail> {
+    const STEPS: &[(u64, Step)] = &[
+        (0, Media(1)),
+        (5, Media(3)),
+        (25, Asks),
+        (65, Asks),
+        (90, Repair(2)),
+        (100, Restarts),
+        (100, Media(1)),
+        (100, Media(3)),
+        (110, Repair(2)),
+        (150, Repair(2)),
+        (150, Knows(0, false)),
+    ];
+    assert_eq!(rt; wrong_step(rt.alloc(), STEPS)?, None);
+    Ok(())
+}
+
 #[test]
 fn the_first_of_a_nack_is_measured(rt: HostRuntime) -> Result<(), Fail> {
     const STEPS: &[(u64, Step)] = &[

@@ -2,3 +2,4 @@ pub mod Held
 pub mod Leads
 pub mod Spread
 pub mod Sightings
+pub mod Twice

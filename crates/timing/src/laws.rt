@@ -1,11 +1,13 @@
 //! Laws on what is measured of a path and on the times of asks. These functions compute nothing: their contracts are the laws.
-ghost use Rattle.std.specs.Prelude.{◌≡◌, ◌<◌, ◌≤◌, ◌+◌, ◌-◌, ◌*◌, ◌/◌, ◌^◌, ◌⊎◌, ℕ, List};
+ghost use Rattle.std.specs.Prelude.{◌≡◌, ◌<◌, ◌≤◌, ◌+◌, ◌-◌, ◌*◌, ◌/◌, ◌^◌, ◌⊎◌, ℕ, List, Option, None, false, true, IsSomeAnd};
+ghost use Rattle.timing.specs.declared.round_trip.Answered.{Answered};
 ghost use Rattle.timing.specs.declared.round_trip.Smoothed.{Smoothed};
 ghost use Rattle.timing.specs.declared.playout.Playout.{Playout};
 ghost use Rattle.timing.specs.declared.silence.Silence.{Silence};
 ghost use Rattle.timing.specs.AskTimes.{ask_times, answer_of};
 ghost use Rattle.timing.specs.Lately.{greatest_at};
 ghost use Rattle.timing.specs.Playout.{heard_at, ms_of, release_at, ticks_of};
+ghost use Rattle.timing.specs.RoundTrip.{doubted, heard_again, heard_at as taken_at, probed};
 ghost use Rattle.timing.specs.Silence.{lead_of};
 ghost use Rattle.timing.specs.Sightings.{Sighting, seen_of, IsInOrder, AreWithin, AreLatelyWithin};
 
@@ -25,6 +27,19 @@ pub fn asks_fit_the_time()
     // were asks before.
     ensures not_late { (s : Smoothed) (patience reordering more : ℕ) → let t = ask_times s patience reordering in
         answer_of s ≤ patience → (t.delay + more * t.retry + answer_of s ≤ patience) ⊎ (patience ≤ t.delay + more * t.retry + more) }
+{}
+
+/// Of a round trip that is longer than the time between asks, as where a queue fills on the way.
+#[tactic(auto, using(crate::proofs::Twice::found))]
+pub fn answers_that_come_twice_are_measured()
+    // Where a place was asked for twice, and both asks were answered, half of what lay between them apart or more: the first answer says
+    // nothing, and the second one that an answer takes no less, mostly, than the first one took from the first ask on.
+    ensures { (answered : Option Answered) (smoothed : Option Smoothed) (doubts place asked again came twice : ℕ)
+        → doubts < 8 → asked ≤ came → came ≤ asked + 60000 → came + (again - asked) / 2 ≤ twice → twice < 2 ^ 64
+        → let waited = doubted (probed (record { probe = None; answered = answered; smoothed = smoothed; doubts = doubts }) place asked) again in
+        let first = taken_at waited place came in
+        let second = heard_again first.1 place twice in
+        (first.0 ≡ false) × (second.0 ≡ true) × IsSomeAnd second.1.smoothed (λ s. came ≤ asked + answer_of s) }
 {}
 
 /// Of the greatest of what was seen, at moments that don't fall.

@@ -20,5 +20,5 @@ pub use laws::{
 };
 pub use path::Path;
 pub use playout::{Playout, Stamp};
-pub use round_trip::{Probe, RoundTrip, Smoothed};
+pub use round_trip::{Answered, Probe, RoundTrip, Smoothed};
 pub use silence::Silence;

@@ -1,7 +1,7 @@
 //! How long a retransmission takes, and what follows from it.
 ghost use Rattle.std.specs.Prelude.{◌≡◌};
 ghost use Rattle.std.specs.Option.{option_map};
-ghost use Rattle.timing.specs.RoundTrip.{smoothed_with, probed, doubted, heard_at, passed_at, measured_none, time_of};
+ghost use Rattle.timing.specs.RoundTrip.{smoothed_with, raised_with, probed, doubted, heard_at, heard_again, passed_at, forgotten, measured_none, time_of};
 
 use places::Place;
 
@@ -26,17 +26,34 @@ pub struct Probe {
     pub place: Place,
     /// The moment at which it was asked for, for the first time.
     pub asked: u64,
-    /// Whether it was asked for again: which ask a retransmission answers is not known then.
-    pub in_doubt: bool,
+    /// The moment at which it was asked for again, if it was: which ask a retransmission answers is not known then.
+    pub again: Option<u64>,
+}
+
+/// A place whose retransmission came while it was in doubt which ask that answers.
+#[derive(Clone, Copy, Debug, PartialEq, Eq)]
+pub struct Answered {
+    pub place: Place,
+    /// How long after the first ask it came, in milliseconds.
+    pub time: u64,
+    /// From which moment on one more retransmission answers another ask: the two asks lay farther apart than a network lays copies.
+    pub from: u64,
 }
 
 /// How a round-trip time is measured: from the first ask for a place to its retransmission, one place at a time; and smoothed as
 /// RFC 6298, section 2, has it. Where the place was asked for again the time is in doubt, and is passed over (section 3, Karn's
 /// algorithm). But it is never too short: so each ninth one in a row counts, since else a time that is longer than what is waited
-/// for was never found. Losses alone, even half of all, have so many in doubt once in 500 times. Times are in milliseconds.
+/// for was never found. Losses alone, even half of all, have so many in doubt once in 500 times.
+///
+/// **An answer that comes twice** ends the doubt: both asks were answered, so what came first answered the first one, and the second ask
+/// was made before its answer could have come (as RFC 3708 and RFC 8985, section 6.2, have it of a retransmission that was spurious). That
+/// is how a queue is seen that fills on the way. It counts at once, as a first measurement does, where it is longer than what was known. Times
+/// are in milliseconds.
 #[derive(Clone, Copy, Debug, PartialEq, Eq)]
 pub struct RoundTrip {
     probe: Option<Probe>,
+    /// What came last while it was in doubt.
+    answered: Option<Answered>,
     /// None before the first measurement.
     smoothed: Option<Smoothed>,
     /// How many measurements in doubt were passed over since one counted.
@@ -50,6 +67,7 @@ impl RoundTrip {
     {
         RoundTrip {
             probe: None,
+            answered: None,
             smoothed: None,
             doubts: 0,
         }
@@ -73,20 +91,22 @@ impl RoundTrip {
             self.probe = Some(Probe {
                 place,
                 asked: now,
-                in_doubt: false,
+                again: None,
             });
         }
     }
 
-    /// The place that is measured was asked for again.
-    pub fn doubt(&mut self)
-        ensures { self.new ≡ doubted self.old }
+    /// The place that is measured was asked for again, at the moment `now`.
+    pub fn doubt(&mut self, now: u64)
+        ensures { self.new ≡ doubted self.old now }
     {
         if let Some(probe) = self.probe {
-            self.probe = Some(Probe {
-                in_doubt: true,
-                ..probe
-            });
+            if probe.again.is_none() {
+                self.probe = Some(Probe {
+                    again: Some(now),
+                    ..probe
+                });
+            }
         }
     }
 
@@ -101,14 +121,49 @@ impl RoundTrip {
             return false;
         }
         self.probe = None;
-        if probe.in_doubt && self.doubts < DOUBTS {
-            self.doubts += 1;
-            return false;
-        }
         let time = now.saturating_sub(probe.asked).min(LONGEST);
+        if let Some(again) = probe.again {
+            if self.doubts < DOUBTS {
+                self.doubts += 1;
+                self.answered = Some(Answered {
+                    place,
+                    time,
+                    from: now.saturating_add(again.saturating_sub(probe.asked) / 2),
+                });
+                return false;
+            }
+        }
         self.smoothed = Some(smoothed_with(self.smoothed, time));
         self.doubts = 0;
         true
+    }
+
+    /// One more retransmission of a place came at the moment `now`, and was refused. It answers whether that was a measurement: whether the
+    /// place was asked for twice, and both asks were answered.
+    pub fn hear_again(&mut self, place: Place, now: u64) -> bool
+        ensures { (result, self.new) ≡ heard_again self.old place now }
+    {
+        let Some(answered) = self.answered else {
+            return false;
+        };
+        if answered.place != place || now < answered.from {
+            return false;
+        }
+        self.answered = None;
+        self.smoothed = Some(raised_with(self.smoothed, answered.time));
+        self.doubts = 0;
+        true
+    }
+
+    /// All places are others: none is waited for any more.
+    pub fn forget(&mut self)
+        ensures { self.new ≡ forgotten self.old }
+    {
+        *self = RoundTrip {
+            smoothed: self.smoothed,
+            doubts: self.doubts,
+            ..RoundTrip::new()
+        };
     }
 
     /// A place was played or given up, so nothing that is asked for is waited for there.
@@ -153,5 +208,15 @@ fn smoothed_with(smoothed: Option<Smoothed>, time: u64) -> Smoothed
                 old.time / 8,
             )),
         },
+    }
+}
+
+/// What is smoothed, after a measurement that counts at once where it is longer than the time so far.
+fn raised_with(smoothed: Option<Smoothed>, time: u64) -> Smoothed
+    ensures { result ≡ raised_with smoothed time }
+{
+    match smoothed {
+        Some(old) if time <= old.time / 8 => smoothed_with(smoothed, time),
+        _ => smoothed_with(None, time),
     }
 }

@@ -42,13 +42,13 @@ fn times_in_doubt_are_passed_over_but_each_ninth(_rt: HostRuntime) -> Result<(),
     let mut doubtful = [true; 9];
     for answer in &mut doubtful {
         trip.ask(place, 0);
-        trip.doubt();
+        trip.doubt(100);
         *answer = trip.hear(place, 300);
     }
     let late = trip.time() == Some(300);
     // The count begins anew: the next one in doubt is passed over again, and one without doubt counts.
     trip.ask(place, 0);
-    trip.doubt();
+    trip.doubt(100);
     let tenth = trip.hear(place, 900);
     trip.ask(place, 0);
     let sure = trip.hear(place, 60) && trip.time() == Some(270);
@@ -58,6 +58,45 @@ fn times_in_doubt_are_passed_over_but_each_ninth(_rt: HostRuntime) -> Result<(),
     } else {
         Err(Fail::from("the times in doubt"))
     }
+}
+
+/// A place that is asked for at 1000 and at 1090, and whose answers come at 1200 and at this moment: what is known then of a round trip, that was
+/// known to take so long before.
+fn answered_twice(known: Option<u64>, second: u64) -> (bool, Option<u64>) {
+    let mut trip = RoundTrip::new();
+    let place = Place::first(7);
+    if let Some(known) = known {
+        trip.ask(place, 0);
+        let _ = trip.hear(place, known);
+    }
+    trip.ask(place, 1000);
+    trip.doubt(1090);
+    trip.doubt(1180);
+    let first = trip.hear(place, 1200);
+    let other = trip.hear_again(Place::first(8), second);
+    let again = trip.hear_again(place, second);
+    // A third answer tells nothing more.
+    let third = trip.hear_again(place, second);
+    (again && !first && !other && !third, trip.time())
+}
+
+#[test]
+fn answers_that_come_twice(_rt: HostRuntime) -> Result<(), Fail> {
+    let rows = [
+        // Half of the 90 behind the first one: it was the first ask's, and took 200. It counts at once, where it is longer.
+        (None, 1245, (true, Some(200))),
+        (Some(56), 1245, (true, Some(200))),
+        (Some(240), 1290, (true, Some(235))),
+        // A copy of the same answer tells nothing.
+        (Some(56), 1244, (false, Some(56))),
+        (None, 1200, (false, None)),
+    ];
+    for (known, second, told) in rows {
+        if answered_twice(known, second) != told {
+            return Err(Fail::from("what comes twice"));
+        }
+    }
+    Ok(())
 }
 
 /// The times over a path of this round-trip time, with a variation of one millisecond, for a patience of 200.

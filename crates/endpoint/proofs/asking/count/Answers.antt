@@ -1,6 +1,5 @@
-use Rattle.std.proofs.Common.{◌≡◌, ◌+◌, ◌^◌, ◌<◌, ◌++◌, ◌∷◌, [], length, rules, arith, count_ones}
+use Rattle.std.proofs.Common.{◌^◌, ◌<◌, rules, arith}
 use Rattle.std.proofs.lemmas.Grind.{common_steps}
-use Rattle.fbwire.specs.Nack.{numbers_of}
 use Rattle.endpoint.proofs.Masked.{count_more}
 use Rattle.endpoint.proofs.asking.count.Goals as goal
 
