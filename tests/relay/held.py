@@ -6,11 +6,12 @@ import statistics
 import time
 
 from base import WATCH, ends, on_time, part
-from net import App, End
-from rtp import index, plain
+from net import App, End, Path
+from rtp import index, parse, plain
 
 MANY, BURST, STEP = 200, 10, 0.01  # packets, ten of them at once, of a stream that has one each ten milliseconds
 LATENCY = 300
+SSRC = 0x1a2b3c4d
 
 
 def bursts(app):
@@ -54,6 +55,34 @@ def evenly(checks, stage):
     ends(checks, "without --hold", sender, receiver)
 
 
+@on_time(0.03)
+def steps(checks, stage):
+    """Timestamps that step back or ahead end no repair: one in ten packets is lost at first, and all come. What is held as the step is
+    believed leaves at once, and all behind it evenly again."""
+    for step in (-90000, 90000 * 3600):
+        name, player, lost = f"a step of {step // 90000} seconds", End(stage), set()
+
+        def rule(way, octets, lost=lost):
+            one = parse(octets) if way == "forth" else None
+            is_first = one and one.ssrc == SSRC and one.number % 10 == 4 and one.number not in lost
+            if is_first:
+                lost.add(one.number)
+            return () if is_first else (0,)
+
+        receiver = stage.receive(player.at, "--packets", MANY, "--latency", LATENCY, "--hold", 90000)
+        sender = stage.send(Path(stage, receiver.at, rule).at)
+        contents = plain(MANY, step=900)
+        stepped = [one._replace(time=(one.time + 9000000 + (step if i >= MANY // 2 else 0)) & 0xffffffff) for i, one in enumerate(contents)]
+        App(stage, sender.at, number=0).stream(stepped, 1 / STEP)
+        ends(checks, name, receiver)
+        checks.same([index(one) for one in player.packets()], list(range(MANY)), f"{name}: what came to the player")
+        checks.same(len(lost), MANY // 10, f"{name}: packets that were lost")
+        times = [1000 * (moment - number * STEP) for number, (moment, _, _) in enumerate(player.came)]
+        for part_of in times[:MANY // 2 - 40], times[MANY // 2 + 40:]:
+            checks.count(spread(part_of) < 20, f"{name}: nine in ten lie {spread(part_of):.1f} milliseconds apart")
+        sender.stop()
+
+
 @on_time(0.05)
 def latency(checks, stage):
     """A packet that comes alone leaves as much later as the latency says."""
@@ -69,4 +98,4 @@ def latency(checks, stage):
 
 
 if __name__ == "__main__":
-    part(evenly, latency)
+    part(evenly, steps, latency)

@@ -117,6 +117,27 @@ fn what_is_lost_holds_nothing_up(rt: HostRuntime) -> Result<(), Fail> {
     Ok(())
 }
 
+/// A packet with an odd timestamp is not held, and moves no other one; what is missing before it is waited for all the same.
+#[test]
+fn an_odd_timestamp_moves_nothing(rt: HostRuntime) -> Result<(), Fail> {
+    const COMES: &[Passing] = &[
+        (1000, Far, FAR, Stamped(10, 0)),
+        (1020, Far, FAR, Stamped(11, 20)),
+        (1060, Far, FAR, Stamped(13, 100060)),
+        (1080, Far, FAR, Stamped(14, 80)),
+        (1150, Far, FAR, Repaired(12, 40)),
+    ];
+    const LEAVES: &[(u64, Packet)] = &[
+        (1200, Stamped(10, 0)),
+        (1220, Stamped(11, 20)),
+        (1240, Stamped(12, 40)),
+        (1240, Stamped(13, 100060)),
+        (1280, Stamped(14, 80)),
+    ];
+    assert_eq!(rt; held(rt.alloc(), 1000, 5, COMES, LEAVES)?, (true, 0));
+    Ok(())
+}
+
 /// A stream that restarts has a clock of its own, whose timestamps may lie below the old ones.
 #[test]
 fn a_restart_begins_a_clock(rt: HostRuntime) -> Result<(), Fail> {

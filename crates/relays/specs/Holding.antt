@@ -44,10 +44,13 @@ stamp_from s zero place = None
 stamp_from s (suc ahead) place = if nat_lt place (2 ^ 48) then stamp_or (stamp_in (slot_at s place)) (stamp_from s ahead (place + 1)) else None
 
 -- How long the next place is waited for, by the clock that packets are held by: until the packet behind it is to leave, which was sent
--- after it.
+-- after it; or as long as the latency, where that was to leave before the place was noticed.
+abbrev pub until_moment : (moment latency noticed : ℕ) → ℕ
+until_moment moment latency noticed = if nat_lt noticed moment then moment - noticed else latency
+
 abbrev pub until_stamp : Playout → (latency noticed : ℕ) → Option ℕ → ℕ
 until_stamp p latency noticed None = latency
-until_stamp p latency noticed (Some timestamp) = release_at p timestamp latency - noticed
+until_stamp p latency noticed (Some timestamp) = until_moment (release_at p timestamp latency) latency noticed
 
 abbrev pub wait_at : Option Playout → (latency : ℕ) → Span → (cursor : Option ℕ) → Option Slot → ℕ
 wait_at (Some p) latency s (Some cursor) (Some (Missing noticed asks last)) = until_stamp p latency noticed (stamp_from s 64 (cursor + 1))

@@ -1,7 +1,7 @@
 //! How packets are held for a player.
 ghost use Rattle.std.specs.Prelude.{◌≡◌};
 ghost use Rattle.stores.specs.ByPlace.{slot_at};
-ghost use Rattle.relays.specs.Holding.{asking_time, clock_after, release_by, stamp_from, stamp_in, timestamp_of, wait_by};
+ghost use Rattle.relays.specs.Holding.{asking_time, clock_after, release_by, stamp_from, stamp_in, timestamp_of, until_moment, wait_by};
 
 use endpoint::Heard;
 use places::Place;
@@ -68,7 +68,8 @@ pub(crate) fn asking_time(hold: &Option<Playout>, latency: u64, late: u64) -> u6
 }
 
 /// How long the next place is waited for by the clock since it was noticed to be missing, with this latency: until the packet behind it
-/// is to leave, which was sent after it. Where none is held, or none behind it among the next 64 places, as long as the latency.
+/// is to leave, which was sent after it. As long as the latency where none is held, none behind it among the next 64 places, or one that
+/// was to leave before: its timestamp is odd, or it came later than the latency, and no repair could be in time for it.
 pub(crate) fn wait<W: Window>(hold: &Option<Playout>, latency: u64, window: &W) -> u64
     ensures { result ≡ wait_by hold.now latency (W.meaning window.now) }
 {
@@ -79,8 +80,19 @@ pub(crate) fn wait<W: Window>(hold: &Option<Playout>, latency: u64, window: &W) 
         return latency;
     };
     match stamp_from(window, AHEAD, cursor + 1) {
-        Some(timestamp) => clock.release(timestamp, latency).saturating_sub(noticed),
+        Some(timestamp) => until(clock.release(timestamp, latency), latency, noticed),
         None => latency,
+    }
+}
+
+/// How long it is until a moment, or the latency where that has passed.
+fn until(moment: u64, latency: u64, noticed: u64) -> u64
+    ensures { result ≡ until_moment moment latency noticed }
+{
+    if noticed < moment {
+        moment - noticed
+    } else {
+        latency
     }
 }
 

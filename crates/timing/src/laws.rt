@@ -1,12 +1,12 @@
 //! Laws on what is measured of a path and on the times of asks. These functions compute nothing: their contracts are the laws.
-ghost use Rattle.std.specs.Prelude.{◌≡◌, ◌<◌, ◌≤◌, ◌+◌, ◌-◌, ◌*◌, ◌/◌, ◌^◌, ◌⊎◌, ℕ, List, Option, None, false, true, IsSomeAnd};
+ghost use Rattle.std.specs.Prelude.{◌≡◌, ◌<◌, ◌≤◌, ◌+◌, ◌-◌, ◌*◌, ◌/◌, ◌^◌, ◌⊎◌, ℕ, List, length, Option, None, false, true, IsSomeAnd};
 ghost use Rattle.timing.specs.declared.round_trip.Answered.{Answered};
 ghost use Rattle.timing.specs.declared.round_trip.Smoothed.{Smoothed};
 ghost use Rattle.timing.specs.declared.playout.Playout.{Playout};
 ghost use Rattle.timing.specs.declared.silence.Silence.{Silence};
 ghost use Rattle.timing.specs.AskTimes.{ask_times, answer_of};
 ghost use Rattle.timing.specs.Lately.{greatest_at};
-ghost use Rattle.timing.specs.Playout.{heard_at, ms_of, release_at, ticks_of};
+ghost use Rattle.timing.specs.Playout.{AllOdd, heard_all, heard_at, is_beyond, ms_of, release_at, ticks_of};
 ghost use Rattle.timing.specs.RoundTrip.{doubted, heard_again, heard_at as taken_at, probed};
 ghost use Rattle.timing.specs.Silence.{lead_of};
 ghost use Rattle.timing.specs.Sightings.{Sighting, seen_of, IsInOrder, AreWithin, AreLatelyWithin};
@@ -63,12 +63,16 @@ pub fn losses_were_sent_in_order()
 {}
 
 /// Of packets that are held for a player.
-#[tactic(auto, using(crate::proofs::Held::no_longer, crate::proofs::Held::apart))]
+#[tactic(auto, using(crate::proofs::Held::no_longer, crate::proofs::Held::apart, crate::proofs::Held::ten_move_nothing))]
 pub fn packets_leave_as_they_were_sent()
     // None is held for longer than the latency behind the moment at which it came.
     ensures no_longer { (p : Playout) (timestamp latency now : ℕ) → p.start ≤ now → release_at (heard_at p timestamp now) timestamp latency ≤ now + latency }
-    // Between two packets there is as much time as between their timestamps.
+    // Between two packets there is as much time as between their timestamps, where neither lies far beyond the latest.
     ensures apart { (p : Playout) (one other latency : ℕ) → let at : ℕ → ℕ = λ t. ms_of p.rate (ticks_of p.latest t) in
+        is_beyond p.latest p.rate (ticks_of p.latest one) ≡ false → is_beyond p.latest p.rate (ticks_of p.latest other) ≡ false →
         p.most ≤ at one → p.most ≤ at other → p.start + latency + at one < 2 ^ 64 → p.start + latency + at other < 2 ^ 64 →
         release_at p one latency + at other ≡ release_at p other latency + at one }
+    // Ten odd packets in a row, with whatever timestamps and whenever they come, move no packet's moment.
+    ensures unmoved { (p : Playout) (packets : List (ℕ × ℕ)) (timestamp latency : ℕ) → p.odd ≡ None → AllOdd p packets → length packets ≤ 10
+        → release_at (heard_all p packets) timestamp latency ≡ release_at p timestamp latency }
 {}

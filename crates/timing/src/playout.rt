@@ -1,6 +1,6 @@
 //! When packets leave for a player that are held for it: each as long after it was sent as all others.
 ghost use Rattle.std.specs.Prelude.{◌≡◌, None};
-ghost use Rattle.timing.specs.Playout.{new_playout, extended, ticks_of, ms_of, came_early, heard_at, release_at};
+ghost use Rattle.timing.specs.Playout.{agrees, came_early, extended, heard_at, heard_odd, heard_usual, is_beyond, is_odd, ms_of, new_playout, odd_after, release_at, ticks_of};
 
 use crate::lately::Lately;
 
@@ -14,8 +14,27 @@ pub struct Stamp {
     pub ticks: u64,
 }
 
+/// A packet is odd that comes by more than so many milliseconds earlier or later than all that came lately.
+const ODD: u64 = 100;
+
+/// So many odd packets in a row are believed, where they agree.
+const STEP: u64 = 11;
+
+/// Odd packets that came in a row and agree, of which none was believed.
+#[derive(Clone, Copy, Debug, PartialEq, Eq)]
+pub struct Odd {
+    /// How early they came, in milliseconds.
+    pub least: u64,
+    pub most: u64,
+    /// The ticks of the last one.
+    pub ticks: u64,
+    /// How many timestamps they had.
+    pub count: u64,
+}
+
 /// The clock of a stream (RFC 3550, section 5.1) beside that of its receiver. Of the packets that came lately the one that came soonest
-/// behind its timestamp shows how both lie to each other. So it follows one that goes faster or slower.
+/// behind its timestamp shows how both lie to each other. So it follows one that goes faster or slower. What doesn't go with it is odd, as
+/// a timestamp that somebody made up: it moves nothing, until eleven in a row agree that the stream's clock has made a step.
 #[derive(Clone, Copy, Debug, PartialEq, Eq)]
 pub struct Playout {
     /// The ticks of a second.
@@ -27,6 +46,8 @@ pub struct Playout {
     /// How early packets came, by their timestamps, in milliseconds; and the earliest of late.
     early: Lately,
     most: u64,
+    /// What came since, and does not go with that.
+    odd: Option<Odd>,
 }
 
 impl Playout {
@@ -40,6 +61,7 @@ impl Playout {
             start: 0,
             early: Lately::new(),
             most: 0,
+            odd: None,
         }
     }
 
@@ -54,31 +76,88 @@ impl Playout {
     pub fn hear(&mut self, timestamp: u32, now: u64)
         ensures { self.new ≡ heard_at self.old timestamp now }
     {
-        let ticks = self.ticks(timestamp);
+        let stamp = Stamp {
+            timestamp,
+            ticks: self.ticks(timestamp),
+        };
         if self.latest.is_none() {
             self.start = now;
         }
+        let early = self.earliness(stamp.ticks, now);
+        if self.is_odd(stamp.ticks, early) {
+            self.hear_odd(stamp, early, now);
+        } else {
+            self.hear_usual(stamp, early, now);
+        }
+    }
+
+    /// Whether a packet came by much earlier or later than those before it. One that came earlier than all is odd only where it lies far
+    /// beyond the latest one, too: else the way has become shorter.
+    fn is_odd(&self, ticks: u64, early: u64) -> bool
+        ensures { result ≡ is_odd self.now ticks early }
+    {
+        if self.latest.is_none() {
+            return false;
+        }
+        early.saturating_add(ODD) < self.most
+            || self.most.saturating_add(ODD) < early && self.is_beyond(ticks)
+    }
+
+    /// Whether these ticks lie far beyond the latest ones.
+    fn is_beyond(&self, ticks: u64) -> bool
+        ensures { result ≡ is_beyond self.now.latest self.now.rate ticks }
+    {
+        match self.latest {
+            Some(latest) => self.ms(latest.ticks).saturating_add(ODD) < self.ms(ticks),
+            None => false,
+        }
+    }
+
+    /// A packet came that goes with those before it.
+    fn hear_usual(&mut self, stamp: Stamp, early: u64, now: u64)
+        ensures { self.new ≡ heard_usual self.old stamp early now }
+    {
         let is_later = match self.latest {
-            Some(latest) => latest.ticks <= ticks,
+            Some(latest) => latest.ticks <= stamp.ticks,
             None => true,
         };
         if is_later {
-            self.latest = Some(Stamp { timestamp, ticks });
+            self.latest = Some(stamp);
         }
-        let early = self.earliness(ticks, now);
         self.early.see(early, now);
         self.most = self.early.greatest(now);
+        self.odd = None;
+    }
+
+    /// An odd one came: the clock is as it was, or begins anew with those that agree.
+    fn hear_odd(&mut self, stamp: Stamp, early: u64, now: u64)
+        ensures { self.new ≡ heard_odd self.old stamp early now }
+    {
+        let odd = odd_after(self.odd, stamp.ticks, early);
+        if odd.count < STEP {
+            self.odd = Some(odd);
+            return;
+        }
+        self.latest = Some(stamp);
+        self.early = Lately::new();
+        self.early.see(odd.most, now);
+        self.most = odd.most;
+        self.odd = None;
     }
 
     /// The moment at which a packet with this timestamp leaves, for a player that plays so long after what came soonest, in
-    /// milliseconds.
+    /// milliseconds. One far beyond the latest is not held.
     pub fn release(&self, timestamp: u32, latency: u64) -> u64
         ensures { result ≡ release_at self.now timestamp latency }
     {
+        let ticks = self.ticks(timestamp);
+        if self.is_beyond(ticks) {
+            return 0;
+        }
         let behind = self
             .start
             .saturating_add(latency)
-            .saturating_add(self.ms(self.ticks(timestamp)));
+            .saturating_add(self.ms(ticks));
         behind.saturating_sub(self.most)
     }
 
@@ -119,4 +198,36 @@ fn extended(latest: &Stamp, timestamp: u32) -> u64
         let behind = latest.timestamp.wrapping_sub(timestamp);
         latest.ticks.saturating_sub(u64::from(behind))
     }
+}
+
+/// The odd packets in a row, with one more.
+fn odd_after(odd: Option<Odd>, ticks: u64, early: u64) -> Odd
+    ensures { result ≡ odd_after odd ticks early }
+{
+    match odd {
+        Some(odd) if agrees(&odd, early) => Odd {
+            least: odd.least.min(early),
+            most: odd.most.max(early),
+            ticks,
+            // Those of one timestamp came together.
+            count: if odd.ticks == ticks {
+                odd.count
+            } else {
+                odd.count.saturating_add(1)
+            },
+        },
+        _ => Odd {
+            least: early,
+            most: early,
+            ticks,
+            count: 1,
+        },
+    }
+}
+
+/// Whether a packet came about as early as odd ones did.
+fn agrees(odd: &Odd, early: u64) -> bool
+    ensures { result ≡ agrees odd.now early }
+{
+    odd.most.max(early) <= odd.least.min(early).saturating_add(ODD)
 }
