@@ -254,7 +254,8 @@ typedef struct gozdrit_receiver_config {
     gozdrit_bool learn_rtx_ssrc;  /* the SSRC of the retransmissions is learnt; rtx_ssrc is then not used */
     /* When a media packet is believed whose sequence number has jumped (RFC 3550, appendix A.1): one that lies
      * max_dropout or more ahead of the highest one, or max_misorder or more behind it and is not missing, is held back until
-     * so many came, and then the stream restarts with them: by `idle_after`, below. 0 is the usual number: 3000, or the window
+     * so many came, and then the stream restarts with them: by `idle_after`, below. One whose number and timestamp were taken
+     * before, of the last 8192 numbers, is refused (GOZDRIT_LATE). 0 is the usual number: 3000, or the window
      * where that is more, so that a gap that it bridges is no restart; 100; 2; and 256. */
     uint16_t max_dropout;
     uint16_t max_misorder;

@@ -29,8 +29,9 @@ static void test_ahead(void) {
     NACKS(&r, 4, GOZDRIT_MAX_NACKED, NO_PAIR);
     PLAYS(&r, 4, GOZDRIT_PACKET, 71635, (uint8_t)6099);
     PLAYS(&r, 4, GOZDRIT_PACKET, 71636, (uint8_t)6100);
-    HEARS_MEDIA(&r, 100, 5, HELD_BACK(1)); /* the numbers of before have jumped now */
-    CHECK(is_counted(&r, (gozdrit_receive_counts){.media = 2, .held_back = 3, .restarts = 1, .overrun = 2983,
+    HEARS_MEDIA(&r, 101, 5, HELD_BACK(1)); /* the numbers of before have jumped now */
+    HEARS_MEDIA(&r, 100, 5, NOT_HEARD(GOZDRIT_LATE)); /* what was taken before begins nothing */
+    CHECK(is_counted(&r, (gozdrit_receive_counts){.media = 2, .held_back = 3, .restarts = 1, .late = 1, .overrun = 2983,
                                                   .abandoned = 16, .played = 3, .nacks = 1, .nacked = 1}));
     ANSWERS(GOZDRIT_OK, gozdrit_receiver_free(&r));
 }
@@ -70,14 +71,15 @@ static void test_numbers(void) {
     gozdrit_receiver r = started(&config, 100);
     HEARS_MEDIA(&r, 109, 0, MEDIA(65645));
     HEARS_MEDIA(&r, 104, 0, MEDIA(65640)); /* it is missing, however far behind */
-    HEARS_MEDIA(&r, 104, 0, HELD_BACK(1)); /* and is so no longer */
+    HEARS_MEDIA(&r, 104, 0, NOT_HEARD(GOZDRIT_LATE)); /* and is so no longer */
     HEARS_MEDIA(&r, 105, 0, MEDIA(65641));
     HEARS_MEDIA(&r, 119, 0, RESTARTED(65655, 1, 10));
     HEARS_MEDIA(&r, 119 + 32767, 0, RESTARTED(98422, 1, 1));
-    HEARS_MEDIA(&r, (uint16_t)(119 + 32767 + 32768), 0, HELD_BACK(1));
-    HEARS_MEDIA(&r, (uint16_t)(119 + 32767 + 32769), 0, HELD_BACK(2));
-    HEARS_MEDIA(&r, (uint16_t)(119 + 32767 + 32770), 0, RESTARTED(65536 + 120, 3, 1));
-    TELLS(&r, 65536 + 118, 65536 + 120, 0);
+    HEARS_MEDIA(&r, 119 + 32767 + 100, 0, RESTARTED(98522, 1, 1));
+    HEARS_MEDIA(&r, (uint16_t)(119 + 32867 + 32768), 0, HELD_BACK(1));
+    HEARS_MEDIA(&r, (uint16_t)(119 + 32867 + 32769), 0, HELD_BACK(2));
+    HEARS_MEDIA(&r, (uint16_t)(119 + 32867 + 32770), 0, RESTARTED(65536 + 220, 3, 1));
+    TELLS(&r, 65536 + 218, 65536 + 220, 0);
     ANSWERS(GOZDRIT_OK, gozdrit_receiver_free(&r));
 }
 
@@ -234,11 +236,13 @@ static void test_idle(void) {
     HEARS_MEDIA(&r, 50005, 229, NOT_HEARD(GOZDRIT_DUPLICATE));
     HEARS_MEDIA(&r, 50004, 230, RESTARTED(115540, 3, 2));
     TELLS(&r, 115539, 115541, 0);
-    HEARS_MEDIA(&r, 100, 231, HELD_BACK(1));
-    HEARS_MEDIA(&r, 102, 231, HELD_BACK(2));
-    HEARS_MEDIA(&r, 103, 231, HELD_BACK(3));
-    HEARS_MEDIA(&r, 105, 231, RESTARTED(65641, 4, 3));
-    TELLS(&r, 65636, 65641, 2);
+    HEARS_MEDIA(&r, 100, 999, NOT_HEARD(GOZDRIT_LATE)); /* the network repeats it, in whatever pause */
+    HEARS_MEDIA(&r, 101, 999, NOT_HEARD(GOZDRIT_LATE));
+    HEARS_MEDIA(&r, 200, 231, HELD_BACK(1));
+    HEARS_MEDIA(&r, 202, 231, HELD_BACK(2));
+    HEARS_MEDIA(&r, 203, 231, HELD_BACK(3));
+    HEARS_MEDIA(&r, 205, 231, RESTARTED(65741, 4, 3));
+    TELLS(&r, 65736, 65741, 2);
     ANSWERS(GOZDRIT_OK, gozdrit_receiver_free(&r));
 }
 

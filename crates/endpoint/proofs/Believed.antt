@@ -8,12 +8,13 @@ use Rattle.receiver.specs.Config.{Config}
 use Rattle.stores.specs.Span.{highest_of}
 use Rattle.receiver.specs.Receiver.{Receiving, restarted, with_times}
 use Rattle.endpoint.specs.declared.probation.Probation.{Probation}
+use Rattle.endpoint.specs.declared.seen_packets.SeenPacket.{SeenPacket}
 use Rattle.endpoint.specs.declared.holding.Run.{Run}
 use Rattle.endpoint.specs.declared.heard.Heard.{Heard}
 use Rattle.endpoint.specs.declared.heard.Heard.TheVariants.{HeldBack, Restarted}
 use Rattle.endpoint.specs.Demultiplex.{is_control}
 use Rattle.endpoint.specs.Probation.{goes_on as near, wanted_of_run}
-use Rattle.endpoint.specs.Receiving.{Ends, Handed, AfterHeld, Believes, HearsWanted, HoldsBack, HearsPacket, HearsKind, follows, spare_before, run_before, run_after, run_refused, wants_more, as_heard, held_answer, held_ends, kept_in}
+use Rattle.endpoint.specs.Receiving.{Ends, Handed, AfterHeld, Believes, HearsWanted, HoldsBack, HearsPacket, HearsKind, HearsUnless, follows, spare_before, run_before, run_after, run_refused, wants_more, as_heard, held_answer, held_ends, kept_in}
 use Rattle.endpoint.specs.Events.{Event, Endpoint, Steps, RunsOver, heard, played, asked, begun_at, restarted_by_call, timed}
 use Rattle.endpoint.specs.Ledger.{Deed, takes, plays, asks, begins, sets, IsPlain, Does, Reached, Ledger, at_core, noted, held_before, ledger}
 
@@ -157,16 +158,22 @@ module _ (capacity : ℕ) (octets : List ℕ) (now : ℕ) where
   wanted_so p zero (Some seq) old plain l answer new is_plain agrees hears = believed_so p (Some seq) old plain l answer new is_plain agrees hears
   wanted_so p (suc more) (Some seq) old plain l answer new is_plain agrees hears = holds_so p old (suc more) seq plain l answer new is_plain agrees hears
 
-  packet_so : (p : Probation) (old : Ends) (plain : List ℕ) (l : Ledger) (answer : Result Heard ReceiveFault) (new : Ends)
-      → IsPlain octets plain → Agrees capacity l old → HearsPacket p old plain now answer new → Agrees capacity (noted (heard octets now answer) l) new
-  packet_so p old plain l answer new is_plain agrees hears = wanted_so p _ hears.number old plain l answer new is_plain agrees hears.heard
-
-  kind_so : (control : Bool) (p : Probation) (old : Ends) (plain : Option (List ℕ)) (l : Ledger) (answer : Result Heard ReceiveFault) (new : Ends)
-      → Agrees capacity l old → HearsKind control p old plain octets now answer new → Agrees capacity (noted (heard octets now answer) l) new
-  kind_so true p old plain l answer new agrees hears =
+  unless_so : (repeat : Bool) (p : Probation) (wanted : ℕ) (number : Option ℕ) (old : Ends) (plain : List ℕ) (l : Ledger) (answer : Result Heard ReceiveFault) (new : Ends)
+      → IsPlain octets plain → Agrees capacity l old → HearsUnless repeat p old wanted number plain now answer new → Agrees capacity (noted (heard octets now answer) l) new
+  unless_so true p wanted number old plain l answer new is_plain agrees hears =
       subst (λ (a : Result Heard ReceiveFault). Agrees capacity (noted (heard octets now a) l) new) (sym hears.0) (subst (Agrees capacity l) (sym hears.1) agrees)
-  kind_so false p old None l answer new agrees hears = packet_so p old octets l answer new (inl refl) agrees hears.1
-  kind_so false p old (Some plain) l answer new agrees hears = packet_so p old plain l answer new (inr hears.0) agrees hears.1
+  unless_so false p wanted number old plain l answer new is_plain agrees hears = wanted_so p wanted number old plain l answer new is_plain agrees hears
+
+  packet_so : (p : Probation) (seen : List (Option SeenPacket)) (old : Ends) (plain : List ℕ) (l : Ledger) (answer : Result Heard ReceiveFault) (new : Ends)
+      → IsPlain octets plain → Agrees capacity l old → HearsPacket p seen old plain now answer new → Agrees capacity (noted (heard octets now answer) l) new
+  packet_so p seen old plain l answer new is_plain agrees hears = unless_so _ p _ hears.number old plain l answer new is_plain agrees hears.heard
+
+  kind_so : (control : Bool) (p : Probation) (seen : List (Option SeenPacket)) (old : Ends) (plain : Option (List ℕ)) (l : Ledger) (answer : Result Heard ReceiveFault) (new : Ends)
+      → Agrees capacity l old → HearsKind control p seen old plain octets now answer new → Agrees capacity (noted (heard octets now answer) l) new
+  kind_so true p seen old plain l answer new agrees hears =
+      subst (λ (a : Result Heard ReceiveFault). Agrees capacity (noted (heard octets now a) l) new) (sym hears.0) (subst (Agrees capacity l) (sym hears.1) agrees)
+  kind_so false p seen old None l answer new agrees hears = packet_so p seen old octets l answer new (inl refl) agrees hears.1
+  kind_so false p seen old (Some plain) l answer new agrees hears = packet_so p seen old plain l answer new (inr hears.0) agrees hears.1
 
 module _ (capacity : ℕ) where
   -- a call that reaches the receiver alone
@@ -186,7 +193,7 @@ module _ (capacity : ℕ) where
   held_timed (suc more) deeds patience delay retry old new held is = record { old = old; before = held; does = is }
 
   stepped : (p : Probation) (event : Event) (l : Ledger) (old new : Endpoint) → Agrees capacity l old.ends → Steps p event old new → Agrees capacity (noted event l) new.ends
-  stepped p (heard octets now answer) l old new agrees steps = kind_so capacity octets now (is_control octets) p old.ends steps.hears.plain l answer new.ends agrees steps.hears.heard
+  stepped p (heard octets now answer) l old new agrees steps = kind_so capacity octets now (is_control octets) p old.seen old.ends steps.hears.plain l answer new.ends agrees steps.hears.heard
   stepped p (played now answer) l old new agrees steps =
       core_so (plays now) l old.ends new.ends agrees (record { answer = answer; plays = steps.plays; stays = steps.stays }) steps.stays.capacity steps.rest.spare steps.rest.run
   stepped p (asked now most answer places) l old new agrees steps =

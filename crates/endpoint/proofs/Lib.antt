@@ -4,6 +4,7 @@ pub mod SendTallied
 pub mod Believed
 mod Silences
 mod WaitedFor
+mod SeenTold
 mod Typed
 pub mod Passes
 pub mod Cells

@@ -1,5 +1,5 @@
 -- A packet of the retransmissions' stream that is all padding has no number of an original.
-use Rattle.std.proofs.Common.{◌≡◌, ℕ, ◌≤◌, ◌==◌, ◌&&◌, Bool, true, false, List, [], length, Option, Some, None, Result, Ok, Err, sym, ap, subst, ◌∙◌, arith, inl, inr, if◌then◌else◌}
+use Rattle.std.proofs.Common.{◌≡◌, ℕ, ◌≤◌, ◌==◌, ◌&&◌, Bool, true, false, nat_lt, List, [], length, Option, Some, None, Result, Ok, Err, sym, ap, subst, ◌∙◌, arith, inl, inr, if◌then◌else◌}
 use Rattle.std.proofs.lemmas.Bool.{cases_Bool}
 use Rattle.rtpwire.specs.declared.fault.RtpFault.{RtpFault}
 use Rattle.rtpwire.specs.declared.fault.RtpFault.TheVariants as rtp
@@ -21,7 +21,9 @@ use Rattle.endpoint.specs.declared.heard.Heard.{Heard}
 use Rattle.endpoint.specs.declared.probation.Probation.{Probation}
 use Rattle.endpoint.specs.Demultiplex.{is_control}
 use Rattle.endpoint.specs.Padding.{IsStripped}
-use Rattle.endpoint.specs.Receiving.{Believes, Ends, HearsDatagram, HearsKind, HearsPacket, HearsStripped, HearsWanted, as_heard, media_number_of, wanted_at}
+use Rattle.endpoint.specs.Receiving.{Believes, Ends, HearsDatagram, HearsKind, HearsPacket, HearsStripped, HearsUnless, as_heard, media_number_of, wanted_at}
+use Rattle.endpoint.specs.Seen.{is_repeat}
+use Rattle.endpoint.specs.declared.seen_packets.SeenPacket.{SeenPacket}
 use Rattle.endpoint.proofs.KindsTold.{One}
 
 -- what a check refuses is spelled by no packet, and a retransmission has two octets of payload
@@ -61,19 +63,19 @@ module _ (one : One) (refuses : Refuses) (long : Long) (plain : List ℕ) (packe
       let here = subst (λ (q : RtpPacket). HearsStream room old q now (stream_of c.session (source_of c old) q) answer new) (one p packet plain reads spelled) heard in
       too_short room now old new answer (subst (λ (stream : Result Stream ReceiveFault). HearsStream room old packet now stream answer new) is here)
 
-  module _ (p : Probation) (old new : Ends) (now : ℕ) (answer : Result Heard ReceiveFault) (is : stream_of old.core.config.session (source_of old.core.config (state_of old.core)) packet ≡ Ok streams.Repair) where
-    packet_short : HearsPacket p old plain now answer new → answer ≡ Err (refused.Rtp rtp.NoOsn)
+  module _ (p : Probation) (seen : List (Option SeenPacket)) (old new : Ends) (now : ℕ) (answer : Result Heard ReceiveFault) (is : stream_of old.core.config.session (source_of old.core.config (state_of old.core)) packet ≡ Ok streams.Repair) where
+    packet_short : HearsPacket p seen old plain now answer new → answer ≡ Err (refused.Rtp rtp.NoOsn)
     packet_short hears =
         let none : hears.number ≡ None = hears.is_number packet spelled ∙ not_media old.core.config.session (source_of old.core.config (state_of old.core)) packet is in
-        let believes : Believes p old None plain now answer new = subst (λ (n : Option ℕ). HearsWanted p old (wanted_at p old.core.span n) n plain now answer new) none hears.heard in
+        let believes : Believes p old None plain now answer new = subst (λ (n : Option ℕ). HearsUnless (nat_lt 0 (wanted_at p old.core.span n) && is_repeat seen n plain) p old (wanted_at p old.core.span n) n plain now answer new) none hears.heard in
         let it = believes.handed.hears in
         believes.answered
         ∙ ap (as_heard None) (said_short old.core.span.capacity now old.core.config (state_of old.core) (state_of new.core) it.said believes.taken it.says it.heard is)
 
     module _ (octets : List ℕ) (stripped : IsStripped octets plain) where
-      stripped_short : (kept : Option (List ℕ)) → HearsStripped p old kept octets now answer new → answer ≡ Err (refused.Rtp rtp.NoOsn)
+      stripped_short : (kept : Option (List ℕ)) → HearsStripped p seen old kept octets now answer new → answer ≡ Err (refused.Rtp rtp.NoOsn)
       stripped_short None hears = absurd (hears.0 plain stripped)
-      stripped_short (Some kept) hears = packet_short (subst (λ (xs : List ℕ). HearsPacket p old xs now answer new) (hears.0.is ∙ sym stripped.is) hears.1)
+      stripped_short (Some kept) hears = packet_short (subst (λ (xs : List ℕ). HearsPacket p seen old xs now answer new) (hears.0.is ∙ sym stripped.is) hears.1)
 
-      pub padding_short : is_control octets ≡ false → HearsDatagram p old octets now answer new → answer ≡ Err (refused.Rtp rtp.NoOsn)
-      padding_short is_rtp hears = stripped_short hears.plain (subst (λ (b : Bool). HearsKind b p old hears.plain octets now answer new) is_rtp hears.heard)
+      pub padding_short : is_control octets ≡ false → HearsDatagram p seen old octets now answer new → answer ≡ Err (refused.Rtp rtp.NoOsn)
+      padding_short is_rtp hears = stripped_short hears.plain (subst (λ (b : Bool). HearsKind b p seen old hears.plain octets now answer new) is_rtp hears.heard)

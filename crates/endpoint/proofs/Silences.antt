@@ -5,16 +5,19 @@ use Rattle.std.proofs.lemmas.Bool.{cases_lt}
 use Rattle.std.proofs.lemmas.Bool.Decides.{nat_tests}
 use Rattle.stores.specs.Span.{highest_of}
 use Rattle.receiver.specs.declared.answer.Taken.{Taken}
+use Rattle.stores.specs.declared.slot.PutFault.TheVariants.{Late}
 use Rattle.receiver.specs.declared.fault.ReceiveFault.{ReceiveFault}
+use Rattle.receiver.specs.declared.fault.ReceiveFault.TheVariants as refused
 use Rattle.receiver.specs.Config.{Config}
 use Rattle.receiver.specs.Receiver.{Receiving}
 use Rattle.endpoint.specs.declared.probation.Probation.{Probation}
+use Rattle.endpoint.specs.declared.seen_packets.SeenPacket.{SeenPacket}
 use Rattle.endpoint.specs.declared.holding.Run.{Run}
 use Rattle.endpoint.specs.declared.heard.Heard.{Heard}
 use Rattle.endpoint.specs.declared.heard.Heard.TheVariants.{Control, Media, Repair, HeldBack, Restarted}
 use Rattle.endpoint.specs.Demultiplex.{is_control}
 use Rattle.endpoint.specs.Probation.{goes_on, wanted_of_run, wanted_now, is_silent}
-use Rattle.endpoint.specs.Receiving.{Ends, AfterHeld, HoldsBack, HearsWanted, HearsKind, follows, run_before, run_after, run_refused, wants_more, as_heard, held_answer, held_ends, none_held, kept_in}
+use Rattle.endpoint.specs.Receiving.{Ends, AfterHeld, HoldsBack, HearsWanted, HearsUnless, HearsKind, follows, run_before, run_after, run_refused, wants_more, as_heard, held_answer, held_ends, none_held, kept_in}
 use Rattle.endpoint.specs.Events.{Event, Endpoint, RunsOver, heard, played, asked, begun_at, restarted_by_call, timed}
 use Rattle.endpoint.specs.Silence.{last_taken, IsFounded}
 
@@ -108,11 +111,16 @@ module _ (p : Probation) (span : ℕ) (by_stream : p.silence ≡ Some span) (bef
   hears_wanted zero (Some seq) old plain answer new knows hears = believed (Some seq) hears.taken old.run answer new.run knows hears.answered hears.run
   hears_wanted (suc more) (Some seq) old plain answer new knows hears = held_back old (suc more) seq plain answer new knows hears
 
-  hears_kind : (control : Bool) (old : Ends) (plain : Option (List ℕ)) (answer : Result Heard ReceiveFault) (new : Ends) → Knows p before old.run → HearsKind control p old plain octets now answer new → Goes answer new.run
-  hears_kind true old plain answer new knows hears =
+  hears_unless : (repeat : Bool) (wanted : ℕ) (number : Option ℕ) (old : Ends) (plain : List ℕ) (answer : Result Heard ReceiveFault) (new : Ends) → Knows p before old.run → HearsUnless repeat p old wanted number plain now answer new → Goes answer new.run
+  hears_unless true wanted number old plain answer new knows hears =
+      goes_as answer (Err (refused.Put Late)) new.run old.run hears.0 (ap (λ (e : Ends). e.run) hears.1) (record { founded = tt; knows = record { last = knows.last; wanted = knows.wanted } })
+  hears_unless false wanted number old plain answer new knows hears = hears_wanted wanted number old plain answer new knows hears
+
+  hears_kind : (control : Bool) (seen : List (Option SeenPacket)) (old : Ends) (plain : Option (List ℕ)) (answer : Result Heard ReceiveFault) (new : Ends) → Knows p before old.run → HearsKind control p seen old plain octets now answer new → Goes answer new.run
+  hears_kind true seen old plain answer new knows hears =
       goes_as answer (Ok Control) new.run old.run hears.0 (ap (λ (e : Ends). e.run) hears.1) (record { founded = tt; knows = record { last = knows.last; wanted = knows.wanted } })
-  hears_kind false old None answer new knows hears = hears_wanted _ hears.1.number old octets answer new knows hears.1.heard
-  hears_kind false old (Some plain) answer new knows hears = hears_wanted _ hears.1.number old plain answer new knows hears.1.heard
+  hears_kind false seen old None answer new knows hears = hears_unless _ _ hears.1.number old octets answer new knows hears.1.heard
+  hears_kind false seen old (Some plain) answer new knows hears = hears_unless _ _ hears.1.number old plain answer new knows hears.1.heard
 
 knows_as : (p : Probation) (events : List Event) (old new : Run) → new ≡ old → Knows p events old → Knows p events new
 knows_as p events old new is knows = subst (Knows p events) (sym is) knows
@@ -121,7 +129,7 @@ module _ (c : Config) (capacity : ℕ) (p : Probation) (span : ℕ) (by_stream :
   known : (events : List Event) (e : Endpoint) → RunsOver c capacity p events e → Knows p events e.ends.run
   known [] e runs = knows_as p [] _ e.ends.run (ap (λ (x : Endpoint). x.ends.run) runs) (record { last = refl; wanted = inl refl })
   known (heard octets now answer ∷ before) e runs =
-      (hears_kind p span by_stream before octets now (is_control octets) runs.old.ends runs.steps.hears.plain answer e.ends (known before runs.old runs.before) runs.steps.hears.heard).knows
+      (hears_kind p span by_stream before octets now (is_control octets) runs.old.seen runs.old.ends runs.steps.hears.plain answer e.ends (known before runs.old runs.before) runs.steps.hears.heard).knows
   known (played now answer ∷ before) e runs = let k = knows_as p before runs.old.ends.run e.ends.run runs.steps.rest.run (known before runs.old runs.before) in record { last = k.last; wanted = k.wanted }
   known (asked now most answer places ∷ before) e runs = let k = knows_as p before runs.old.ends.run e.ends.run runs.steps.rest.run (known before runs.old runs.before) in record { last = k.last; wanted = k.wanted }
   known (begun_at first ∷ before) e runs = let k = knows_as p before runs.old.ends.run e.ends.run runs.steps.rest.run (known before runs.old runs.before) in record { last = k.last; wanted = k.wanted }
@@ -130,4 +138,4 @@ module _ (c : Config) (capacity : ℕ) (p : Probation) (span : ℕ) (by_stream :
 
   pub founded : (before : List Event) (octets : List ℕ) (now : ℕ) (answer : Result Heard ReceiveFault) (e : Endpoint) → RunsOver c capacity p (heard octets now answer ∷ before) e → IsFounded p span before now answer
   founded before octets now answer e runs =
-      (hears_kind p span by_stream before octets now (is_control octets) runs.old.ends runs.steps.hears.plain answer e.ends (known before runs.old runs.before) runs.steps.hears.heard).founded
+      (hears_kind p span by_stream before octets now (is_control octets) runs.old.seen runs.old.ends runs.steps.hears.plain answer e.ends (known before runs.old runs.before) runs.steps.hears.heard).founded

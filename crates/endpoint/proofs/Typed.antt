@@ -1,6 +1,6 @@
 -- The payload type of a packet is in its second octet (RFC 3550, section 5.1).
 use Rattle.std.proofs.Common.{◌≡◌, ℕ, ◌+◌, ◌*◌, ◌%◌, ◌<◌, ◌≤◌, Bool, true, false, List, length, slice_index, arith, ap, ◌∙◌}
-use Rattle.rtpwire.specs.Rtp.{RtpPacket, RtpSpells, bit, second_octet}
+use Rattle.rtpwire.specs.Rtp.{RtpPacket, RtpSpells, bit}
 
 -- a marker and a type beside it
 beside : (marker : Bool) (t : ℕ) → t < 128 → (128 * bit marker + t) % 128 ≡ t

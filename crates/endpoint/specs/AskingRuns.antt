@@ -17,6 +17,7 @@ use Rattle.endpoint.specs.declared.probation.Probation.{Probation}
 use Rattle.endpoint.specs.Asked.{RemembersAsk, kept_after, none_asked, places_named}
 use Rattle.endpoint.specs.Kinds.{IsKind, count_kind, no_kinds}
 use Rattle.endpoint.specs.Receiving.{Ends, HearsDatagram, fresh, no_run}
+use Rattle.endpoint.specs.declared.seen_packets.SeenPacket.{SeenPacket}
 use Rattle.endpoint.specs.Tally.{one_if}
 
 -- a call, and what it answered
@@ -41,7 +42,8 @@ NamesPlaces (Some h) (Some datagram) places = (nack : Nack) → NackSpells nack 
 -- What each call does: its clauses.
 pub record HearStep (p : Probation) (octets : List ℕ) (answer : Result Heard ReceiveFault) (kind : Kind) (old new : Asking) : Type 0 where
   pub now : ℕ
-  pub hears : HearsDatagram p old.ends octets now answer new.ends
+  pub seen : List (Option SeenPacket)
+  pub hears : HearsDatagram p seen old.ends octets now answer new.ends
   pub kind_is : IsKind old.cells old.ends.core.config.session (highest_of old.ends.core.span) octets answer kind
   pub cells : new.cells ≡ kept_after answer old.cells
   pub kinds : new.kinds ≡ count_kind kind answer old.kinds

@@ -12,6 +12,8 @@ use Rattle.endpoint.specs.declared.probation.Probation.{Probation}
 use Rattle.endpoint.specs.declared.receive_counts.ReceiveCounts.{ReceiveCounts}
 use Rattle.endpoint.specs.Receiving.{Ends, HearsDatagram, fresh, no_run}
 use Rattle.endpoint.specs.ReceiveCounts.{count_heard, count_played, NamesMany, CountsAsk, no_counts}
+use Rattle.endpoint.specs.Seen.{none_seen, seen_after}
+use Rattle.endpoint.specs.declared.seen_packets.SeenPacket.{SeenPacket}
 
 pub data Event : Type 0 where
   heard : (octets : List ℕ) → (now : ℕ) → Result Heard ReceiveFault → Event
@@ -25,16 +27,18 @@ pub data Event : Type 0 where
 pub record Endpoint : Type 0 where
   pub ends : Ends
   pub counts : ReceiveCounts
+  pub seen : List (Option SeenPacket)
 
 -- one that took nothing
 abbrev pub new_endpoint : Config → (capacity : ℕ) → Endpoint
 new_endpoint config capacity =
-    record { ends = record { core = fresh config capacity; spare = fresh config capacity; run = no_run }; counts = no_counts }
+    record { ends = record { core = fresh config capacity; spare = fresh config capacity; run = no_run }; counts = no_counts; seen = none_seen 8192 }
 
 -- a call that reaches the receiver that is handed what is believed, and nothing else but the counts
 pub record ChangesCore (old new : Endpoint) : Type 0 where
   pub spare : new.ends.spare ≡ old.ends.spare
   pub run : new.ends.run ≡ old.ends.run
+  pub seen : new.seen ≡ old.seen
 
 pub record Plays (old : Endpoint) (now : ℕ) (answer : Played) (new : Endpoint) : Type 0 where
   pub plays : PlaysAny old.ends.core.config.patience (state_of old.ends.core) now answer (state_of new.ends.core)
@@ -60,16 +64,19 @@ pub record Restarts (old new : Endpoint) : Type 0 where
   pub spare : new.ends.spare ≡ old.ends.spare
   pub run : new.ends.run ≡ no_run
   pub counts : new.counts ≡ old.counts
+  pub seen : new.seen ≡ old.seen
 
 pub record Sets (old : Endpoint) (patience delay retry : ℕ) (new : Endpoint) : Type 0 where
   pub core : new.ends.core ≡ with_times old.ends.core patience delay retry
   pub spare : new.ends.spare ≡ with_times old.ends.spare patience delay retry
   pub run : new.ends.run ≡ old.ends.run
   pub counts : new.counts ≡ old.counts
+  pub seen : new.seen ≡ old.seen
 
 pub record Takes (p : Probation) (old : Endpoint) (octets : List ℕ) (now : ℕ) (answer : Result Heard ReceiveFault) (new : Endpoint) : Type 0 where
-  pub hears : HearsDatagram p old.ends octets now answer new.ends
+  pub hears : HearsDatagram p old.seen old.ends octets now answer new.ends
   pub counts : new.counts ≡ count_heard answer old.counts
+  pub seen : new.seen ≡ seen_after answer octets old.seen
 
 -- What each event does: the clauses of its call.
 abbrev pub Steps : Probation → Event → (old new : Endpoint) → Type 0

@@ -6,6 +6,8 @@ pub mod Events
 pub mod Kinds
 pub mod Measuring
 pub mod Ledger
+pub mod Seen
+pub mod SeenRuns
 pub mod Silence
 pub mod Padding
 pub mod Probation

@@ -4,11 +4,13 @@ use Rattle.std.specs.Prelude.{◌≡◌, ℕ, zero, suc, ◌+◌, ◌%◌, ◌==
 use Rattle.rtpwire.specs.Rtp.{RtpPacket, RtpSpells}
 use Rattle.rtpwire.specs.Session.{Streams}
 use Rattle.stores.specs.Span.{Span, highest_of, empty_span}
+use Rattle.stores.specs.declared.slot.PutFault.TheVariants.{Late}
 use Rattle.stores.specs.Asking.{is_missing}
 use Rattle.stores.specs.ByPlace.{slot_at}
 use Rattle.receiver.specs.Config.{Config}
 use Rattle.receiver.specs.declared.answer.Taken.{Taken}
 use Rattle.receiver.specs.declared.fault.ReceiveFault.{ReceiveFault}
+use Rattle.receiver.specs.declared.fault.ReceiveFault.TheVariants as refused
 use Rattle.receiver.specs.Heard.{Hears}
 use Rattle.receiver.specs.Receiver.{Receiving, Stays, state_of, restarted}
 use Rattle.endpoint.specs.declared.probation.Probation.{Probation}
@@ -19,6 +21,8 @@ use Rattle.endpoint.specs.Probation.{wanted_for, goes_on, wanted_of_run, wanted_
 use Rattle.endpoint.specs.Asked.{asked_at}
 use Rattle.endpoint.specs.Demultiplex.{is_control}
 use Rattle.endpoint.specs.Padding.{IsStripped}
+use Rattle.endpoint.specs.Seen.{is_repeat}
+use Rattle.endpoint.specs.declared.seen_packets.SeenPacket.{SeenPacket}
 
 -- the sequence number of a packet, if it is one of the session's media
 abbrev pub media_number_of : Streams → RtpPacket → Option ℕ
@@ -152,24 +156,29 @@ HearsWanted p old wanted None octets now answer new = Believes p old None octets
 HearsWanted p old zero (Some seq) octets now answer new = Believes p old (Some seq) octets now answer new
 HearsWanted p old (suc more) (Some seq) octets now answer new = HoldsBack p old (suc more) seq octets now answer new
 
+-- One that would be held back, and was taken before, begins nothing: it is refused as late (35), and changes nothing.
+abbrev pub HearsUnless : (repeat : Bool) → Probation → Ends → (wanted : ℕ) → (number : Option ℕ) → (octets : List ℕ) → (now : ℕ) → Result Heard ReceiveFault → Ends → Type 0
+HearsUnless true p old wanted number octets now answer new = (answer ≡ Err (refused.Put Late)) × (new ≡ old)
+HearsUnless false p old wanted number octets now answer new = HearsWanted p old wanted number octets now answer new
+
 -- a packet, by the number that it has, if it is media
-pub record HearsPacket (p : Probation) (old : Ends) (octets : List ℕ) (now : ℕ) (answer : Result Heard ReceiveFault) (new : Ends) : Type 0 where
+pub record HearsPacket (p : Probation) (seen : List (Option SeenPacket)) (old : Ends) (octets : List ℕ) (now : ℕ) (answer : Result Heard ReceiveFault) (new : Ends) : Type 0 where
   pub number : Option ℕ
   pub is_number : IsMediaNumber old.core.config.session octets number
   pub spelled : IsSpelledWhere octets number
-  pub heard : HearsWanted p old (wanted_at p old.core.span number) number octets now answer new
+  pub heard : HearsUnless (nat_lt 0 (wanted_at p old.core.span number) && is_repeat seen number octets) p old (wanted_at p old.core.span number) number octets now answer new
 
 -- a packet that is all padding is heard without it
-abbrev pub HearsStripped : Probation → Ends → (plain : Option (List ℕ)) → (octets : List ℕ) → (now : ℕ) → Result Heard ReceiveFault → Ends → Type 0
-HearsStripped p old None octets now answer new = ((plain : List ℕ) → IsStripped octets plain → ⊥) × HearsPacket p old octets now answer new
-HearsStripped p old (Some plain) octets now answer new = IsStripped octets plain × HearsPacket p old plain now answer new
+abbrev pub HearsStripped : Probation → (seen : List (Option SeenPacket)) → Ends → (plain : Option (List ℕ)) → (octets : List ℕ) → (now : ℕ) → Result Heard ReceiveFault → Ends → Type 0
+HearsStripped p seen old None octets now answer new = ((plain : List ℕ) → IsStripped octets plain → ⊥) × HearsPacket p seen old octets now answer new
+HearsStripped p seen old (Some plain) octets now answer new = IsStripped octets plain × HearsPacket p seen old plain now answer new
 
 -- RTCP changes nothing, and RTP is heard
-abbrev pub HearsKind : (control : Bool) → Probation → Ends → (plain : Option (List ℕ)) → (octets : List ℕ) → (now : ℕ) → Result Heard ReceiveFault → Ends → Type 0
-HearsKind true p old plain octets now answer new = (answer ≡ Ok heard.Control) × (new ≡ old)
-HearsKind false p old plain octets now answer new = HearsStripped p old plain octets now answer new
+abbrev pub HearsKind : (control : Bool) → Probation → (seen : List (Option SeenPacket)) → Ends → (plain : Option (List ℕ)) → (octets : List ℕ) → (now : ℕ) → Result Heard ReceiveFault → Ends → Type 0
+HearsKind true p seen old plain octets now answer new = (answer ≡ Ok heard.Control) × (new ≡ old)
+HearsKind false p seen old plain octets now answer new = HearsStripped p seen old plain octets now answer new
 
--- One datagram of the far side at a receiving endpoint.
-pub record HearsDatagram (p : Probation) (old : Ends) (octets : List ℕ) (now : ℕ) (answer : Result Heard ReceiveFault) (new : Ends) : Type 0 where
+-- One datagram of the far side at a receiving endpoint, which remembers these packets.
+pub record HearsDatagram (p : Probation) (seen : List (Option SeenPacket)) (old : Ends) (octets : List ℕ) (now : ℕ) (answer : Result Heard ReceiveFault) (new : Ends) : Type 0 where
   pub plain : Option (List ℕ)
-  pub heard : HearsKind (is_control octets) p old plain octets now answer new
+  pub heard : HearsKind (is_control octets) p seen old plain octets now answer new

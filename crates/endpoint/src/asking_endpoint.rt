@@ -9,6 +9,7 @@ ghost use Rattle.endpoint.specs.Asked.{RemembersAsk, RemembersAskInto, kept_afte
 ghost use Rattle.endpoint.specs.Kinds.{IsKind, count_kind, no_kinds};
 ghost use Rattle.endpoint.specs.Receiving.{ends_of, fresh, HearsDatagram, no_run};
 ghost use Rattle.endpoint.specs.ReceiveCounts.{count_heard, count_played, CountsAsk, CountsAskInto, no_counts};
+ghost use Rattle.endpoint.specs.Seen.{none_seen, seen_after};
 
 use crate::asked_places::AskedPlaces;
 use crate::heard::Heard;
@@ -44,7 +45,7 @@ impl<W: Window> AskingEndpoint<W> {
         requires nonzero { 0 < capacity }
         requires limit { capacity ≤ 8192 }
         ensures { IfOk result (λ made. (made.endpoint.core ≡ fresh config capacity) × (made.endpoint.spare ≡ fresh config capacity) × (made.endpoint.probation ≡ probation)
-            × (made.endpoint.run ≡ no_run) × (made.endpoint.counts ≡ no_counts) × (made.asked ≡ none_asked capacity) × (made.kinds ≡ no_kinds)) }
+            × (made.endpoint.run ≡ no_run) × (made.endpoint.counts ≡ no_counts) × (made.endpoint.seen ≡ none_seen 8192) × (made.asked ≡ none_asked capacity) × (made.kinds ≡ no_kinds)) }
     {
         let endpoint = ReceivingEndpoint::new(alloc, config, probation, capacity)?;
         let asked = AskedPlaces::new(alloc, capacity)?;
@@ -59,10 +60,11 @@ impl<W: Window> AskingEndpoint<W> {
     ///
     /// The refusals are those.
     pub fn on_datagram(&mut self, octets: &[u8], now: u64) -> (Result<Heard, ReceiveFault>, Kind)
-        ensures hears { HearsDatagram self.old.endpoint.probation (ends_of self.old.endpoint.core self.old.endpoint.spare self.old.endpoint.run) octets.now now result.0
+        ensures hears { HearsDatagram self.old.endpoint.probation self.old.endpoint.seen (ends_of self.old.endpoint.core self.old.endpoint.spare self.old.endpoint.run) octets.now now result.0
             (ends_of self.new.endpoint.core self.new.endpoint.spare self.new.endpoint.run) }
         ensures probation { self.new.endpoint.probation ≡ self.old.endpoint.probation }
         ensures counts { self.new.endpoint.counts ≡ count_heard result.0 self.old.endpoint.counts }
+        ensures seen { self.new.endpoint.seen ≡ seen_after result.0 octets.now self.old.endpoint.seen }
         ensures kind { IsKind self.old.asked self.old.endpoint.core.config.session (highest_of self.old.endpoint.core.span) octets.now result.0 result.1 }
         ensures asked { self.new.asked ≡ kept_after result.0 self.old.asked }
         ensures kinds { self.new.kinds ≡ count_kind result.1 result.0 self.old.kinds }

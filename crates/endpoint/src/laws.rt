@@ -1,5 +1,5 @@
 //! Laws on what an endpoint is over all its calls. These functions compute nothing: their contracts are the laws.
-ghost use Rattle.std.specs.Prelude.{◌≡◌, ◌∷◌, ℕ, List, Some, Result};
+ghost use Rattle.std.specs.Prelude.{◌≡◌, ◌∷◌, ◌⊎◌, ◌%◌, ◌<◌, ℕ, true, List, length, Option, Some, Result, Err};
 ghost use Rattle.std.specs.List.{sum_by};
 ghost use Rattle.receiver.specs.Config.{Config};
 ghost use Rattle.endpoint.specs.declared.probation.Probation.{Probation};
@@ -8,10 +8,15 @@ ghost use Rattle.receiver.specs.declared.fault.ReceiveFault.{ReceiveFault};
 ghost use Rattle.endpoint.specs.declared.heard.Heard.{Heard};
 ghost use Rattle.endpoint.specs.Events.{Event, Endpoint, RunsOver, heard};
 ghost use Rattle.endpoint.specs.Receiving.{Believes, Ends, HearsPacket, media_number_of};
+ghost use Rattle.endpoint.specs.declared.seen_packets.SeenPacket.{SeenPacket};
+ghost use Rattle.endpoint.specs.Seen.{was_seen, with_packet};
+ghost use Rattle.endpoint.specs.SeenRuns.{seen_of};
 ghost use Rattle.endpoint.specs.Silence.{IsFounded};
 ghost use Rattle.places.specs.Place.{IsNear};
 ghost use Rattle.rtpwire.specs.Rtp.{RtpPacket, RtpSpells};
 ghost use Rattle.stores.specs.declared.slot.Slot.TheVariants.{Missing};
+ghost use Rattle.stores.specs.declared.slot.PutFault.TheVariants.{Late};
+ghost use Rattle.receiver.specs.declared.fault.ReceiveFault.TheVariants as refused;
 ghost use Rattle.stores.specs.ByPlace.{slot_at};
 ghost use Rattle.stores.specs.Span.{highest_of};
 ghost use Rattle.endpoint.specs.Tally.{tally, media_in, repairs_in, held_in, restarts_in, control_in, refused_as, refused_else, overrun_in, abandoned_in, played_in, gaps_in, asks_in, places_in};
@@ -72,9 +77,25 @@ pub fn restarts_are_founded()
 pub fn awaited_media_is_believed()
     // Media of the session whose place is missing is handed to the receiver that has what is believed, however far behind the highest
     // place it lies: it is not held back, and nothing restarts.
-    ensures { (p : Probation) (old new : Ends) (packet : RtpPacket) (octets : List ℕ) (now : ℕ) (answer : Result Heard ReceiveFault)
-        → HearsPacket p old octets now answer new → RtpSpells packet octets → media_number_of old.core.config.session packet ≡ Some packet.sequence
+    ensures { (p : Probation) (seen : List (Option SeenPacket)) (old new : Ends) (packet : RtpPacket) (octets : List ℕ) (now : ℕ) (answer : Result Heard ReceiveFault)
+        → HearsPacket p seen old octets now answer new → RtpSpells packet octets → media_number_of old.core.config.session packet ≡ Some packet.sequence
         → (highest place noticed asks last : ℕ) → highest_of old.core.span ≡ Some highest → IsNear highest packet.sequence place
         → slot_at old.core.span place ≡ Some (Missing noticed asks last)
         → Believes p old (Some packet.sequence) octets now answer new }
+{}
+
+/// What a network repeats begins nothing.
+pub fn repeats_begin_nothing()
+    // Media whose number and timestamp are those of a packet that is remembered is handed to the receiver that has what is believed, or is
+    // refused as late (35) and changes nothing: it is not held back, and nothing restarts.
+    ensures nothing { (p : Probation) (seen : List (Option SeenPacket)) (old new : Ends) (packet : RtpPacket) (octets : List ℕ) (now : ℕ) (answer : Result Heard ReceiveFault)
+        → HearsPacket p seen old octets now answer new → RtpSpells packet octets → media_number_of old.core.config.session packet ≡ Some packet.sequence
+        → was_seen seen packet.sequence packet.timestamp ≡ true
+        → Believes p old (Some packet.sequence) octets now answer new ⊎ ((answer ≡ Err (refused.Put Late)) × (new ≡ old)) }
+    // Whatever was called: what is remembered is what was taken, restarts and all.
+    ensures remembered { (c : Config) (capacity : ℕ) (p : Probation) (events : List Event) (e : Endpoint) → RunsOver c capacity p events e → e.seen ≡ seen_of events }
+    // A packet is remembered as it is taken, and until one is whose number lies a multiple of the ring's cells from its own.
+    ensures kept { (cells : List (Option SeenPacket)) (number timestamp : ℕ) → 0 < length cells → was_seen (with_packet cells number timestamp) number timestamp ≡ true }
+    ensures others { (cells : List (Option SeenPacket)) (number timestamp other stamp : ℕ) → (number % length cells ≡ other % length cells → ⊥)
+        → was_seen (with_packet cells number timestamp) other stamp ≡ was_seen cells other stamp }
 {}

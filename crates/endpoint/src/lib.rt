@@ -22,6 +22,7 @@ mod receive_counts;
 mod receiving;
 mod resend_counts;
 mod resend_rule;
+mod seen_packets;
 mod send_counts;
 mod sending;
 mod standing;
@@ -38,8 +39,8 @@ pub use heard::{Heard, Restart};
 pub use kind::Kind;
 pub use kind_counts::KindCounts;
 pub use laws::{
-    core_has_what_is_believed, counts_are_exact, counts_are_in_full, restarts_are_founded,
-    sending_counts_are_exact,
+    awaited_media_is_believed, core_has_what_is_believed, counts_are_exact, counts_are_in_full,
+    repeats_begin_nothing, restarts_are_founded, sending_counts_are_exact,
 };
 pub use moments::Moments;
 pub use padding::without_padding;
@@ -49,6 +50,7 @@ pub use receive_counts::ReceiveCounts;
 pub use receiving::ReceivingEndpoint;
 pub use resend_counts::ResendCounts;
 pub use resend_rule::{ResendRule, Times, Verdict};
+pub use seen_packets::{SeenPacket, SeenPackets};
 pub use send_counts::SendCounts;
 pub use sending::SendingEndpoint;
 pub use standing::{Awaited, Standing};

@@ -6,6 +6,7 @@ ghost use Rattle.receiver.specs.Receiver.{Stays, begun, restarted, state_of, wit
 ghost use Rattle.receiver.specs.Window.{PlaysAny};
 ghost use Rattle.endpoint.specs.Receiving.{ends_of, fresh, HearsDatagram, HearsPacket, no_run};
 ghost use Rattle.endpoint.specs.ReceiveCounts.{count_heard, count_played, CountsAsk, CountsAskInto, no_counts};
+ghost use Rattle.endpoint.specs.Seen.{none_seen, seen_after};
 
 use crate::asking::places_in;
 use crate::demultiplex::is_control;
@@ -15,10 +16,11 @@ use crate::judging::media_number;
 use crate::padding::without_padding;
 use crate::probation::Probation;
 use crate::receive_counts::ReceiveCounts;
+use crate::seen_packets::{SEEN, SeenPackets, is_repeat};
 use receiver::{HasStarted, Played, ReceiveFault, Receiver, ReceiverConfig};
 use rtpwire::{ConfigFault, Datagram, TooShort};
 use std::alloc::Global;
-use stores::{OutOfMemory, Window};
+use stores::{OutOfMemory, PutFault, Window};
 
 /// The receiving end of a session as a network wants it: it is handed every datagram that comes from the far side, believes a
 /// jump of the sequence number only after a [`Probation`], restarts then, and counts. All that it hands the receiver below since
@@ -33,6 +35,8 @@ pub struct ReceivingEndpoint<W: Window> {
     probation: Probation,
     run: Run,
     counts: ReceiveCounts,
+    /// What was taken, so that what a network repeats begins nothing.
+    seen: SeenPackets,
 }
 
 impl<W: Window> ReceivingEndpoint<W> {
@@ -47,40 +51,46 @@ impl<W: Window> ReceivingEndpoint<W> {
     ) -> Result<ReceivingEndpoint<W>, OutOfMemory>
         requires nonzero { 0 < capacity }
         requires limit { capacity ≤ 8192 }
-        ensures { IfOk result (λ made. (made.core ≡ fresh config capacity) × (made.spare ≡ fresh config capacity) × (made.probation ≡ probation) × (made.run ≡ no_run) × (made.counts ≡ no_counts)) }
+        ensures { IfOk result (λ made. (made.core ≡ fresh config capacity) × (made.spare ≡ fresh config capacity) × (made.probation ≡ probation) × (made.run ≡ no_run) × (made.counts ≡ no_counts) × (made.seen ≡ none_seen 8192)) }
     {
         let core = Receiver::new(config, W::new(alloc, capacity)?);
         let spare = Receiver::new(config, W::new(alloc, capacity)?);
+        let seen = SeenPackets::new(alloc, SEEN)?;
         Ok(ReceivingEndpoint {
             core,
             spare,
             probation,
             run: Run::NONE,
             counts: ReceiveCounts::NONE,
+            seen,
         })
     }
 
     /// Takes any datagram of the far side at the moment `now`, in milliseconds.
     ///
     /// RTCP is passed over (RFC 5761). A packet that is all padding is taken as one with an empty payload. A media packet whose
-    /// sequence number has jumped is held back, until as many have come as its [`Probation`] wants; one that is believed, and taken,
+    /// sequence number has jumped is held back, until as many have come as its [`Probation`] wants; but where a packet with its number and
+    /// its timestamp was taken before, of the last 8192, it is refused as late (35), and begins nothing. One that is believed, and taken,
     /// ends what was held back. The refusals are those of [`Receiver::on_media`]; they change nothing but the counts and what is held
     /// back: in sequence a media packet of the session that is refused ends it, and by the stream only one that lies far from it.
     pub fn on_datagram(&mut self, octets: &[u8], now: u64) -> Result<Heard, ReceiveFault>
-        ensures hears { HearsDatagram self.old.probation (ends_of self.old.core self.old.spare self.old.run) octets.now now result (ends_of self.new.core self.new.spare self.new.run) }
+        ensures hears { HearsDatagram self.old.probation self.old.seen (ends_of self.old.core self.old.spare self.old.run) octets.now now result (ends_of self.new.core self.new.spare self.new.run) }
         ensures probation { self.new.probation ≡ self.old.probation }
         ensures counts { self.new.counts ≡ count_heard result self.old.counts }
+        ensures seen { self.new.seen ≡ seen_after result octets.now self.old.seen }
     {
         let answer = self.hear_datagram(octets, now);
         self.counts.hear(&answer);
+        self.seen.hear(&answer, octets);
         answer
     }
 
     /// Hears a datagram, and counts nothing.
     fn hear_datagram(&mut self, octets: &[u8], now: u64) -> Result<Heard, ReceiveFault>
-        ensures hears { HearsDatagram self.old.probation (ends_of self.old.core self.old.spare self.old.run) octets.now now result (ends_of self.new.core self.new.spare self.new.run) }
+        ensures hears { HearsDatagram self.old.probation self.old.seen (ends_of self.old.core self.old.spare self.old.run) octets.now now result (ends_of self.new.core self.new.spare self.new.run) }
         ensures probation { self.new.probation ≡ self.old.probation }
         ensures counts { self.new.counts ≡ self.old.counts }
+        ensures seen { self.new.seen ≡ self.old.seen }
     {
         if is_control(octets) {
             return Ok(Heard::Control);
@@ -93,13 +103,17 @@ impl<W: Window> ReceivingEndpoint<W> {
 
     /// Hears a packet.
     fn hear_packet(&mut self, octets: &[u8], now: u64) -> Result<Heard, ReceiveFault>
-        ensures hears { HearsPacket self.old.probation (ends_of self.old.core self.old.spare self.old.run) octets.now now result (ends_of self.new.core self.new.spare self.new.run) }
+        ensures hears { HearsPacket self.old.probation self.old.seen (ends_of self.old.core self.old.spare self.old.run) octets.now now result (ends_of self.new.core self.new.spare self.new.run) }
         ensures probation { self.new.probation ≡ self.old.probation }
         ensures counts { self.new.counts ≡ self.old.counts }
+        ensures seen { self.new.seen ≡ self.old.seen }
     {
         let session = self.core.config().session();
         let number = media_number(&session, octets);
         let wanted = wanted_at(&self.core, &self.probation, number);
+        if wanted > 0 && is_repeat(&self.seen, number, octets) {
+            return Err(ReceiveFault::Put(PutFault::Late));
+        }
         hear_wanted(
             &mut self.core,
             &mut self.spare,

@@ -19,6 +19,7 @@ use Rattle.endpoint.specs.Kinds.{IsKind, count_kind}
 use Rattle.endpoint.specs.Measuring.{IsStanding, left_at, meter_asked, meter_heard, meter_passed, times_set}
 use Rattle.endpoint.specs.Receiving.{HearsDatagram, ends_of}
 use Rattle.endpoint.specs.ReceiveCounts.{count_heard, count_played, CountsAskInto}
+use Rattle.endpoint.specs.Seen.{seen_after}
 use Rattle.timing.specs.Path.{times_over}
 use Rattle.gozdrit.specs.Ends.{Receiver}
 
@@ -33,10 +34,11 @@ with_ends r core spare = record r { endpoint = record r.endpoint { endpoint = re
 -- what the endpoint's own call promises of a datagram
 pub record HearsOwn (before : Receiver) (octets : List ℕ) (now : ℕ) (answer : Result Heard ReceiveFault) (after : Receiver) : Type 0 where
   pub kind : Kind
-  pub hears : HearsDatagram before.endpoint.endpoint.probation (ends_of (core_of before) before.endpoint.endpoint.spare before.endpoint.endpoint.run) octets now answer
+  pub hears : HearsDatagram before.endpoint.endpoint.probation before.endpoint.endpoint.seen (ends_of (core_of before) before.endpoint.endpoint.spare before.endpoint.endpoint.run) octets now answer
       (ends_of (core_of after) after.endpoint.endpoint.spare after.endpoint.endpoint.run)
   pub probation : after.endpoint.endpoint.probation ≡ before.endpoint.endpoint.probation
   pub counts : after.endpoint.endpoint.counts ≡ count_heard answer before.endpoint.endpoint.counts
+  pub seen : after.endpoint.endpoint.seen ≡ seen_after answer octets before.endpoint.endpoint.seen
   pub kind_is : IsKind before.endpoint.asked (core_of before).config.session (highest_of (core_of before).span) octets answer kind
   pub asked : after.endpoint.asked ≡ kept_after answer before.endpoint.asked
   pub kinds : after.endpoint.kinds ≡ count_kind kind answer before.endpoint.kinds

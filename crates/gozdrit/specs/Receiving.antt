@@ -11,6 +11,7 @@ use Rattle.endpoint.specs.Kinds.{no_kinds}
 use Rattle.endpoint.specs.Measuring.{meter_restarted, new_meter}
 use Rattle.endpoint.specs.Receiving.{fresh, no_run}
 use Rattle.endpoint.specs.ReceiveCounts.{no_counts}
+use Rattle.endpoint.specs.Seen.{none_seen}
 use Rattle.gozdrit.specs.declared.config.ReceiverFields.{ReceiverFields}
 use Rattle.gozdrit.specs.declared.heard.ReceivedFields.{ReceivedFields}
 use Rattle.gozdrit.specs.declared.answers.PlayedPacket.{PlayedPacket}
@@ -34,6 +35,7 @@ new_receiver f =
           probation = probation_of f;
           run = no_run;
           counts = no_counts;
+          seen = none_seen 8192;
         };
         asked = none_asked f.window;
         kinds = no_kinds;

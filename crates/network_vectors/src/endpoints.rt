@@ -65,7 +65,7 @@ fn jumps_of_the_number(rt: HostRuntime) -> Result<(), Fail> {
         (&[1, 2, 3, 3003], b"ttth"),
         (&[200, 101], b"tx"),
         (&[200, 100], b"th"),
-        (&[1, 250, 100, 100], b"ttth"),
+        (&[1, 250, 100, 100], b"tttx"),
         (&[65535, 0, 30000, 20000, 20001], b"tthhr"),
     ];
     for (numbers, letters) in rows {

@@ -1,6 +1,6 @@
 //! A stream that restarts, by a probation with a silence: what is held back goes on with whatever lies near it, and is believed
 //! sooner where the stream before is silent. Each row was worked by hand.
-use crate::ends::{Does, config, media, wrong};
+use crate::ends::{Does, config, media, repair, wrong};
 use endpoint::{Heard, Probation, ReceivingEndpoint};
 use receiver::{Played, ReceiveFault};
 use std::alloc::Global;
@@ -113,6 +113,38 @@ fn a_silence(rt: HostRuntime) -> Result<(), Fail> {
     assert_eq!(rt;
         wrong_or_played(rt.alloc(), ROWS, 1231, &places)?,
         (None, true)
+    );
+    Ok(())
+}
+
+/// What two packets are that come half a second behind a stream of twenty-one, with the numbers of its second, which was lost and
+/// repaired, and of its third, and with timestamps so far from theirs; and the next packet of the stream.
+fn behind_a_pause(alloc: Global, shift: u32) -> Result<(Was, Was, Was), Fail> {
+    let mut endpoint = start(alloc, Some(200))?;
+    for seq in 100..121u16 {
+        if seq != 101 {
+            let _ = endpoint.on_datagram(media(seq, u32::from(seq)).as_slice(), 1000);
+        }
+    }
+    let _ = endpoint.on_datagram(repair(101, 101).as_slice(), 1000);
+    let one = media(101, 101u32.wrapping_add(shift));
+    let other = media(102, 102u32.wrapping_add(shift));
+    let one = told(endpoint.on_datagram(one.as_slice(), 1500));
+    let other = told(endpoint.on_datagram(other.as_slice(), 1501));
+    let next = told(endpoint.on_datagram(media(121, 121).as_slice(), 1502));
+    Ok((one, other, next))
+}
+
+/// What was taken before begins nothing, however long nothing came. With another timestamp it is a stream that restarts.
+#[test]
+fn what_a_network_repeats(rt: HostRuntime) -> Result<(), Fail> {
+    assert_eq!(rt;
+        behind_a_pause(rt.alloc(), 0)?,
+        (Refused(35), Refused(35), Media)
+    );
+    assert_eq!(rt;
+        behind_a_pause(rt.alloc(), 1)?,
+        (Held(1), Restarted(2, 21), Held(1))
     );
     Ok(())
 }

@@ -27,6 +27,8 @@ use Rattle.endpoint.specs.Counts.{more}
 use Rattle.endpoint.specs.Kinds.{IsKind, count_kind, no_kinds}
 use Rattle.endpoint.specs.Measuring.{IsStanding, left_at, meter_asked, meter_heard, meter_passed, new_meter, times_set}
 use Rattle.endpoint.specs.ReceiveCounts.{count_heard, count_played, CountsAsk, no_counts}
+use Rattle.endpoint.specs.Seen.{none_seen, seen_after}
+use Rattle.endpoint.specs.declared.seen_packets.SeenPacket.{SeenPacket}
 use Rattle.endpoint.specs.Receiving.{ends_of, fresh, HearsDatagram, IsMediaNumber, IsSpelledWhere, no_run}
 use Rattle.relays.specs.declared.bounds.Bounds.{Bounds}
 use Rattle.relays.specs.declared.outside.Side.{Side}
@@ -56,6 +58,7 @@ pub record ReceiveSide : Type 0 where
   pub counts : ReceiveCounts
   pub asked : List (Option ℕ)  -- which places its endpoint asked for, as far as that remembers, and of which kind what came was
   pub kinds : KindCounts
+  pub seen : List (Option SeenPacket)  -- what its endpoint took, as far as that remembers
   pub far : SocketAddr
   pub came : Option ℕ  -- the moment at which the far side's last datagram came
   pub reach : ℕ  -- by how much less a number may lie ahead that shows the far side at another address
@@ -86,6 +89,7 @@ new_receive_side config capacity far player numbering hold bounds =
       counts = no_counts;
       asked = none_asked capacity;
       kinds = no_kinds;
+      seen = none_seen 8192;
       far = far;
       came = None;
       reach = dropout_of capacity;
@@ -118,11 +122,11 @@ Moves s octets now answer = (goes_on : Bool) × GoesOn s octets goes_on × (answ
 
 -- The endpoint hears a datagram of the far side; and what it took measures the path, by where its receiver stood.
 pub record HearsFrom (old : ReceiveSide) (from : SocketAddr) (octets : List ℕ) (now : ℕ) (answer : Result Heard ReceiveFault) (kind : Kind) (new : ReceiveSide) : Type 0 where
-  pub hears : HearsDatagram old.probation (ends_of old.core old.spare old.run) octets now answer (ends_of new.core new.spare new.run)
+  pub hears : HearsDatagram old.probation old.seen (ends_of old.core old.spare old.run) octets now answer (ends_of new.core new.spare new.run)
   pub standing : Standing
   pub stood : IsStanding old.core octets standing
   pub is_kind : IsKind old.asked old.core.config.session (highest_of old.core.span) octets answer kind
-  pub rest : new ≡ record old { core = new.core; spare = new.spare; run = new.run; counts = count_heard answer old.counts; asked = kept_after answer old.asked; kinds = count_kind kind answer old.kinds; far = from; came = Some now; numbering = numbering_after answer old.numbering; hold = clock_after answer (timestamp_of octets) now old.hold; meter = meter_heard answer standing now old.meter }
+  pub rest : new ≡ record old { core = new.core; spare = new.spare; run = new.run; counts = count_heard answer old.counts; asked = kept_after answer old.asked; kinds = count_kind kind answer old.kinds; seen = seen_after answer octets old.seen; far = from; came = Some now; numbering = numbering_after answer old.numbering; hold = clock_after answer (timestamp_of octets) now old.hold; meter = meter_heard answer standing now old.meter }
 
 -- What is done with a datagram at the far side's socket: the endpoint hears what the far side sent, or what shows it at another
 -- address, which is its address from then on, and nobody else's.

@@ -62,7 +62,7 @@ impl<W: Window> Model for ReceiveRelay<W> {
 
     ghost Value = { ReceiveSide };
 
-    ghost view = { λ r. record { core = r.endpoint.endpoint.core; spare = r.endpoint.endpoint.spare; run = r.endpoint.endpoint.run; probation = r.endpoint.endpoint.probation; counts = r.endpoint.endpoint.counts; asked = r.endpoint.asked; kinds = r.endpoint.kinds; far = r.far; came = r.came; reach = r.reach; player = r.player; numbering = r.numbering; hold = r.hold; meter = r.meter; last = r.last; copy = r.copy; bounds = r.bounds } };
+    ghost view = { λ r. record { core = r.endpoint.endpoint.core; spare = r.endpoint.endpoint.spare; run = r.endpoint.endpoint.run; probation = r.endpoint.endpoint.probation; counts = r.endpoint.endpoint.counts; asked = r.endpoint.asked; kinds = r.endpoint.kinds; seen = r.endpoint.endpoint.seen; far = r.far; came = r.came; reach = r.reach; player = r.player; numbering = r.numbering; hold = r.hold; meter = r.meter; last = r.last; copy = r.copy; bounds = r.bounds } };
 }
 
 impl<W: Window> ReceiveRelay<W> {

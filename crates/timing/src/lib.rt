@@ -15,8 +15,8 @@ pub use arrivals::Arrivals;
 pub use ask_times::AskTimes;
 pub use lately::Lately;
 pub use laws::{
-    asks_fit_the_time, losses_were_sent_in_order, packets_leave_as_they_were_sent,
-    the_greatest_is_of_late,
+    answers_that_come_twice_are_measured, asks_fit_the_time, losses_were_sent_in_order,
+    packets_leave_as_they_were_sent, the_greatest_is_of_late,
 };
 pub use path::Path;
 pub use playout::{Playout, Stamp};

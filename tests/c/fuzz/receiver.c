@@ -70,10 +70,16 @@ static bool has_jumped(const struct receiver *it, const struct window *window, u
            && 65536 - ahead >= or_usual(it->config.max_misorder, 100);
 }
 
-/* How many media packets are wanted before this number is believed; 0 where it has not jumped. */
+/* Whether the packet with this number that was sent last up to the highest one is missing. */
+static bool is_missing(const struct window *window, uint16_t number) {
+    uint64_t sequence = window->highest - (uint16_t)((uint16_t)window->highest - number);
+    return sequence >= window->next && sequence <= window->highest && !slot_at(window, sequence)->is_held;
+}
+
+/* How many media packets are wanted before this number is believed; 0 where it has not jumped, or is waited for. */
 static unsigned wanted_for(const struct receiver *it, uint16_t number) {
     bool is_ahead = (uint16_t)(number - (uint16_t)it->window.highest) < 32768;
-    if (!has_jumped(it, &it->window, number)) return 0;
+    if (!has_jumped(it, &it->window, number) || is_missing(&it->window, number)) return 0;
     if (is_ahead && it->config.idle_after == 0) return or_usual(it->config.min_sequential_ahead, 2);
     return or_usual(it->config.min_sequential_behind, 256);
 }
@@ -101,6 +107,13 @@ static void restart_stream(struct receiver *it, gozdrit_received *received) {
     it->has_learnt = false;
     it->has_played = false;
     received->kind = GOZDRIT_RESTARTED;
+}
+
+/* What was taken is remembered by its number and its timestamp, a retransmission as its original. */
+static uint64_t seen_as(uint16_t number, uint32_t timestamp) { return ((uint64_t)number << 32) + timestamp + 1; }
+
+static void remember(struct receiver *it, uint16_t number, uint32_t timestamp) {
+    it->seen[number % 8192] = seen_as(number, timestamp);
 }
 
 /* Holds back a media packet that has jumped. */
@@ -146,8 +159,11 @@ static int32_t take_rtp(struct receiver *it, const struct datagram *datagram, co
     if (is_media) {
         unsigned wanted = wanted_for(it, packet->sequence);
         if (wanted > 0) {
+            if (it->seen[packet->sequence % 8192] == seen_as(packet->sequence, packet->header.timestamp)) return GOZDRIT_LATE;
             carried.number = packet->sequence;
-            return hold_back(it, fault, &carried, wanted, now, received);
+            fault = hold_back(it, fault, &carried, wanted, now, received);
+            if (received->kind == GOZDRIT_RESTARTED) remember(it, packet->sequence, packet->header.timestamp);
+            return fault;
         }
         if (it->config.idle_after == 0) it->held_back = 0;
     }
@@ -157,6 +173,7 @@ static int32_t take_rtp(struct receiver *it, const struct datagram *datagram, co
         it->held_back = 0;
         it->taken_at = now;
     }
+    remember(it, carried.number, packet->header.timestamp);
     received->kind = is_media ? GOZDRIT_MEDIA : GOZDRIT_RETRANSMISSION;
     if (carried.stream == CANDIDATE) {
         it->has_learnt = true;

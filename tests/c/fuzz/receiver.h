@@ -47,6 +47,7 @@ struct receiver {
     unsigned held_back, wanted; /* packets that have jumped */
     uint16_t follows;           /* the number of the next of them in sequence */
     uint64_t taken_at;          /* when a media packet was last taken */
+    uint64_t seen[8192];        /* by a number modulo 8192: what was taken last, its number and timestamp, and one more */
     bool has_played;            /* since it was reset, or the stream restarted */
     uint64_t played;            /* the last sequence that was played or given up */
     uint64_t fed;

@@ -97,6 +97,7 @@ static void call_new(struct receiver *it) {
         it->config = config;
         it->window.capacity = it->spare.capacity = config.window;
         memset(&it->counts, 0, sizeof it->counts);
+        memset(it->seen, 0, sizeof it->seen);
         reset(it);
     }
     check_receiver(it, answer);
