@@ -189,5 +189,28 @@ def silence(checks, stage):
     checks.same(receiver.counts().get("gaps"), 0, f"{name}: gaps")
 
 
+def repeats(checks, stage):
+    """Old datagrams that the network repeats in a pause restart nothing, and nothing is played a second time."""
+    for back in (300, 900):
+        name, player = f"datagrams of {back} packets ago", End(stage)
+        receiver = stage.receive(player.at, "--packets", 1100)
+        path = Path(stage, receiver.at)
+        sender = stage.send(path.at)
+        contents = plain(1100)
+        app = App(stage, sender.at, number=65000, heed=(path.at[1], receiver.at[1], player.at[1]))
+        app.stream(contents[:1000], 2000)
+        checks.count(player.waits_for(1000), f"{name}: {len(player.came)} packets came before")
+        time.sleep(0.4)
+        media = [octets for way, octets in path.passed if way == "forth" and parse(octets).ssrc == app.ssrc]
+        for octets in media[1000 - back:1003 - back]:
+            path.rear.sendto(octets, path.to)
+        time.sleep(0.05)
+        app.stream(contents[1000:], 500)
+        ends(checks, name, receiver)
+        checks.same([index(one) for one in player.packets()], list(range(1100)), f"{name}: what came to the player")
+        checks.same([receiver.counts().get(one) for one in ("restarts", "played", "gaps")], [0, 1100, 0], f"{name}: counts")
+        sender.stop()
+
+
 if __name__ == "__main__":
-    part(application, foreign, sending, running, same_address, receiving, silence)
+    part(application, foreign, sending, running, same_address, receiving, silence, repeats)
