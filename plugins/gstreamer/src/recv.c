@@ -97,14 +97,17 @@ static GstFlowReturn chain(GstPad *pad, GstObject *parent, GstBuffer *buffer) {
 /* ---- tasks */
 
 /* A task begins with its pad, and again behind a flush. A flush that ends while the pads are made inactive starts none: who waits
- * for the pad's task to end would wait for ever. */
+ * for the pad's task to end would wait for ever, or it would go on behind its end. So whether a pad is open does not change between the look
+ * at that and the start. */
 static void start_src(GstGozdritRecv *self) {
+    g_mutex_lock(&self->starting);
     g_mutex_lock(&self->lock);
     gboolean open = self->src_active = self->src_open;
     if (open) self->flow = GST_FLOW_OK;
     self->ending = self->ended = FALSE;
     g_mutex_unlock(&self->lock);
     if (open) gst_pad_start_task(self->src, playing_task, self->src, NULL);
+    g_mutex_unlock(&self->starting);
 }
 
 static void halt_src(GstGozdritRecv *self) {
@@ -116,11 +119,13 @@ static void halt_src(GstGozdritRecv *self) {
 }
 
 static void start_feedback(GstGozdritRecv *self) {
+    g_mutex_lock(&self->starting);
     g_mutex_lock(&self->lock);
     gboolean open = self->timer_active = self->feedback_open;
     self->feedback_stage = FEEDBACK_TO_BEGIN;
     g_mutex_unlock(&self->lock);
     if (open) gst_pad_start_task(self->feedback, feedback_task, self->feedback, NULL);
+    g_mutex_unlock(&self->starting);
 }
 
 static void halt_feedback(GstGozdritRecv *self) {
@@ -133,9 +138,11 @@ static void halt_feedback(GstGozdritRecv *self) {
 static gboolean activate_src(GstPad *pad, GstObject *parent, GstPadMode mode, gboolean active) {
     GstGozdritRecv *self = GST_GOZDRIT_RECV(parent);
     if (mode != GST_PAD_MODE_PUSH) return FALSE;
+    g_mutex_lock(&self->starting);
     g_mutex_lock(&self->lock);
     *(pad == self->src ? &self->src_open : &self->feedback_open) = active;
     g_mutex_unlock(&self->lock);
+    g_mutex_unlock(&self->starting);
     if (active) (pad == self->src ? start_src : start_feedback)(self);
     else (pad == self->src ? halt_src : halt_feedback)(self);
     return active || gst_pad_stop_task(pad);
@@ -388,6 +395,7 @@ static void finalize(GObject *object) {
     g_free(self->arrivals);
     g_cond_clear(&self->timer_cond);
     g_cond_clear(&self->ready_cond);
+    g_mutex_clear(&self->starting);
     g_mutex_clear(&self->lock);
     G_OBJECT_CLASS(gst_gozdrit_recv_parent_class)->finalize(object);
 }
@@ -474,6 +482,7 @@ static void init_pads(GstGozdritRecv *self) {
 static void gst_gozdrit_recv_init(GstGozdritRecv *self) {
     self->settings = (recv_settings){.latency = 200, .delay = 20, .retry = -1, .nacks = 4, .window = 1024, .ssrc = SSRC_UNSET,
                                      .rtx_ssrc = SSRC_UNSET, .receiver_ssrc = SSRC_UNSET, .type = -1, .rtx_type = -1};
+    g_mutex_init(&self->starting);
     g_mutex_init(&self->lock);
     g_cond_init(&self->ready_cond);
     g_cond_init(&self->timer_cond);

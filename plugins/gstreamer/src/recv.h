@@ -67,7 +67,8 @@ struct _GstGozdritRecv {
     GstPad *src;
     GstPad *feedback;
 
-    GMutex lock; /* one call of the library at a time, and all that follows */
+    GMutex starting; /* one start of a task at a time, and whether its pad is open; taken before the lock */
+    GMutex lock;     /* one call of the library at a time, and all that follows */
     recv_settings settings;
     recv_caps caps;
     element_time time;
