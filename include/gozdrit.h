@@ -540,7 +540,8 @@ int32_t gozdrit_receiver_defaults(gozdrit_receiver_config *config, size_t size);
 
 /*
  * Makes a receiver that took nothing so far, and puts it into the handle. It takes the memory for twice `window` packets,
- * some 200 octets more than GOZDRIT_MAX_PAYLOAD each, of which it touches what follows the most packets that it held.
+ * some 200 octets more than GOZDRIT_MAX_PAYLOAD each, of which it touches what follows the most packets that it held; and
+ * 98,304 octets that remember what was taken.
  *
  *   51, 52  the session, as gozdrit_session says
  *   53      window is not in 1 to GOZDRIT_MAX_STORE, or nack_interval or max_nacks is 0, or adaptive is not 0, 1 or 2
