@@ -1,5 +1,6 @@
 pub mod Held
 pub mod Leads
+pub mod Resends
 pub mod Spread
 pub mod Sightings
 pub mod Twice

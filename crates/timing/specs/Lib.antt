@@ -7,3 +7,4 @@ pub mod Playout
 pub mod Arrivals
 pub mod Path
 pub mod Sightings
+pub mod ResendInterval

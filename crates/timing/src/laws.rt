@@ -1,12 +1,14 @@
 //! Laws on what is measured of a path and on the times of asks. These functions compute nothing: their contracts are the laws.
-ghost use Rattle.std.specs.Prelude.{◌≡◌, ◌<◌, ◌≤◌, ◌+◌, ◌-◌, ◌*◌, ◌/◌, ◌^◌, ◌⊎◌, ℕ, List, length, Option, None, false, true, IsSomeAnd};
+ghost use Rattle.std.specs.Prelude.{◌≡◌, ◌<◌, ◌≤◌, ◌+◌, ◌-◌, ◌*◌, ◌/◌, ◌^◌, ◌∷◌, [], ◌⊎◌, ℕ, List, length, min, Option, Some, None, false, true, IsSomeAnd};
 ghost use Rattle.timing.specs.declared.round_trip.Answered.{Answered};
 ghost use Rattle.timing.specs.declared.round_trip.Smoothed.{Smoothed};
 ghost use Rattle.timing.specs.declared.playout.Playout.{Playout};
+ghost use Rattle.timing.specs.declared.resend_interval.ResendInterval.{ResendInterval};
 ghost use Rattle.timing.specs.declared.silence.Silence.{Silence};
 ghost use Rattle.timing.specs.AskTimes.{ask_times, answer_of};
 ghost use Rattle.timing.specs.Lately.{greatest_at};
 ghost use Rattle.timing.specs.Playout.{AllOdd, heard_all, heard_at, is_beyond, ms_of, release_at, ticks_of};
+ghost use Rattle.timing.specs.ResendInterval.{answers_heard, heard_after, interval_at, resent_many, TakeAtLeast};
 ghost use Rattle.timing.specs.RoundTrip.{doubted, heard_again, heard_at as taken_at, probed};
 ghost use Rattle.timing.specs.Silence.{lead_of};
 ghost use Rattle.timing.specs.Sightings.{Sighting, seen_of, IsInOrder, AreWithin, AreLatelyWithin};
@@ -75,4 +77,20 @@ pub fn packets_leave_as_they_were_sent()
     // Ten odd packets in a row, with whatever timestamps and whenever they come, move no packet's moment.
     ensures unmoved { (p : Playout) (packets : List (ℕ × ℕ)) (timestamp latency : ℕ) → p.odd ≡ None → AllOdd p packets → length packets ≤ 10
         → release_at (heard_all p packets) timestamp latency ≡ release_at p timestamp latency }
+{}
+
+/// Of how soon a packet is retransmitted again.
+#[tactic(auto, using(crate::proofs::Resends::least_is, crate::proofs::Resends::at_once, crate::proofs::Resends::behind))]
+pub fn answers_are_waited_for()
+    // Never sooner than it may be.
+    ensures least { (r : ResendInterval) (least now : ℕ) → least ≤ interval_at r least now }
+    // An answer that took less counts at once.
+    ensures at_once { (r : ResendInterval) (took : ℕ) → IsSomeAnd (heard_after r took).answer (λ answer. answer ≤ took) }
+    // Eight answers in a row that took longer, as over a queue that fills, double the interval, or raise it to what they took.
+    ensures doubled { (r : ResendInterval) (before longer a b c d e f g h least now : ℕ) → r.answer ≡ Some before → longer < 2 ^ 64
+        → TakeAtLeast (a ∷ b ∷ c ∷ d ∷ e ∷ f ∷ g ∷ h ∷ []) longer
+        → min longer (2 * before) ≤ interval_at (answers_heard r (a ∷ b ∷ c ∷ d ∷ e ∷ f ∷ g ∷ h ∷ [])) least now }
+    // Behind packets that left at once it is longer by as many gaps of the media.
+    ensures behind { (r : ResendInterval) (answer now many least : ℕ) → r.answer ≡ Some answer → now * 4096 + many * r.gap < 2 ^ 64
+        → answer + many * r.gap / 4096 < 2 ^ 64 → answer + many * r.gap / 4096 ≤ interval_at (resent_many r now many) least now }
 {}

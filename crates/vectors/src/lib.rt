@@ -13,6 +13,8 @@ mod framing;
 #[cfg(test)]
 mod nearness;
 #[cfg(test)]
+mod resends;
+#[cfg(test)]
 mod retransmission;
 #[cfg(test)]
 mod rtp;

@@ -1,0 +1,60 @@
+-- How soon a sender may retransmit a packet again: not before the answer to its last retransmission could have come. (The rule is this
+-- project's own.) Moments and spans are in milliseconds, and where it is said in 4096 parts of one.
+use Rattle.std.specs.Prelude.{ℕ, zero, suc, ◌≤◌, ◌+◌, ◌-◌, ◌*◌, ◌/◌, ◌==◌, List, [], ◌∷◌, max, min, Option, Some, None, if◌then◌else◌}
+use Rattle.timing.specs.Capped.{capped}
+use Rattle.timing.specs.declared.resend_interval.ResendInterval.{ResendInterval}
+
+abbrev pub first_resends : ResendInterval
+first_resends = record { answer = None; gap = 0; last = None; busy = 0 }
+
+-- the mean gap, in parts, after a gap of so many milliseconds: the first one, and then 63 parts of 64 of the old mean and one of the gap
+abbrev pub mean_after : (mean gap : ℕ) → ℕ
+mean_after mean gap = if mean == 0 then gap * 4096 else capped (mean - mean / 64 + gap * 64)
+
+-- a gap counts for 100 milliseconds at most
+abbrev pub gap_after : (last : Option ℕ) → (mean now : ℕ) → ℕ
+gap_after None mean now = mean
+gap_after (Some last) mean now = mean_after mean (min (now - last) 100)
+
+-- media was sent
+abbrev pub sent_at : ResendInterval → (now : ℕ) → ResendInterval
+sent_at r now = record r { gap = gap_after r.last r.gap now; last = Some now }
+
+-- A packet was retransmitted: what left before it, and then it, would be taken at the rate of the media.
+abbrev pub resent_at : ResendInterval → (now : ℕ) → ResendInterval
+resent_at r now = record r { busy = capped (max r.busy (capped (now * 4096)) + r.gap) }
+
+-- How long an answer takes, where one more took so long: what is shorter counts at once, and what is longer raises it by an eighth and
+-- a millisecond at most.
+abbrev pub answered_after : (answer : Option ℕ) → (took : ℕ) → ℕ
+answered_after None took = took
+answered_after (Some before) took = min took (capped (capped (before + before / 8) + 1))
+
+abbrev pub heard_after : ResendInterval → (took : ℕ) → ResendInterval
+heard_after r took = record r { answer = Some (answered_after r.answer took) }
+
+-- for how long what was retransmitted would still be taken
+abbrev pub queued_at : ResendInterval → (now : ℕ) → ℕ
+queued_at r now = (r.busy - capped (now * 4096)) / 4096
+
+abbrev pub interval_with : (answer : Option ℕ) → (queued least : ℕ) → ℕ
+interval_with None queued least = least
+interval_with (Some answer) queued least = max least (capped (answer + queued))
+
+abbrev pub interval_at : ResendInterval → (least now : ℕ) → ℕ
+interval_at r least now = interval_with r.answer (queued_at r now) least
+
+-- answers took so long, one after another
+abbrev pub answers_heard : ResendInterval → List ℕ → ResendInterval
+answers_heard r [] = r
+answers_heard r (took ∷ others) = answers_heard (heard_after r took) others
+
+-- each of them took so long at least
+abbrev pub TakeAtLeast : List ℕ → (least : ℕ) → Type 0
+TakeAtLeast [] least = Unit {0}
+TakeAtLeast (took ∷ others) least = (least ≤ took) × TakeAtLeast others least
+
+-- so many packets were retransmitted at one moment
+unfoldable pub resent_many : ResendInterval → (now many : ℕ) → ResendInterval
+resent_many r now zero = r
+resent_many r now (suc many) = resent_at (resent_many r now many) now

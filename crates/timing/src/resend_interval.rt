@@ -1,0 +1,99 @@
+//! How soon a sender may retransmit a packet again.
+ghost use Rattle.std.specs.Prelude.{◌≡◌, ◌<◌};
+ghost use Rattle.timing.specs.ResendInterval.{answered_after, first_resends, heard_after, interval_at, resent_at, sent_at};
+
+/// A gap between packets counts up to so many milliseconds, so that a pause is no gap.
+const PAUSE: u64 = 100;
+
+/// Into so many parts a millisecond is divided, for gaps that are shorter.
+const PARTS: u64 = 4096;
+
+/// How soon a packet that was retransmitted may be retransmitted again, as its sender sees it: no ask again is answered before the answer to
+/// the one before could have come (RFC 6298 and RFC 8985 have it of TCP's segments). Two things say when that is.
+///
+/// - **A NACK that names a packet for the first time** comes as soon as a later packet shows its loss. How long before that the packet right
+///   behind it was sent is a round trip over the path as it is now, with each queue on the way, and with what the receiver waits for reordering.
+///   A NACK may be late, as one before it was lost, so what is longer than before raises it by an eighth at most (the gain of RFC 6298,
+///   section 2), and what is shorter counts at once.
+/// - **What left together may fill a queue** before any NACK tells of it. A path that has room for the media alone takes as long for a
+///   retransmission as lies between two packets of media, on the mean; until it would have taken all that left, an answer may take so much longer.
+///
+/// Moments and spans are in milliseconds.
+#[derive(Clone, Copy, Debug, PartialEq, Eq)]
+pub struct ResendInterval {
+    /// How long a NACK comes after the packet behind the one that it names was sent.
+    answer: Option<u64>,
+    /// The mean gap between two packets of media, in parts.
+    gap: u64,
+    /// The moment at which the last one was sent.
+    last: Option<u64>,
+    /// The moment, in parts, until which a path with room for the media alone would take what was retransmitted.
+    busy: u64,
+}
+
+impl ResendInterval {
+    /// Nothing was sent so far.
+    pub fn new() -> ResendInterval
+        ensures { result ≡ first_resends }
+    {
+        ResendInterval {
+            answer: None,
+            gap: 0,
+            last: None,
+            busy: 0,
+        }
+    }
+
+    /// A packet of media was sent at the moment `now`. The gap before it counts for a sixty-fourth of the mean.
+    pub fn send(&mut self, now: u64)
+        ensures { self.new ≡ sent_at self.old now }
+    {
+        if let Some(last) = self.last {
+            let gap = now.saturating_sub(last).min(PAUSE);
+            self.gap = if self.gap == 0 {
+                gap * PARTS
+            } else {
+                (self.gap - self.gap / 64).saturating_add(gap * (PARTS / 64))
+            };
+        }
+        self.last = Some(now);
+    }
+
+    /// A packet was retransmitted at the moment `now`.
+    pub fn resend(&mut self, now: u64)
+        ensures { self.new ≡ resent_at self.old now }
+    {
+        self.busy = self
+            .busy
+            .max(now.saturating_mul(PARTS))
+            .saturating_add(self.gap);
+    }
+
+    /// A NACK named a packet for the first time, so long after the one right behind it was sent.
+    pub fn hear(&mut self, answer: u64)
+        ensures { self.new ≡ heard_after self.old answer }
+    {
+        self.answer = Some(answered_after(self.answer, answer));
+    }
+
+    /// How long after its last retransmission a packet is not retransmitted again at the moment `now`: `least`, or longer.
+    pub fn at(&self, least: u64, now: u64) -> u64
+        ensures { result ≡ interval_at self.now least now }
+    {
+        let Some(answer) = self.answer else {
+            return least;
+        };
+        let queued = self.busy.saturating_sub(now.saturating_mul(PARTS)) / PARTS;
+        least.max(answer.saturating_add(queued))
+    }
+}
+
+/// How long an answer takes, where one more took so long.
+fn answered_after(answer: Option<u64>, took: u64) -> u64
+    ensures { result ≡ answered_after answer took }
+{
+    match answer {
+        None => took,
+        Some(before) => took.min(before.saturating_add(before / 8).saturating_add(1)),
+    }
+}
