@@ -116,8 +116,8 @@ module _ (capacity : ℕ) (before : List Event) (old new : SenderState) (cells :
           elsewhere q apart o = elim (cases_Bool (packet.0 == q)) [ inl same ↦ absurd (apart (eqb-true _ _ same)) | inr e ↦ ap (λ b. cond b o (times_of q before)) e ]
 
       -- a packet that the history has is retransmitted
-      pub keeps_resent : IsSome (old.entries packet.0) → Loses old new → Kept capacity (resent now early expired (Ok (Some packet)) ∷ before) new (told cells packet.0 (sent_again now (times_at cells packet.0)))
-      keeps_resent has loses =
+      pub keeps_resent : (rule : ResendRule) → IsSome (old.entries packet.0) → Loses old new → Kept capacity (resent rule now early expired (Ok (Some packet)) ∷ before) new (told cells packet.0 (sent_again now (times_at cells packet.0)))
+      keeps_resent rule has loses =
           let times : Times = sent_again now (times_at cells packet.0) in
           record {
             long = told_length cells packet.0 times ∙ so.long;

@@ -76,7 +76,7 @@ module _ (law : Law) where
   heard_room false old new octets answer (is, same) = ap (λ (s : Sending). s.past.capacity) same
   heard_room true old new octets answer hears = hears.handed.stays.capacity
 
-  module _ (rule : ResendRule) (capacity : ℕ) (some : 0 < capacity) (before : List Event) (old new : Timely) (so : KeptRun capacity before old) where
+  module _ (capacity : ℕ) (some : 0 < capacity) (before : List Event) (old new : Timely) (so : KeptRun capacity before old) where
     as_it_was : (event : Event) → ((q : ℕ) → times_of q (event ∷ before) ≡ times_of q before) → new.core.past.capacity ≡ old.core.past.capacity → new.cells ≡ old.cells →
         Loses (state_of old.core) (state_of new.core) → KeptRun capacity (event ∷ before) new
     as_it_was event times room cells loses =
@@ -105,24 +105,24 @@ module _ (law : Law) where
     sent_so now (Err short) steps =
         as_it_was (sent now (Err short)) (λ q. refl) steps.stays.capacity steps.cells (loses_nothing _ _ steps.sends.3)
 
-    resent_so : (now early expired : ℕ) (answer : Result (Option (ℕ × ℕ)) TooShort) → ResendStep rule now early expired answer old new → KeptRun capacity (resent now early expired answer ∷ before) new
-    resent_so now early expired (Ok (Some packet)) steps =
+    resent_so : (rule : ResendRule) (now early expired : ℕ) (answer : Result (Option (ℕ × ℕ)) TooShort) → ResendStep rule now early expired answer old new → KeptRun capacity (resent rule now early expired answer ∷ before) new
+    resent_so rule now early expired (Ok (Some packet)) steps =
         record {
           room = steps.stays.capacity ∙ so.room;
-          kept = subst (Kept capacity (resent now early expired (Ok (Some packet)) ∷ before) (state_of new.core)) (sym steps.cells)
-              (keeps_resent capacity before (state_of old.core) (state_of new.core) old.cells so.kept some now early expired packet
+          kept = subst (Kept capacity (resent rule now early expired (Ok (Some packet)) ∷ before) (state_of new.core)) (sym steps.cells)
+              (keeps_resent capacity before (state_of old.core) (state_of new.core) old.cells so.kept some now early expired packet rule
               (resent_has rule now early expired packet old new steps) (resent_loses rule now early expired packet old new steps));
         }
-    resent_so now early expired (Ok None) steps =
-        as_it_was (resent now early expired (Ok None)) (λ q. refl) steps.stays.capacity steps.cells
+    resent_so rule now early expired (Ok None) steps =
+        as_it_was (resent rule now early expired (Ok None)) (λ q. refl) steps.stays.capacity steps.cells
         (loses_both _ steps.retransmits.between _ (passed_loses rule now early expired (Ok None) old new steps) (loses_nothing _ _ steps.retransmits.repairs.0.1))
-    resent_so now early expired (Err short) steps =
-        as_it_was (resent now early expired (Err short)) (λ q. refl) steps.stays.capacity steps.cells
+    resent_so rule now early expired (Err short) steps =
+        as_it_was (resent rule now early expired (Err short)) (λ q. refl) steps.stays.capacity steps.cells
         (loses_both _ steps.retransmits.between _ (passed_loses rule now early expired (Err short) old new steps) (loses_nothing _ _ steps.retransmits.repairs.3))
 
-    stepped : (event : Event) → Steps rule event old new → KeptRun capacity (event ∷ before) new
+    stepped : (event : Event) → Steps event old new → KeptRun capacity (event ∷ before) new
     stepped (sent now answer) steps = sent_so now answer steps
-    stepped (resent now early expired answer) steps = resent_so now early expired answer steps
+    stepped (resent rule now early expired answer) steps = resent_so rule now early expired answer steps
     stepped (heard answer) steps =
         as_it_was (heard answer) (λ q. refl) (heard_room steps.control old.core new.core steps.octets answer steps.tells) steps.same.cells
         (heard_loses steps.control old.core new.core steps.octets answer steps.tells)
@@ -141,23 +141,23 @@ module _ (law : Law) where
         };
       }
 
-  pub run_kept : (c : Config) (capacity : ℕ) (rule : ResendRule) → 0 < capacity → (events : List Event) (t : Timely) → RunsOver c capacity rule events t → KeptRun capacity events t
-  run_kept c capacity rule some [] t begins = begun c capacity t begins.core begins.cells
-  run_kept c capacity rule some (event ∷ before) t runs =
-      stepped rule capacity some before runs.old t (run_kept c capacity rule some before runs.old runs.before) event runs.steps
+  pub run_kept : (c : Config) (capacity : ℕ) → 0 < capacity → (events : List Event) (t : Timely) → RunsOver c capacity events t → KeptRun capacity events t
+  run_kept c capacity some [] t begins = begun c capacity t begins.core begins.cells
+  run_kept c capacity some (event ∷ before) t runs =
+      stepped capacity some before runs.old t (run_kept c capacity some before runs.old runs.before) event runs.steps
 
-  module _ (c : Config) (capacity : ℕ) (rule : ResendRule) (some : 0 < capacity) (before : List Event) (old : Timely) (runs : RunsOver c capacity rule before old) where
+  module _ (c : Config) (capacity : ℕ) (some : 0 < capacity) (before : List Event) (old : Timely) (runs : RunsOver c capacity before old) where
     pub kept_times : (q : ℕ) → IsSome ((state_of old.core).entries q) → times_of q before ≡ Some (times_at old.cells q)
-    kept_times = (run_kept c capacity rule some before old runs).kept.times
+    kept_times = (run_kept c capacity some before old runs).kept.times
 
-    pub goes_in_time : (now early expired : ℕ) (packet : ℕ × ℕ) (new : Timely) → ResendStep rule now early expired (Ok (Some packet)) old new → IsSomeAnd (times_of packet.0 before) (λ times. IsInTime rule times now)
-    goes_in_time now early expired packet new steps =
+    pub goes_in_time : (rule : ResendRule) (now early expired : ℕ) (packet : ℕ × ℕ) (new : Timely) → ResendStep rule now early expired (Ok (Some packet)) old new → IsSomeAnd (times_of packet.0 before) (λ times. IsInTime rule times now)
+    goes_in_time rule now early expired packet new steps =
         let may = steps.retransmits.passes.may packet.0 (resent_next rule now early expired packet old new steps) in
         subst (λ o. IsSomeAnd o (λ times. IsInTime rule times now)) (sym (kept_times packet.0 (resent_has rule now early expired packet old new steps)))
         (in_time rule (times_at old.cells packet.0) now may)
 
-    passed_late : (now q : ℕ) → is_marked ((state_of old.core).entries q) ≡ true → verdict_at rule old.cells now q ≢ Go → IsSomeAnd (times_of q before) (λ times. IsOutOfTime rule times now)
-    passed_late now q marked not =
+    passed_late : (rule : ResendRule) (now q : ℕ) → is_marked ((state_of old.core).entries q) ≡ true → verdict_at rule old.cells now q ≢ Go → IsSomeAnd (times_of q before) (λ times. IsOutOfTime rule times now)
+    passed_late rule now q marked not =
         subst (λ o. IsSomeAnd o (λ times. IsOutOfTime rule times now)) (sym (kept_times q (some_marked ((state_of old.core).entries q) marked)))
         (out_of_time rule (times_at old.cells q) now not)
       where
@@ -165,52 +165,52 @@ module _ (law : Law) where
         some_marked None is = absurd (cc)
         some_marked (Some e) is = search rules
 
-    pub none_in_time : (now early expired : ℕ) (new : Timely) → ResendStep rule now early expired (Ok None) old new → (q : ℕ) → is_marked ((state_of old.core).entries q) ≡ true → IsSomeAnd (times_of q before) (λ times. IsOutOfTime rule times now)
-    none_in_time now early expired new steps q marked =
+    pub none_in_time : (rule : ResendRule) (now early expired : ℕ) (new : Timely) → ResendStep rule now early expired (Ok None) old new → (q : ℕ) → is_marked ((state_of old.core).entries q) ≡ true → IsSomeAnd (times_of q before) (λ times. IsOutOfTime rule times now)
+    none_in_time rule now early expired new steps q marked =
         let passes = steps.retransmits.passes in
         elim (cases_lt q passes.from) [
-          | inl less ↦ passed_late now q marked (passes.passes.none_may q less marked)
+          | inl less ↦ passed_late rule now q marked (passes.passes.none_may q less marked)
           | inr more ↦ never (is_marked ((state_of old.core).entries q)) marked (ap is_marked (sym (passes.passes.others q more)) ∙ steps.retransmits.repairs.0.0 q)
         ]
 
-    pub below_late : (now early expired : ℕ) (packet : ℕ × ℕ) (new : Timely) → ResendStep rule now early expired (Ok (Some packet)) old new → (q : ℕ) → q < packet.0 → is_marked ((state_of old.core).entries q) ≡ true →
+    pub below_late : (rule : ResendRule) (now early expired : ℕ) (packet : ℕ × ℕ) (new : Timely) → ResendStep rule now early expired (Ok (Some packet)) old new → (q : ℕ) → q < packet.0 → is_marked ((state_of old.core).entries q) ≡ true →
         IsSomeAnd (times_of q before) (λ times. IsOutOfTime rule times now)
-    below_late now early expired packet new steps q under marked =
+    below_late rule now early expired packet new steps q under marked =
         let passes = steps.retransmits.passes in
         elim (cases_lt q passes.from) [
-          | inl less ↦ passed_late now q marked (passes.passes.none_may q less marked)
+          | inl less ↦ passed_late rule now q marked (passes.passes.none_may q less marked)
           | inr more ↦
               never (is_marked ((state_of old.core).entries q)) marked
               (ap is_marked (sym (passes.passes.others q more)) ∙ (resent_next rule now early expired packet old new steps).least.least q under)
         ]
 
-    pub above_stays : (now early expired : ℕ) (packet : ℕ × ℕ) (new : Timely) → ResendStep rule now early expired (Ok (Some packet)) old new → (q : ℕ) → packet.0 < q → (state_of new.core).entries q ≡ (state_of old.core).entries q
-    above_stays now early expired packet new steps q above =
+    pub above_stays : (rule : ResendRule) (now early expired : ℕ) (packet : ℕ × ℕ) (new : Timely) → ResendStep rule now early expired (Ok (Some packet)) old new → (q : ℕ) → packet.0 < q → (state_of new.core).entries q ≡ (state_of old.core).entries q
+    above_stays rule now early expired packet new steps q above =
         let passes = steps.retransmits.passes in
         let next = resent_next rule now early expired packet old new steps in
         let below = from_below rule old.cells now passes.from (state_of old.core) old.passed steps.retransmits.between new.passed passes.passes packet.0 next in
         steps.retransmits.repairs.0.repairs.others q (λ same. absurd (omega (arith, same, above))) ∙ passes.passes.others q (omega (arith, below, above))
 
 -- what was passed over is counted
-module _ (c : Config) (capacity : ℕ) (rule : ResendRule) where
-  pub early_counted : (events : List Event) (t : Timely) → RunsOver c capacity rule events t → t.passed.early ≡ count_in_64 (sum_by early_in events)
+module _ (c : Config) (capacity : ℕ) where
+  pub early_counted : (events : List Event) (t : Timely) → RunsOver c capacity events t → t.passed.early ≡ count_in_64 (sum_by early_in events)
   early_counted [] t begins = ap (λ (n : ResendCounts). n.early) begins.passed
   early_counted (sent now answer ∷ before) t runs = ap (λ (n : ResendCounts). n.early) runs.steps.passed ∙ early_counted before runs.old runs.before
-  early_counted (resent now early expired answer ∷ before) t runs =
+  early_counted (resent rule now early expired answer ∷ before) t runs =
       runs.steps.retransmits.passes.passes.early
       ∙ ap (more runs.old.passed.early) (sym runs.steps.early_is)
       ∙ ap (λ n. more n early) (early_counted before runs.old runs.before)
-      ∙ adds early_in (resent now early expired answer) before
+      ∙ adds early_in (resent rule now early expired answer) before
   early_counted (heard answer ∷ before) t runs = ap (λ (n : ResendCounts). n.early) runs.steps.same.passed ∙ early_counted before runs.old runs.before
   early_counted (marked_last ∷ before) t runs = ap (λ (n : ResendCounts). n.early) runs.steps.same.passed ∙ early_counted before runs.old runs.before
 
-  pub expired_counted : (events : List Event) (t : Timely) → RunsOver c capacity rule events t → t.passed.expired ≡ count_in_64 (sum_by expired_in events)
+  pub expired_counted : (events : List Event) (t : Timely) → RunsOver c capacity events t → t.passed.expired ≡ count_in_64 (sum_by expired_in events)
   expired_counted [] t begins = ap (λ (n : ResendCounts). n.expired) begins.passed
   expired_counted (sent now answer ∷ before) t runs = ap (λ (n : ResendCounts). n.expired) runs.steps.passed ∙ expired_counted before runs.old runs.before
-  expired_counted (resent now early expired answer ∷ before) t runs =
+  expired_counted (resent rule now early expired answer ∷ before) t runs =
       runs.steps.retransmits.passes.passes.expired
       ∙ ap (more runs.old.passed.expired) (sym runs.steps.expired_is)
       ∙ ap (λ n. more n expired) (expired_counted before runs.old runs.before)
-      ∙ adds expired_in (resent now early expired answer) before
+      ∙ adds expired_in (resent rule now early expired answer) before
   expired_counted (heard answer ∷ before) t runs = ap (λ (n : ResendCounts). n.expired) runs.steps.same.passed ∙ expired_counted before runs.old runs.before
   expired_counted (marked_last ∷ before) t runs = ap (λ (n : ResendCounts). n.expired) runs.steps.same.passed ∙ expired_counted before runs.old runs.before

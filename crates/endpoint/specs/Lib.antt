@@ -22,3 +22,5 @@ pub mod ResendCounts
 pub mod Moments
 pub mod Passing
 pub mod TimelyRuns
+pub mod Answering
+pub mod ResendMetering

@@ -23,7 +23,7 @@ use Rattle.endpoint.specs.Sending.{TellsKind}
 -- a call, and what it answered
 pub data Event : Type 0 where
   sent : (now : ℕ) → Result (Result (ℕ × ℕ) SendFault) TooShort → Event
-  resent : (now : ℕ) → (early expired : ℕ) → Result (Option (ℕ × ℕ)) TooShort → Event  -- so many were passed over
+  resent : (rule : ResendRule) → (now : ℕ) → (early expired : ℕ) → Result (Option (ℕ × ℕ)) TooShort → Event  -- by this rule, and so many were passed over
   heard : Result Told FeedbackFault → Event
   marked_last : Event
 
@@ -70,16 +70,16 @@ pub record MarkStep (old new : Timely) : Type 0 where
   pub stays : Stays old.core new.core
   pub same : SameMoments old new
 
-abbrev pub Steps : ResendRule → Event → (old new : Timely) → Type 0
-Steps rule (sent now answer) old new = SendStep now answer old new
-Steps rule (resent now early expired answer) old new = ResendStep rule now early expired answer old new
-Steps rule (heard answer) old new = HearStep answer old new
-Steps rule marked_last old new = MarkStep old new
+abbrev pub Steps : Event → (old new : Timely) → Type 0
+Steps (sent now answer) old new = SendStep now answer old new
+Steps (resent rule now early expired answer) old new = ResendStep rule now early expired answer old new
+Steps (heard answer) old new = HearStep answer old new
+Steps marked_last old new = MarkStep old new
 
-pub record Follows (Before : Timely → Type 0) (rule : ResendRule) (event : Event) (new : Timely) : Type 0 where
+pub record Follows (Before : Timely → Type 0) (event : Event) (new : Timely) : Type 0 where
   pub old : Timely
   pub before : Before old
-  pub steps : Steps rule event old new
+  pub steps : Steps event old new
 
 -- one that sent nothing, over a history and a ring for so many packets
 pub record Begins (c : Config) (capacity : ℕ) (t : Timely) : Type 0 where
@@ -88,15 +88,15 @@ pub record Begins (c : Config) (capacity : ℕ) (t : Timely) : Type 0 where
   pub passed : t.passed ≡ none_passed
 
 -- These calls left the endpoint so, since it was made.
-abbrev pub RunsOver : Config → (capacity : ℕ) → ResendRule → List Event → Timely → Type 0
-RunsOver c capacity rule [] t = Begins c capacity t
-RunsOver c capacity rule (event ∷ before) t = Follows (RunsOver c capacity rule before) rule event t
+abbrev pub RunsOver : Config → (capacity : ℕ) → List Event → Timely → Type 0
+RunsOver c capacity [] t = Begins c capacity t
+RunsOver c capacity (event ∷ before) t = Follows (RunsOver c capacity before) event t
 
 -- The moments of the packet of the place q, by the calls: when it was sent, and when it was last retransmitted since.
 abbrev pub times_of : (q : ℕ) → List Event → Option Times
 times_of q [] = None
 times_of q (sent now (Ok (Ok packet)) ∷ before) = if packet.0 == q then Some (just_sent now) else times_of q before
-times_of q (resent now early expired (Ok (Some packet)) ∷ before) = if packet.0 == q then option_map (sent_again now) (times_of q before) else times_of q before
+times_of q (resent rule now early expired (Ok (Some packet)) ∷ before) = if packet.0 == q then option_map (sent_again now) (times_of q before) else times_of q before
 times_of q (event ∷ before) = times_of q before
 
 -- a retransmission of the place q at the moment `now` is past its deadline, or within the span after the one before
@@ -105,9 +105,9 @@ IsOutOfTime rule times now = IsSomeAnd rule.deadline (λ span. span < now - time
 
 -- how many a call passed over, by why
 abbrev pub early_in : Event → ℕ
-early_in (resent now early expired answer) = early
+early_in (resent rule now early expired answer) = early
 early_in event = 0
 
 abbrev pub expired_in : Event → ℕ
-expired_in (resent now early expired answer) = expired
+expired_in (resent rule now early expired answer) = expired
 expired_in event = 0

@@ -2,6 +2,7 @@
 //! restarts then, that takes whatever datagram comes from the far side, and that counts.
 #![tactic(auto)]
 
+mod answering;
 mod asked_places;
 mod asking;
 mod asking_endpoint;
@@ -21,6 +22,7 @@ mod probation;
 mod receive_counts;
 mod receiving;
 mod resend_counts;
+mod resend_meter;
 mod resend_rule;
 mod seen_packets;
 mod send_counts;
@@ -49,6 +51,7 @@ pub use probation::Probation;
 pub use receive_counts::ReceiveCounts;
 pub use receiving::ReceivingEndpoint;
 pub use resend_counts::ResendCounts;
+pub use resend_meter::ResendMeter;
 pub use resend_rule::{ResendRule, Times, Verdict};
 pub use seen_packets::{SeenPacket, SeenPackets};
 pub use send_counts::SendCounts;

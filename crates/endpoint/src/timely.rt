@@ -6,6 +6,7 @@ ghost use Rattle.sender.specs.Repairing.{RepairsInto};
 ghost use Rattle.sender.specs.Sender.{Stays, new_sending, state_of};
 ghost use Rattle.sender.specs.Sending.{SendsInto};
 ghost use Rattle.sender.specs.Tail.{MarksLast};
+ghost use Rattle.endpoint.specs.Answering.{TellsAnswer};
 ghost use Rattle.endpoint.specs.Demultiplex.{is_control};
 ghost use Rattle.endpoint.specs.Moments.{told_sent, told_resent};
 ghost use Rattle.endpoint.specs.Passing.{PassesWhatMayNot, Retransmits};
@@ -14,6 +15,7 @@ ghost use Rattle.endpoint.specs.Resending.{always};
 ghost use Rattle.endpoint.specs.SendCounts.{count_told, no_counts};
 ghost use Rattle.endpoint.specs.Sending.{CountsSent, CountsRepaired, TellsKind};
 
+use crate::answering::answer_time;
 use crate::moments::Moments;
 use crate::resend_counts::ResendCounts;
 use crate::resend_rule::{ResendRule, Times, Verdict};
@@ -126,16 +128,48 @@ impl<H: History> TimelyEndpoint<H> {
         ensures plain_err { self.old.rule ≡ always → OnErr result (self.new ≡ self.old) }
         ensures plain_passed { self.old.rule ≡ always → self.new.passed ≡ self.old.passed }
     {
+        let rule = self.rule;
+        self.retransmit_by(rule, out, now)
+    }
+
+    /// [`retransmit_into`](TimelyEndpoint::retransmit_into) by another rule than its own, for this call: by one that follows the path.
+    pub fn retransmit_by(
+        &mut self,
+        rule: ResendRule,
+        out: &mut [u8],
+        now: u64,
+    ) -> Result<Option<(Place, usize)>, TooShort>
+        ensures retransmits { Retransmits rule self.old.moments self.old.endpoint.core.config.session now (state_of self.old.endpoint.core) self.old.passed out.old result out.new (state_of self.new.endpoint.core) self.new.passed }
+        ensures enough { MAX_DATAGRAM ≤ length out.old → IsOk result }
+        ensures stays { Stays self.old.endpoint.core self.new.endpoint.core }
+        ensures counts { CountsRepaired result self.old.endpoint.counts self.new.endpoint.counts }
+        ensures moments { self.new.moments ≡ told_resent result now self.old.moments }
+        ensures rule { self.new.rule ≡ self.old.rule }
+        ensures plain { rule ≡ always → RepairsInto self.old.endpoint.core.config.session (state_of self.old.endpoint.core) out.old result out.new (state_of self.new.endpoint.core) }
+        ensures plain_none { rule ≡ always → result ≡ Ok None → self.new.endpoint.core ≡ self.old.endpoint.core }
+        ensures plain_err { rule ≡ always → OnErr result (self.new ≡ self.old) }
+        ensures plain_passed { rule ≡ always → self.new.passed ≡ self.old.passed }
+    {
         pass_by(
             &mut self.endpoint,
             &mut self.passed,
             &self.moments,
-            self.rule,
+            rule,
             now,
         );
         let answer = self.endpoint.next_repair_into(out);
         tell_resent(&mut self.moments, &answer, now);
         answer
+    }
+
+    /// How long an answer takes, in milliseconds, as a datagram says that came at the moment `now`, and which is still to be heard: how long
+    /// ago the packet was sent that lies right behind the one that its NACKs of this session name last. A receiver names the newest loss
+    /// last, and as soon as that packet shows it. None where that was named or retransmitted before, or the history lacks one of the
+    /// two, and of what is no feedback for the session of this configuration, which is the endpoint's own.
+    pub fn answer_time(&self, config: &SenderConfig, octets: &[u8], now: u64) -> Option<u64>
+        ensures { TellsAnswer config.now self.now.endpoint.core.past self.now.moments octets.now now result }
+    {
+        answer_time(self.endpoint.core(), config, &self.moments, octets, now)
     }
 
     /// [`SendingEndpoint::mark_last`]: for a sender that falls silent.

@@ -222,3 +222,101 @@ fn a_slice_that_is_too_short(rt: HostRuntime) -> Result<(), Fail> {
     assert_eq!(rt; wrong_step(rt.alloc(), 20, Some(100), STEPS)?, None);
     Ok(())
 }
+
+/// A NACK of the session for the number 1 and, by the mask, for those behind it, by this reporter and for this media, each said by its last
+/// octet.
+fn nack(reporter: u8, media: u8, mask: u8) -> [u8; 16] {
+    [
+        0x81, 0xcd, 0, 3, 0x33, 0x33, 0x33, reporter, 0x11, 0x11, 0x11, media, 0, 1, 0, mask,
+    ]
+}
+
+/// What such a NACK tells of an answer at a moment, where packets were sent at 0, 30 and 60.
+fn told(
+    endpoint: &TimelyEndpoint<RingHistory>,
+    config: &SenderConfig,
+    now: u64,
+    reporter: u8,
+    media: u8,
+    mask: u8,
+) -> Option<u64> {
+    endpoint.answer_time(config, nack(reporter, media, mask).as_slice(), now)
+}
+
+#[test]
+fn how_long_an_answer_takes(rt: HostRuntime) -> Result<(), Fail> {
+    let mut endpoint = timely(rt.alloc(), 0, None)?;
+    let Ok(config) = SenderConfig::new(session()?, 1, 5, 3) else {
+        return Err(Fail::from("a good configuration"));
+    };
+    let are_sent = sent(&mut endpoint, 0) == Some(1)
+        && sent(&mut endpoint, 30) == Some(2)
+        && sent(&mut endpoint, 60) == Some(3);
+    // The last one that is named is the first, the second, the third: the packet behind it was sent at 30, at 60, and is still to be sent.
+    let by_the_last = told(&endpoint, &config, 95, 0x33, 0x11, 0) == Some(65)
+        && told(&endpoint, &config, 95, 0x33, 0x11, 1) == Some(35)
+        && told(&endpoint, &config, 95, 0x33, 0x11, 3).is_none();
+    // Nobody else's, none of another stream, and nothing but feedback says so.
+    let of_the_session = told(&endpoint, &config, 95, 0x34, 0x11, 0).is_none()
+        && told(&endpoint, &config, 95, 0x33, 0x12, 0).is_none();
+    // Nor does a datagram that is RTP by its second octet, as a whole NACK behind it.
+    let mut behind = [0; 20];
+    behind[0] = 0x80;
+    behind[1] = 96;
+    behind[4..].copy_from_slice(&nack(0x33, 0x11, 0));
+    let of_media = endpoint
+        .answer_time(&config, behind.as_slice(), 95)
+        .is_none();
+    behind[1] = 201;
+    let of_reports = endpoint.answer_time(&config, behind.as_slice(), 95) == Some(65);
+    // A packet that was named before says nothing, nor one that was retransmitted; the one behind it does.
+    asks(&mut endpoint, 0);
+    let named = told(&endpoint, &config, 96, 0x33, 0x11, 0).is_none()
+        && told(&endpoint, &config, 96, 0x33, 0x11, 1) == Some(36);
+    let is_resent = resent(&mut endpoint, 97) == Some((1, [5, 1]));
+    let after = told(&endpoint, &config, 98, 0x33, 0x11, 0).is_none();
+    assert!(rt;
+        are_sent
+            && by_the_last
+            && of_the_session
+            && of_media
+            && of_reports
+            && named
+            && is_resent
+            && after
+    );
+    Ok(())
+}
+
+/// The rule that holds where one has 10 milliseconds, once an answer took 65.
+#[test]
+fn a_rule_that_follows(rt: HostRuntime) -> Result<(), Fail> {
+    let mut endpoint = timely(rt.alloc(), 0, None)?;
+    let rule = ResendRule {
+        min_resend: 10,
+        deadline: Some(300),
+    };
+    let (mut follows, mut fixed) = (ResendMeter::following(), ResendMeter::fixed());
+    let are_sent = sent(&mut endpoint, 0) == Some(1) && sent(&mut endpoint, 30) == Some(2);
+    follows.send(0);
+    follows.send(30);
+    let before = follows.rule(rule, 95) == rule;
+    let Ok(config) = SenderConfig::new(session()?, 1, 5, 3) else {
+        return Err(Fail::from("a good configuration"));
+    };
+    follows.hear(&endpoint, &config, nack(0x33, 0x11, 0).as_slice(), 95);
+    fixed.hear(&endpoint, &config, nack(0x33, 0x11, 0).as_slice(), 95);
+    let heard = follows.rule(rule, 95)
+        == ResendRule {
+            min_resend: 65,
+            deadline: Some(300),
+        };
+    // A retransmission takes as long as lies between two packets.
+    follows.resend(95);
+    fixed.resend(95);
+    let resent = follows.rule(rule, 95).min_resend == 95
+        && follows.rule(rule, 110).min_resend == 80
+        && follows.rule(rule, 125).min_resend == 65;
+    assert!(rt; are_sent && before && heard && resent && fixed.rule(rule, 95) == rule);
+    Ok(())
+}

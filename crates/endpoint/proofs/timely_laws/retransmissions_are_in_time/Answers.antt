@@ -12,13 +12,13 @@ pub returns : goal.returns
 returns g =
     let law : Law = λ c old octets answer new hears. g.shared_feedback_is_determined.ensures.any c old octets answer new hears in
     record {
-      kept = λ c capacity rule some events t runs. kept_times law c capacity rule some events t runs;
-      goes = λ c capacity rule some before old runs now early expired packet new steps. goes_in_time law c capacity rule some before old runs now early expired packet new steps;
-      none = λ c capacity rule some before old runs now early expired new steps q marked. none_in_time law c capacity rule some before old runs now early expired new steps q marked;
-      below = λ c capacity rule some before old runs now early expired packet new steps q under marked. below_late law c capacity rule some before old runs now early expired packet new steps q under marked;
-      above = λ c capacity rule some before old runs now early expired packet new steps q above. above_stays law c capacity rule some before old runs now early expired packet new steps q above;
-      counted = λ c capacity rule events t runs.
-          (in_full _ _ (early_counted c capacity rule events t runs), in_full _ _ (expired_counted c capacity rule events t runs));
+      kept = λ c capacity some events t runs. kept_times law c capacity some events t runs;
+      goes = λ c capacity rule some before old runs now early expired packet new steps. goes_in_time law c capacity some before old runs rule now early expired packet new steps;
+      none = λ c capacity rule some before old runs now early expired new steps q marked. none_in_time law c capacity some before old runs rule now early expired new steps q marked;
+      below = λ c capacity rule some before old runs now early expired packet new steps q under marked. below_late law c capacity some before old runs rule now early expired packet new steps q under marked;
+      above = λ c capacity rule some before old runs now early expired packet new steps q above. above_stays law c capacity some before old runs rule now early expired packet new steps q above;
+      counted = λ c capacity events t runs.
+          (in_full _ _ (early_counted c capacity events t runs), in_full _ _ (expired_counted c capacity events t runs));
       always = always_goes;
       as_before = λ cells s now old passed out answer out' new passed' early expired resends. always_as_before cells s now old passed out answer out' new passed' early expired resends;
     }
