@@ -96,6 +96,19 @@ fn done_by(
     runs(&mut script, relay, leaves)
 }
 
+/// The same for three packets, of one that follows the path.
+fn following(
+    alloc: Global,
+    rule: ResendRule,
+    comes: &[Passing],
+    leaves: &[(usize, Passing)],
+) -> Result<Told, Fail> {
+    let mut script = Script::new(alloc, comes)?;
+    let mut relay = relay(alloc, 3, Pace::new(Rate::Free), rule)?;
+    relay.follow();
+    runs(&mut script, relay, leaves)
+}
+
 /// The same for two packets, where whatever is asked for is retransmitted.
 fn done(
     alloc: Global,
@@ -261,5 +274,38 @@ fn what_does_not_fit_the_time_is_passed_over(rt: HostRuntime) -> Result<(), Fail
     };
     let done = done_by(rt.alloc(), 3, Rate::Free, rule, COMES, LEAVES)?;
     assert!(rt; done.has_left && done.gone == 6 && done.early == 2 && done.expired == 1);
+    Ok(())
+}
+
+/// The second packet leaves at 8, and the NACK that shows it comes at 48: an answer takes 40. The same NACK 39 after the retransmission comes
+/// too soon for one, and 40 after it does not; by the rule alone, which has 10, both are answered.
+#[test]
+fn an_answer_on_its_way_is_waited_for(rt: HostRuntime) -> Result<(), Fail> {
+    const COMES: &[Passing] = &[
+        (5, Near, APPLICATION, FIRST),
+        (8, Near, APPLICATION, SECOND),
+        (48, Far, FAR, NACK),
+        (87, Far, FAR, NACK),
+        (88, Far, FAR, NACK),
+        (90, Near, APPLICATION, SECOND),
+    ];
+    const LEAVES: &[(usize, Passing)] = &[
+        (2, (48, Far, FAR, REPAIRED_FIRST)),
+        (3, (88, Far, FAR, REPAIRED_AGAIN)),
+        (4, (90, Far, FAR, SENT_AGAIN)),
+    ];
+    const LEAVES_BY_RULE: &[(usize, Passing)] = &[
+        (2, (48, Far, FAR, REPAIRED_FIRST)),
+        (3, (87, Far, FAR, REPAIRED_AGAIN)),
+        (4, (90, Far, FAR, SENT_AGAIN)),
+    ];
+    let rule = ResendRule {
+        min_resend: 10,
+        deadline: None,
+    };
+    let followed = following(rt.alloc(), rule, COMES, LEAVES)?;
+    assert!(rt; followed.has_left && followed.gone == 6 && followed.early == 1);
+    let ruled = done_by(rt.alloc(), 3, Rate::Free, rule, COMES, LEAVES_BY_RULE)?;
+    assert!(rt; ruled.has_left && ruled.gone == 6 && ruled.early == 1);
     Ok(())
 }

@@ -1,6 +1,6 @@
 -- The relay before a network that loses: what it does with what comes, and what it does of its own. Each case of what it notes has
 -- its equation, and what stands nowhere is never done.
-use Rattle.std.specs.Prelude.{◌≡◌, ℕ, ◌^◌, ◌≤◌, ◌-◌, ◌==◌, ◌&&◌, Bool, true, false, nat_le, List, length, Option, Some, None}
+use Rattle.std.specs.Prelude.{◌≡◌, ℕ, ◌^◌, ◌≤◌, ◌-◌, ◌==◌, ◌&&◌, Bool, true, false, nat_le, List, length, Option, Some, None, Result}
 use Rattle.std.specs.declared.net.socket_addr.SocketAddr.{SocketAddr}
 use Rattle.rtpwire.specs.declared.content.Content.{Content}
 use Rattle.rtpwire.specs.Rtp.{RtpPacket, RtpSpells}
@@ -14,12 +14,16 @@ use Rattle.sender.specs.Tail.{MarksLast}
 use Rattle.endpoint.specs.Demultiplex.{is_control}
 use Rattle.endpoint.specs.Sending.{TellsKind}
 use Rattle.endpoint.specs.declared.resend_counts.ResendCounts.{ResendCounts}
+use Rattle.endpoint.specs.declared.resend_meter.ResendMeter.{ResendMeter}
 use Rattle.endpoint.specs.declared.resend_rule.ResendRule.{ResendRule}
 use Rattle.endpoint.specs.declared.resend_rule.Times.{Times}
 use Rattle.endpoint.specs.declared.send_counts.SendCounts.{SendCounts}
+use Rattle.endpoint.specs.declared.told.Told.{Told as Answer}
+use Rattle.fbwire.specs.declared.fault.FeedbackFault.{FeedbackFault}
 use Rattle.endpoint.specs.Moments.{just_sent, sent_again, times_at, told}
 use Rattle.endpoint.specs.Passing.{PassesWhatMayNot}
 use Rattle.endpoint.specs.ResendCounts.{none_passed}
+use Rattle.endpoint.specs.ResendMetering.{HearsTime, meter_fixed, meter_resent, meter_sent, rule_by}
 use Rattle.endpoint.specs.SendCounts.{count_sent, count_told, count_repaired, no_counts}
 use Rattle.relays.specs.declared.bounds.Bounds.{Bounds}
 use Rattle.relays.specs.declared.outside.Side.{Side}
@@ -42,6 +46,7 @@ pub record SendSide : Type 0 where
   pub rule : ResendRule  -- which retransmissions fit the time
   pub moments : List Times  -- when each packet was sent and last retransmitted, in a ring
   pub passed : ResendCounts  -- the retransmissions that did not fit
+  pub meter : ResendMeter  -- what it measures of the path
   pub far : SocketAddr
   pub stream : Stream  -- the application's
   pub pace : Pace
@@ -51,7 +56,7 @@ pub record SendSide : Type 0 where
 -- a relay that sent nothing
 abbrev pub new_send_side : Sending → ResendRule → List Times → SocketAddr → Stream → Pace → Bounds → SendSide
 new_send_side core rule moments far stream pace bounds =
-    record { core = core; counts = no_counts; rule = rule; moments = moments; passed = none_passed; far = far; stream = stream; pace = pace; tail = false; bounds = bounds }
+    record { core = core; counts = no_counts; rule = rule; moments = moments; passed = none_passed; meter = meter_fixed; far = far; stream = stream; pace = pace; tail = false; bounds = bounds }
 
 -- it ends by its bounds, of which it counts the packets that it sent
 abbrev pub is_done : SendSide → (now : ℕ) → Bool
@@ -86,7 +91,7 @@ pub record Forwarded (old : SendSide) (octets : List ℕ) (now place : ℕ) (d :
   pub sends : SendsAt old.core.config.session old.core.past.capacity (state_of old.core) content 0 place (octets_of d out) (state_of new.core)
   pub goes : GoesTo d Far old.far
   pub config : new.core.config ≡ old.core.config
-  pub rest : new ≡ record old { core = new.core; counts = count_sent (length content.payload.items) old.counts; moments = told old.moments place (just_sent now); stream = followed_at packet.ssrc now; pace = paced_beside old.pace d.len now; tail = true }
+  pub rest : new ≡ record old { core = new.core; counts = count_sent (length content.payload.items) old.counts; moments = told old.moments place (just_sent now); meter = meter_sent old.meter now; stream = followed_at packet.ssrc now; pace = paced_beside old.pace d.len now; tail = true }
 
 -- what is done with a datagram of the application: it is sent, or it carries nothing, or there is no place left
 abbrev pub Forwards : SendSide → (octets : List ℕ) → (now : ℕ) → Note → Option Departure → (out : List ℕ) → SendSide → Type 0
@@ -95,16 +100,21 @@ Forwards old octets now Unsent None out new =
     ((packet : RtpPacket) (content : Content) → Carries old.core.config.session old.stream octets now packet content → 2 ^ 48 ≤ old.core.next) × (new ≡ old)
 Forwards old octets now note leaves out new = ⊥
 
+-- The path is measured by a datagram of the far side, and the endpoint hears it.
+pub record HearsFeedback (old : SendSide) (octets : List ℕ) (now : ℕ) (answer : Result Answer FeedbackFault) (new : SendSide) : Type 0 where
+  pub measures : HearsTime old.core.config old.core.past old.moments octets now old.meter.interval new.meter.interval
+  pub tells : TellsKind (is_control octets) old.core octets answer new.core
+  pub rest : new ≡ record old { core = new.core; counts = count_told answer old.counts; meter = new.meter }
+
 -- what is done with a datagram at the other socket: the endpoint hears what the far side sent, and nobody else's
-abbrev pub HearsFar : SendSide → (from : SocketAddr) → (octets : List ℕ) → Note → Option Departure → SendSide → Type 0
-HearsFar old from octets (Told answer) None new =
-    (from ≡ old.far) × TellsKind (is_control octets) old.core octets answer new.core × (new ≡ record old { core = new.core; counts = count_told answer old.counts })
-HearsFar old from octets Stray None new = (from ≡ old.far → ⊥) × (new ≡ old)
-HearsFar old from octets note leaves new = ⊥
+abbrev pub HearsFar : SendSide → (from : SocketAddr) → (octets : List ℕ) → (now : ℕ) → Note → Option Departure → SendSide → Type 0
+HearsFar old from octets now (Told answer) None new = (from ≡ old.far) × HearsFeedback old octets now answer new
+HearsFar old from octets now Stray None new = (from ≡ old.far → ⊥) × (new ≡ old)
+HearsFar old from octets now note leaves new = ⊥
 
 abbrev pub Hears : SendSide → Side → (from : SocketAddr) → (octets : List ℕ) → (now : ℕ) → Turn → (out : List ℕ) → SendSide → Type 0
 Hears old Near from octets now turn out new = Forwards old octets now turn.note turn.leaves out new
-Hears old Far from octets now turn out new = HearsFar old from octets turn.note turn.leaves new
+Hears old Far from octets now turn out new = HearsFar old from octets now turn.note turn.leaves new
 
 -- the stream, of which something came, is silent for a tenth of a second
 abbrev pub fell_silent : (last : Option ℕ) → (now : ℕ) → Bool
@@ -114,22 +124,26 @@ fell_silent (Some last) now = nat_le 100 (now - last)
 abbrev pub is_tail_at : SendSide → (now : ℕ) → Bool
 is_tail_at old now = old.tail && fell_silent old.stream.last now
 
+-- the rule that holds at a moment
+abbrev pub rule_at : SendSide → (now : ℕ) → ResendRule
+rule_at s now = rule_by s.meter.interval s.rule now
+
 -- The least packet that is marked and fits the time is retransmitted to the far side, as the pace lets it. What is marked below it is
 -- passed over.
 pub record Retransmits (old : SendSide) (now place : ℕ) (d : Departure) (out : List ℕ) (new : SendSide) : Type 0 where
   pub opened : is_open old.pace now ≡ true
   pub between : SenderState
-  pub passes : PassesWhatMayNot old.rule old.moments now (state_of old.core) old.passed between new.passed
+  pub passes : PassesWhatMayNot (rule_at old now) old.moments now (state_of old.core) old.passed between new.passed
   pub repairs : RepairsAt old.core.config.session between place (octets_of d out) (state_of new.core)
   pub goes : GoesTo d Far old.far
   pub config : new.core.config ≡ old.core.config
-  pub rest : new ≡ record old { core = new.core; counts = count_repaired old.counts; moments = told old.moments place (sent_again now (times_at old.moments place)); passed = new.passed; pace = opens_after old.pace d.len now }
+  pub rest : new ≡ record old { core = new.core; counts = count_repaired old.counts; moments = told old.moments place (sent_again now (times_at old.moments place)); passed = new.passed; meter = meter_resent old.meter now; pace = opens_after old.pace d.len now }
 
 -- Of what is marked nothing fits the time, and all of it is passed over.
 pub record PassesAllOver (old : SendSide) (now : ℕ) (new : SendSide) : Type 0 where
   pub opened : is_open old.pace now ≡ true
   pub is_marked : NoneMarked (state_of old.core) → ⊥
-  pub passes : PassesWhatMayNot old.rule old.moments now (state_of old.core) old.passed (state_of new.core) new.passed
+  pub passes : PassesWhatMayNot (rule_at old now) old.moments now (state_of old.core) old.passed (state_of new.core) new.passed
   pub none_left : NoneMarked (state_of new.core)
   pub config : new.core.config ≡ old.core.config
   pub rest : new ≡ record old { core = new.core; passed = new.passed }

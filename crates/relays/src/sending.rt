@@ -4,6 +4,7 @@ ghost use Rattle.rtpwire.specs.declared.limits.TheConstants.{MAX_DATAGRAM};
 ghost use Rattle.sender.specs.Sender.{new_sending};
 ghost use Rattle.stores.specs.Past.{empty_past};
 ghost use Rattle.stores.specs.Asking.{has_come};
+ghost use Rattle.endpoint.specs.ResendMetering.{meter_following};
 ghost use Rattle.relays.specs.Passing.{IsWithin};
 ghost use Rattle.relays.specs.SendRelay.{CarriesNothing, Forwards, HearsFar, IsCarried, is_done, is_of_stream, is_tail_at, new_send_side, NothingOpen, SpeaksAs};
 
@@ -12,7 +13,7 @@ use crate::outside::Side;
 use crate::pace::Pace;
 use crate::relay::{Departure, Note, Relay, Turn, silent};
 use crate::stream::Stream;
-use endpoint::{ResendCounts, ResendRule, SendCounts, TimelyEndpoint};
+use endpoint::{ResendCounts, ResendMeter, ResendRule, SendCounts, TimelyEndpoint};
 use rtpwire::{Carried, MAX_DATAGRAM, RtpView, Session};
 use sender::SenderConfig;
 use std::alloc::Global;
@@ -29,7 +30,9 @@ const SILENT: u64 = 100;
 #[derive(Drop)]
 pub struct SendRelay<H: History> {
     endpoint: TimelyEndpoint<H>,
-    session: Session,
+    config: SenderConfig,
+    /// What it measures of the path, by which packets are retransmitted again no sooner than their answers can have come.
+    meter: ResendMeter,
     far: SocketAddr,
     stream: Stream,
     pace: Pace,
@@ -48,14 +51,14 @@ impl<H: History> Model for SendRelay<H> {
 
     ghost Value = { SendSide };
 
-    ghost view = { λ r. record { core = r.endpoint.endpoint.core; counts = r.endpoint.endpoint.counts; rule = r.endpoint.rule; moments = r.endpoint.moments; passed = r.endpoint.passed; far = r.far; stream = r.stream; pace = r.pace; tail = r.tail; bounds = r.bounds } };
+    ghost view = { λ r. record { core = r.endpoint.endpoint.core; counts = r.endpoint.endpoint.counts; rule = r.endpoint.rule; moments = r.endpoint.moments; passed = r.endpoint.passed; meter = r.meter; far = r.far; stream = r.stream; pace = r.pace; tail = r.tail; bounds = r.bounds } };
 
-    ghost invariant = { λ r. (r.session ≡ r.endpoint.endpoint.core.config.session) × (r.is_pending ≡ false → NoneMarked (state_of r.endpoint.endpoint.core)) };
+    ghost invariant = { λ r. (r.config ≡ r.endpoint.endpoint.core.config) × (r.is_pending ≡ false → NoneMarked (state_of r.endpoint.endpoint.core)) };
 }
 
 impl<H: History> SendRelay<H> {
     /// A relay to a far side that sent nothing so far, for this stream of the application. It keeps up to `capacity` packets, from 1
-    /// to 8192 of them, and retransmits by this rule, at this pace.
+    /// to 8192 of them, and retransmits by this rule as it is, at this pace.
     ///
     /// `OutOfMemory`: the allocator refused the memory.
     pub fn new(
@@ -74,7 +77,8 @@ impl<H: History> SendRelay<H> {
     {
         Ok(SendRelay {
             endpoint: TimelyEndpoint::new(alloc, config, rule, capacity)?,
-            session: config.session(),
+            config,
+            meter: ResendMeter::fixed(),
             far,
             stream,
             pace,
@@ -82,6 +86,13 @@ impl<H: History> SendRelay<H> {
             is_pending: true,
             bounds,
         })
+    }
+
+    /// It measures the path from now on, and retransmits packets again no sooner than what it measures says, nor than its rule does.
+    pub fn follow(&mut self)
+        ensures { self.new ≡ record self.old { meter = meter_following } }
+    {
+        self.meter = ResendMeter::following();
     }
 
     /// What its endpoint did so far.
@@ -102,7 +113,7 @@ impl<H: History> SendRelay<H> {
     pub fn is_of(&self, ssrc: u32, payload_type: u8, now: u64) -> bool
         ensures { result ≡ is_of_stream self.now ssrc payload_type now }
     {
-        payload_type == self.session.media_type() && self.stream.follows(ssrc, now)
+        payload_type == self.config.session().media_type() && self.stream.follows(ssrc, now)
     }
 
     /// Sends a datagram of the application, if it is a packet of the stream.
@@ -112,7 +123,8 @@ impl<H: History> SendRelay<H> {
         ensures within { IsWithin result }
         ensures room { length out.new ≡ MAX_DATAGRAM }
     {
-        let Some((ssrc, carried)) = carried(&self.session, &self.stream, octets, now) else {
+        let session = self.config.session();
+        let Some((ssrc, carried)) = carried(&session, &self.stream, octets, now) else {
             return silent(Note::Unsent);
         };
         let Ok(Ok((place, len))) = self.endpoint.send_into(out, &carried, 0, now) else {
@@ -120,6 +132,7 @@ impl<H: History> SendRelay<H> {
         };
         self.stream.follow(ssrc, now);
         self.pace.measure(len, now);
+        self.meter.send(now);
         self.tail = true;
         self.is_pending = true;
         Turn {
@@ -132,14 +145,15 @@ impl<H: History> SendRelay<H> {
         }
     }
 
-    /// Hears a datagram at the far side's socket.
-    fn hear_far(&mut self, from: SocketAddr, octets: &[u8]) -> Turn
-        ensures hears { HearsFar self.old from octets.now result.note result.leaves self.new }
+    /// Hears a datagram at the far side's socket, and measures the path by it.
+    fn hear_far(&mut self, from: SocketAddr, octets: &[u8], now: u64) -> Turn
+        ensures hears { HearsFar self.old from octets.now now result.note result.leaves self.new }
         ensures within { IsWithin result }
     {
         if from != self.far {
             return silent(Note::Stray);
         }
+        self.meter.hear(&self.endpoint, &self.config, octets, now);
         self.is_pending = true;
         silent(Note::Told(self.endpoint.on_datagram(octets)))
     }
@@ -160,9 +174,11 @@ impl<H: History> SendRelay<H> {
             self.is_pending = false;
             return None;
         };
-        match self.endpoint.retransmit_into(out, now) {
+        let rule = self.meter.rule(self.endpoint.rule(), now);
+        match self.endpoint.retransmit_by(rule, out, now) {
             Ok(Some((place, len))) => {
                 self.pace.spend(len, now);
+                self.meter.resend(now);
                 Some(Turn {
                     note: Note::Retransmitted(place),
                     leaves: Some(Departure {
@@ -264,7 +280,7 @@ impl<H: History> Relay for SendRelay<H> {
     ) -> Turn {
         match side {
             Side::Near => self.forward(octets, now, out),
-            Side::Far => self.hear_far(from, octets),
+            Side::Far => self.hear_far(from, octets, now),
         }
     }
 
