@@ -14,7 +14,7 @@ use Rattle.endpoint.specs.declared.heard.Heard.{Heard}
 use Rattle.endpoint.specs.declared.heard.Heard.TheVariants.{HeldBack, Restarted}
 use Rattle.endpoint.specs.Demultiplex.{is_control}
 use Rattle.endpoint.specs.Probation.{goes_on as near, wanted_of_run}
-use Rattle.endpoint.specs.Receiving.{Ends, Handed, AfterHeld, Believes, HearsWanted, HoldsBack, HearsPacket, HearsKind, HearsUnless, follows, spare_before, run_before, run_after, run_refused, wants_more, as_heard, held_answer, held_ends, kept_in}
+use Rattle.endpoint.specs.Receiving.{Ends, Handed, AfterHeld, Believes, HearsWanted, HoldsBack, HearsPacket, HearsKind, HearsUnless, follows, spare_before, run_before, run_after, run_refused, wants_more, as_heard, held_answer, held_ends, kept_in, skipped_at}
 use Rattle.endpoint.specs.Events.{Event, Endpoint, Steps, RunsOver, heard, played, asked, begun_at, restarted_by_call, timed}
 use Rattle.endpoint.specs.Ledger.{Deed, takes, plays, asks, begins, sets, IsPlain, Does, Reached, Ledger, at_core, noted, held_before, ledger}
 
@@ -75,7 +75,7 @@ module _ (capacity : ℕ) (octets : List ℕ) (now : ℕ) where
   counted_so : (more : Bool) (old : Ends) (run : Run) (seq : ℕ) (l : Ledger) (taken : Taken) (mid : Receiving) (answer : Result Heard ReceiveFault) (new : Ends)
       → Agrees capacity l old → mid.span.capacity ≡ capacity
       → Reached capacity (takes octets now ∷ held_before (run.count + 1) l.held) mid
-      → answer ≡ Ok (held_answer more taken (run.count + 1) (kept_in old.core.span)) → new ≡ held_ends more old mid run seq now
+      → answer ≡ Ok (held_answer more taken (run.count + 1) (kept_in old.core.span) (skipped_at (highest_of old.core.span) mid.span.cursor taken.overrun)) → new ≡ held_ends more old mid run seq now
       → Agrees capacity (noted (heard octets now answer) l) new
   counted_so true old run seq l taken mid answer new agrees room reached answered is =
       subst (λ (a : Result Heard ReceiveFault). Agrees capacity (noted (heard octets now a) l) new) (sym answered)
@@ -83,7 +83,7 @@ module _ (capacity : ℕ) (octets : List ℕ) (now : ℕ) where
       (record { core = agrees.core; held = held_more run.count (takes octets now ∷ held_before (run.count + 1) l.held) mid reached; core_room = agrees.core_room; spare_room = room }))
   counted_so false old run seq l taken mid answer new agrees room reached answered is =
       subst (λ (a : Result Heard ReceiveFault). Agrees capacity (noted (heard octets now a) l) new) (sym answered)
-      (subst (Agrees capacity (noted (heard octets now (Ok (Restarted (record { taken = taken; held = run.count + 1; abandoned = kept_in old.core.span })))) l)) (sym is)
+      (subst (Agrees capacity (noted (heard octets now (Ok (Restarted (record { taken = taken; held = run.count + 1; abandoned = kept_in old.core.span; skipped = skipped_at (highest_of old.core.span) mid.span.cursor taken.overrun })))) l)) (sym is)
       (record { core = reached; held = tt; core_room = room; spare_room = agrees.core_room }))
 
   -- what a refusal leaves of what is held back

@@ -2,6 +2,7 @@ pub mod Adding
 pub mod Tallied
 pub mod SendTallied
 pub mod Believed
+pub mod Accounts
 mod Silences
 mod WaitedFor
 mod SeenTold

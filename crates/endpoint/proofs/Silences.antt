@@ -17,7 +17,7 @@ use Rattle.endpoint.specs.declared.heard.Heard.{Heard}
 use Rattle.endpoint.specs.declared.heard.Heard.TheVariants.{Control, Media, Repair, HeldBack, Restarted}
 use Rattle.endpoint.specs.Demultiplex.{is_control}
 use Rattle.endpoint.specs.Probation.{goes_on, wanted_of_run, wanted_now, is_silent}
-use Rattle.endpoint.specs.Receiving.{Ends, AfterHeld, HoldsBack, HearsWanted, HearsUnless, HearsKind, follows, run_before, run_after, run_refused, wants_more, as_heard, held_answer, held_ends, none_held, kept_in}
+use Rattle.endpoint.specs.Receiving.{Ends, AfterHeld, HoldsBack, HearsWanted, HearsUnless, HearsKind, follows, run_before, run_after, run_refused, wants_more, as_heard, held_answer, held_ends, none_held, kept_in, skipped_at}
 use Rattle.endpoint.specs.Events.{Event, Endpoint, RunsOver, heard, played, asked, begun_at, restarted_by_call, timed}
 use Rattle.endpoint.specs.Silence.{last_taken, IsFounded}
 
@@ -67,7 +67,7 @@ module _ (p : Probation) (span : ℕ) (by_stream : p.silence ≡ Some span) (bef
   -- a packet that is held back, or with which the stream restarts
   counted : (more : Bool) (old : Ends) (run : Run) (seq : ℕ) (taken : Taken) (mid : Receiving) (answer : Result Heard ReceiveFault) (new : Ends)
       → run.last ≡ last_taken before → run.wanted ≡ p.behind → wants_more p run now ≡ more
-      → answer ≡ Ok (held_answer more taken (run.count + 1) (kept_in old.core.span)) → new ≡ held_ends more old mid run seq now → Goes answer new.run
+      → answer ≡ Ok (held_answer more taken (run.count + 1) (kept_in old.core.span) (skipped_at (highest_of old.core.span) mid.span.cursor taken.overrun)) → new ≡ held_ends more old mid run seq now → Goes answer new.run
   counted true old run seq taken mid answer new last wanted so answered is =
       goes_as answer (Ok (HeldBack (run.count + 1))) new.run (record { count = run.count + 1; wanted = run.wanted; next = (held_ends true old mid run seq now).run.next; last = run.last }) answered (ap (λ (e : Ends). e.run) is) (record {
         founded = subst (λ n. (run.count + 1 < p.behind) × (n + span ≤ now → run.count + 1 < p.ahead)) last
@@ -75,7 +75,7 @@ module _ (p : Probation) (span : ℕ) (by_stream : p.silence ≡ Some span) (bef
         knows = record { last = last; wanted = inr wanted };
       })
   counted false old run seq taken mid answer new last wanted so answered is =
-      goes_as answer (Ok (Restarted (record { taken = taken; held = run.count + 1; abandoned = kept_in old.core.span }))) new.run (none_held now) answered (ap (λ (e : Ends). e.run) is) (record {
+      goes_as answer (Ok (Restarted (record { taken = taken; held = run.count + 1; abandoned = kept_in old.core.span; skipped = skipped_at (highest_of old.core.span) mid.span.cursor taken.overrun }))) new.run (none_held now) answered (ap (λ (e : Ends). e.run) is) (record {
         founded = subst (λ n. (p.behind ≤ run.count + 1) ⊎ ((n + span ≤ now) × (p.ahead ≤ run.count + 1))) last
             (enough (run.count + 1) run.last p.ahead p.behind (sym (ap (nat_lt (run.count + 1)) (wanted_is run.wanted run.last wanted)) ∙ so));
         knows = record { last = refl; wanted = inl refl };

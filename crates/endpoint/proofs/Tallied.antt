@@ -21,7 +21,7 @@ use Rattle.endpoint.specs.declared.receive_counts.ReceiveCounts.{ReceiveCounts}
 use Rattle.endpoint.specs.Counts.{count_in_64, more}
 use Rattle.endpoint.specs.ReceiveCounts.{count_heard, count_played, count_ask, NamesMany, CountsAsk}
 use Rattle.endpoint.specs.Events.{Event, Endpoint, Steps, RunsOver, heard, played, asked, begun_at, restarted_by_call, timed}
-use Rattle.endpoint.specs.Tally.{tally, media_in, repairs_in, held_in, restarts_in, control_in, refused_as, refused_else, overrun_in, abandoned_in, played_in, gaps_in, asks_in, places_in}
+use Rattle.endpoint.specs.Tally.{tally, media_in, repairs_in, held_in, restarts_in, control_in, refused_as, refused_else, overrun_in, abandoned_in, skipped_in, played_in, gaps_in, asks_in, places_in}
 use Rattle.endpoint.proofs.Adding.{pair, adds}
 
 module _ (octets : List ℕ) (now : ℕ) (before : List Event) where
@@ -56,9 +56,10 @@ module _ (octets : List ℕ) (now : ℕ) (before : List Event) where
       (pair (adds repairs_in (heard octets now (Ok (Repair taken))) before) (adds overrun_in (heard octets now (Ok (Repair taken))) before))
   heard_so (Ok (HeldBack held)) = ap (λ (n : ℕ). record (tally before) { held_back = n }) (adds held_in (heard octets now (Ok (HeldBack held))) before)
   heard_so (Ok (Restarted restart)) =
-      ap (λ (x : ℕ × (ℕ × ℕ)). record (tally before) { restarts = x.0; overrun = x.1.0; abandoned = x.1.1 })
+      ap (λ (x : ℕ × (ℕ × (ℕ × ℕ))). record (tally before) { restarts = x.0; overrun = x.1.0; abandoned = x.1.1.0; skipped = x.1.1.1 })
       (pair (adds restarts_in (heard octets now (Ok (Restarted restart))) before)
-      (pair (adds overrun_in (heard octets now (Ok (Restarted restart))) before) (adds abandoned_in (heard octets now (Ok (Restarted restart))) before)))
+      (pair (adds overrun_in (heard octets now (Ok (Restarted restart))) before)
+      (pair (adds abandoned_in (heard octets now (Ok (Restarted restart))) before) (adds skipped_in (heard octets now (Ok (Restarted restart))) before))))
   heard_so (Err fault) = refused_so fault
 
 module _ (now : ℕ) (before : List Event) where

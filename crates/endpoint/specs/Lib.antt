@@ -5,6 +5,7 @@ pub mod Demultiplex
 pub mod Events
 pub mod Kinds
 pub mod Measuring
+pub mod OneStream
 pub mod Ledger
 pub mod Seen
 pub mod SeenRuns

@@ -1,6 +1,6 @@
 -- A receiving endpoint: what it does with a datagram, over a receiver that it hands what it believes and another one that is
 -- handed what is held back.
-use Rattle.std.specs.Prelude.{◌≡◌, ℕ, zero, suc, ◌+◌, ◌%◌, ◌==◌, ◌&&◌, Bool, true, false, nat_lt, List, length, Option, Some, None, Result, Ok, Err, OnErr, if◌then◌else◌}
+use Rattle.std.specs.Prelude.{◌≡◌, ℕ, zero, suc, ◌+◌, ◌-◌, ◌%◌, ◌==◌, ◌&&◌, Bool, true, false, nat_lt, List, length, Option, Some, None, Result, Ok, Err, OnErr, if◌then◌else◌}
 use Rattle.rtpwire.specs.Rtp.{RtpPacket, RtpSpells}
 use Rattle.rtpwire.specs.Session.{Streams}
 use Rattle.stores.specs.Span.{Span, highest_of, empty_span}
@@ -17,7 +17,7 @@ use Rattle.endpoint.specs.declared.probation.Probation.{Probation}
 use Rattle.endpoint.specs.declared.holding.Run.{Run}
 use Rattle.endpoint.specs.declared.heard.Heard.{Heard}
 use Rattle.endpoint.specs.declared.heard.Heard.TheVariants as heard
-use Rattle.endpoint.specs.Probation.{wanted_for, goes_on, wanted_of_run, wanted_now}
+use Rattle.endpoint.specs.Probation.{ahead, wanted_for, goes_on, wanted_of_run, wanted_now}
 use Rattle.endpoint.specs.Asked.{asked_at}
 use Rattle.endpoint.specs.Demultiplex.{is_control}
 use Rattle.endpoint.specs.Padding.{IsStripped}
@@ -92,6 +92,18 @@ kept_at (Some k) s = length s.slots
 abbrev pub kept_in : Span → ℕ
 kept_in s = kept_at s.cursor s
 
+-- How many numbers lie between one and another that lies so far ahead of it, modulo 65536. From half a cycle on it lies behind, and
+-- nothing lies between.
+abbrev pub skipped_by : (distance : ℕ) → Option ℕ
+skipped_by distance = if nat_lt 0 distance && nat_lt distance 32768 then Some (distance - 1) else None
+
+-- How many packets a jump passed over (RFC 3550, appendix A.3, counts them as lost): from the highest place before it to the first one
+-- that the window behind it kept before its last packet, which dropped so many.
+abbrev pub skipped_at : (highest cursor : Option ℕ) → (overrun : ℕ) → Option ℕ
+skipped_at None cursor overrun = None
+skipped_at (Some h) None overrun = None
+skipped_at (Some h) (Some k) overrun = skipped_by (ahead h ((k - overrun) % 65536))
+
 -- a receiver that took nothing
 abbrev pub fresh : Config → (capacity : ℕ) → Receiving
 fresh config capacity = record { config = config; span = empty_span capacity; learnt = None }
@@ -99,9 +111,9 @@ fresh config capacity = record { config = config; span = empty_span capacity; le
 -- What becomes of a packet that the spare receiver was handed. Refused, it ends what was held back. Taken, it is held back with
 -- the others, or it is the last that was wanted: then the spare receiver, which has all of them, takes the place of the other.
 -- (The tests stand as functions of what they decide.)
-abbrev pub held_answer : Bool → Taken → (held abandoned : ℕ) → Heard
-held_answer more taken held abandoned =
-    if more then heard.HeldBack held else heard.Restarted (record { taken = taken; held = held; abandoned = abandoned })
+abbrev pub held_answer : Bool → Taken → (held abandoned : ℕ) → (skipped : Option ℕ) → Heard
+held_answer more taken held abandoned skipped =
+    if more then heard.HeldBack held else heard.Restarted (record { taken = taken; held = held; abandoned = abandoned; skipped = skipped })
 
 abbrev pub held_ends : Bool → Ends → (mid : Receiving) → Run → (seq now : ℕ) → Ends
 held_ends more old mid run seq now =
@@ -121,7 +133,7 @@ run_refused (Some span) run = run
 abbrev pub AfterHeld : Probation → Ends → (mid : Receiving) → Run → (seq now : ℕ) → Result Taken ReceiveFault → Result Heard ReceiveFault → Ends → Type 0
 AfterHeld p old mid run seq now (Err fault) answer new = (answer ≡ Err fault) × (new ≡ record { core = old.core; spare = mid; run = run_refused p.silence run })
 AfterHeld p old mid run seq now (Ok taken) answer new =
-    (answer ≡ Ok (held_answer (wants_more p run now) taken (run.count + 1) (kept_in old.core.span))) × (new ≡ held_ends (wants_more p run now) old mid run seq now)
+    (answer ≡ Ok (held_answer (wants_more p run now) taken (run.count + 1) (kept_in old.core.span) (skipped_at (highest_of old.core.span) mid.span.cursor taken.overrun))) × (new ≡ held_ends (wants_more p run now) old mid run seq now)
 
 -- a packet that is not believed
 pub record HoldsBack (p : Probation) (old : Ends) (wanted seq : ℕ) (octets : List ℕ) (now : ℕ) (answer : Result Heard ReceiveFault) (new : Ends) : Type 0 where

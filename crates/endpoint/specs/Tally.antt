@@ -2,6 +2,7 @@
 -- counts, or the sum of what they say. A refusal is told by its number.
 use Rattle.std.specs.Prelude.{ℕ, ◌==◌, ◌||◌, Bool, List, Some, Ok, Err, if◌then◌else◌}
 use Rattle.std.specs.List.{sum_by}
+use Rattle.std.specs.Option.{unwrap_or}
 use Rattle.receiver.specs.declared.answer.Played.TheVariants.{Packet, Gap}
 use Rattle.receiver.specs.Fault.{receive_number}
 use Rattle.endpoint.specs.declared.heard.Heard.TheVariants.{Control, Media, Repair, HeldBack, Restarted}
@@ -54,6 +55,10 @@ abbrev pub abandoned_in : Event → ℕ
 abandoned_in (heard octets now (Ok (Restarted restart))) = restart.abandoned
 abandoned_in event = 0
 
+abbrev pub skipped_in : Event → ℕ
+skipped_in (heard octets now (Ok (Restarted restart))) = unwrap_or restart.skipped 0
+skipped_in event = 0
+
 abbrev pub played_in : Event → ℕ
 played_in (played now (Packet place content)) = 1
 played_in event = 0
@@ -84,6 +89,7 @@ tally events =
       refused = count_in_64 (sum_by refused_else events);
       overrun = count_in_64 (sum_by overrun_in events);
       abandoned = count_in_64 (sum_by abandoned_in events);
+      skipped = count_in_64 (sum_by skipped_in events);
       played = count_in_64 (sum_by played_in events);
       gaps = count_in_64 (sum_by gaps_in events);
       asks = count_in_64 (sum_by asks_in events);

@@ -25,4 +25,7 @@ pub struct Restart {
     pub held: u32,
     /// How many places of the stream before were left that were neither played nor given up. They are gone.
     pub abandoned: u64,
+    /// How many sequence numbers of the stream lie between the highest place before and the first one that is kept now: the packets that
+    /// the jump passed over. None: that one lies half a cycle or more ahead, which is behind, and the numbers are others.
+    pub skipped: Option<u64>,
 }

@@ -1,7 +1,8 @@
 //! Hearing a packet: one that is believed goes to the receiver, and one that is not is held back.
 ghost use Rattle.std.specs.Prelude.{◌≡◌, Ok};
 ghost use Rattle.receiver.specs.Receiver.{Receiving};
-ghost use Rattle.endpoint.specs.Receiving.{ends_of, Handed, AfterHeld, Believes, HearsWanted, HoldsBack, follows, is_awaited, kept_in, none_held, run_refused, wanted_at};
+ghost use Rattle.stores.specs.Span.{highest_of};
+ghost use Rattle.endpoint.specs.Receiving.{ends_of, Handed, AfterHeld, Believes, HearsWanted, HoldsBack, follows, is_awaited, kept_in, none_held, run_refused, skipped_at, skipped_by, wanted_at};
 
 use crate::asked_places::asked_at;
 use crate::heard::{Heard, Restart};
@@ -10,6 +11,9 @@ use places::Place;
 use receiver::{ReceiveFault, Receiver, Taken};
 use std::mem;
 use stores::{SlotRef, Window};
+
+/// A number that lies so far ahead of another one, or farther, lies behind it.
+const HALF_CYCLE: u16 = 32768;
 
 /// Packets that are held back: how many, how many are wanted, and which number is the next in sequence; and the moment at which
 /// a media packet was last taken.
@@ -196,13 +200,36 @@ fn count_held<W: Window>(
         return Heard::HeldBack(held);
     }
     let abandoned = kept_in(core);
+    let skipped = skipped_over(core, spare, taken.overrun);
     mem::swap(core, spare);
     *run = Run::none_held(now);
     Heard::Restarted(Restart {
         taken,
         held,
         abandoned,
+        skipped,
     })
+}
+
+/// How many numbers lie between the highest place of one receiver and the first one that another kept before its last packet, which
+/// dropped so many.
+fn skipped_over<W: Window>(before: &Receiver<W>, after: &Receiver<W>, overrun: u64) -> Option<u64>
+    ensures { result ≡ skipped_at (highest_of before.now.span) after.now.span.cursor overrun }
+{
+    let highest = before.window().highest()?;
+    let first = after.window().cursor()?.saturating_sub(overrun);
+    skipped_by(((first % 65536) as u16).wrapping_sub(highest.number()))
+}
+
+/// How many numbers lie between one and another that lies so far ahead of it, modulo 65536.
+fn skipped_by(distance: u16) -> Option<u64>
+    ensures { result ≡ skipped_by distance }
+{
+    if 0 < distance && distance < HALF_CYCLE {
+        Some(u64::from(distance) - 1)
+    } else {
+        None
+    }
 }
 
 /// How many places a receiver keeps, held or missing: from the next one to play up to the highest one.

@@ -1,5 +1,5 @@
 //! Laws on what an endpoint is over all its calls. These functions compute nothing: their contracts are the laws.
-ghost use Rattle.std.specs.Prelude.{◌≡◌, ◌∷◌, ◌⊎◌, ◌%◌, ◌<◌, ℕ, true, List, length, Option, Some, Result, Err};
+ghost use Rattle.std.specs.Prelude.{◌≡◌, ◌∷◌, ◌⊎◌, ◌+◌, ◌%◌, ◌<◌, ℕ, true, List, length, Option, Some, Result, Err};
 ghost use Rattle.std.specs.List.{sum_by};
 ghost use Rattle.receiver.specs.Config.{Config};
 ghost use Rattle.endpoint.specs.declared.probation.Probation.{Probation};
@@ -7,7 +7,8 @@ ghost use Rattle.endpoint.specs.Counts.{IsInFull};
 ghost use Rattle.receiver.specs.declared.fault.ReceiveFault.{ReceiveFault};
 ghost use Rattle.endpoint.specs.declared.heard.Heard.{Heard};
 ghost use Rattle.endpoint.specs.Events.{Event, Endpoint, RunsOver, heard};
-ghost use Rattle.endpoint.specs.Receiving.{Believes, Ends, HearsPacket, media_number_of};
+ghost use Rattle.endpoint.specs.OneStream.{IsOneStream, passed_in, start_of};
+ghost use Rattle.endpoint.specs.Receiving.{Believes, Ends, HearsPacket, kept_in, media_number_of};
 ghost use Rattle.endpoint.specs.declared.seen_packets.SeenPacket.{SeenPacket};
 ghost use Rattle.endpoint.specs.Seen.{was_seen, with_packet};
 ghost use Rattle.endpoint.specs.SeenRuns.{seen_of};
@@ -19,7 +20,7 @@ ghost use Rattle.stores.specs.declared.slot.PutFault.TheVariants.{Late};
 ghost use Rattle.receiver.specs.declared.fault.ReceiveFault.TheVariants as refused;
 ghost use Rattle.stores.specs.ByPlace.{slot_at};
 ghost use Rattle.stores.specs.Span.{highest_of};
-ghost use Rattle.endpoint.specs.Tally.{tally, media_in, repairs_in, held_in, restarts_in, control_in, refused_as, refused_else, overrun_in, abandoned_in, played_in, gaps_in, asks_in, places_in};
+ghost use Rattle.endpoint.specs.Tally.{tally, media_in, repairs_in, held_in, restarts_in, control_in, refused_as, refused_else, overrun_in, abandoned_in, skipped_in, played_in, gaps_in, asks_in, places_in};
 ghost use Rattle.endpoint.specs.Ledger.{Reached, ledger};
 ghost use Rattle.endpoint.specs.declared.send_counts.SendCounts.{SendCounts};
 ghost use Rattle.endpoint.specs.SendTally as sending;
@@ -43,8 +44,8 @@ pub fn counts_are_in_full()
         × IsInFull t.control (sum_by control_in events) × IsInFull t.duplicate (sum_by (refused_as 36) events)
         × IsInFull t.late (sum_by (refused_as 35) events) × IsInFull t.far (sum_by (refused_as 34) events)
         × IsInFull t.refused (sum_by refused_else events) × IsInFull t.overrun (sum_by overrun_in events)
-        × IsInFull t.abandoned (sum_by abandoned_in events) × IsInFull t.played (sum_by played_in events)
-        × IsInFull t.gaps (sum_by gaps_in events) × IsInFull t.asks (sum_by asks_in events)
+        × IsInFull t.abandoned (sum_by abandoned_in events) × IsInFull t.skipped (sum_by skipped_in events)
+        × IsInFull t.played (sum_by played_in events) × IsInFull t.gaps (sum_by gaps_in events) × IsInFull t.asks (sum_by asks_in events)
         × IsInFull t.places_asked (sum_by places_in events) }
     ensures sending { (events : List sending.Event) → let t = sending.tally events in
         IsInFull t.sent (sum_by sending.sent_in events) × IsInFull t.octets (sum_by sending.octets_in events)
@@ -53,6 +54,16 @@ pub fn counts_are_in_full()
         × IsInFull t.unknown (sum_by sending.unknown_in events) × IsInFull t.exhausted (sum_by sending.exhausted_in events)
         × IsInFull t.media (sum_by sending.media_in events) × IsInFull t.reports (sum_by sending.reports_in events)
         × IsInFull t.refused (sum_by sending.refused_in events) }
+{}
+
+/// Every packet of a stream is in a count.
+pub fn every_number_is_counted()
+    // Whatever was called, as long as the stream goes on, over jumps too: each number from the first one to the highest is of a packet
+    // that was played, given up, dropped to make room, left behind by a restart or passed over by its jump; or it is kept. So what a
+    // network loses for good is in the counts of gaps, overrun, abandoned and skipped.
+    ensures { (c : Config) (capacity : ℕ) (p : Probation) (events : List Event) (e : Endpoint) → RunsOver c capacity p events e → IsOneStream events
+        → (first highest : ℕ) → start_of events ≡ Some first → highest_of e.ends.core.span ≡ Some highest
+        → (highest + 1) % 65536 ≡ (first + sum_by passed_in events + kept_in e.ends.core.span) % 65536 }
 {}
 
 /// What an endpoint believes is all that its receiver knows.

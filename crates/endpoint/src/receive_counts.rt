@@ -37,6 +37,8 @@ pub struct ReceiveCounts {
     pub overrun: u64,
     /// Places that a restart left behind, neither played nor given up.
     pub abandoned: u64,
+    /// Packets that restarts of the stream passed over: they lie between what was heard before a jump ahead and what was behind it.
+    pub skipped: u64,
     /// Places that were played.
     pub played: u64,
     /// Places that were given up.
@@ -61,6 +63,7 @@ impl ReceiveCounts {
         refused: 0,
         overrun: 0,
         abandoned: 0,
+        skipped: 0,
         played: 0,
         gaps: 0,
         asks: 0,
@@ -96,6 +99,7 @@ impl ReceiveCounts {
                 add(&mut self.restarts, 1);
                 add(&mut self.overrun, restart.taken.overrun);
                 add(&mut self.abandoned, restart.abandoned);
+                add(&mut self.skipped, restart.skipped.unwrap_or(0));
             }
         }
     }

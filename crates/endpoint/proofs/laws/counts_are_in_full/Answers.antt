@@ -6,7 +6,7 @@ in_full : (n : ℕ) → IsInFull (count_in_64 n) n
 in_full n = record { below = λ l. omega arith; above = λ l. omega arith }
 
 pub returns-clause-receiving : goal.returns-clause-receiving
-returns-clause-receiving c = λ events. (in_full _, in_full _, in_full _, in_full _, in_full _, in_full _, in_full _, in_full _, in_full _, in_full _, in_full _, in_full _, in_full _, in_full _, in_full _)
+returns-clause-receiving c = λ events. (in_full _, in_full _, in_full _, in_full _, in_full _, in_full _, in_full _, in_full _, in_full _, in_full _, in_full _, in_full _, in_full _, in_full _, in_full _, in_full _)
 
 pub returns-clause-sending : goal.returns-clause-sending
 returns-clause-sending c = λ events. (in_full _, in_full _, in_full _, in_full _, in_full _, in_full _, in_full _, in_full _, in_full _, in_full _, in_full _)
