@@ -120,6 +120,7 @@ fn what_is_given_up_refused_and_held_back(rt: HostRuntime) -> Result<(), Fail> {
             refused: 2,
             overrun: 102,
             abandoned: 1,
+            skipped: 29984,
             played: 4,
             gaps: 1,
             asks: 2,

@@ -14,6 +14,8 @@ mod endpoints;
 #[cfg(test)]
 mod ends;
 #[cfg(test)]
+mod jumps;
+#[cfg(test)]
 mod measured;
 #[cfg(test)]
 mod no_delay;

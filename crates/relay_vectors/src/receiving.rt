@@ -163,9 +163,9 @@ fn numbers_go_on_where_a_stream_restarts(rt: HostRuntime) -> Result<(), Fail> {
     const COMES: &[Passing] = &[
         (1, Far, FAR, Media(10, 1)),
         (2, Far, FAR, Media(11, 2)),
-        (3, Far, FAR, Media(30000, 3)),
-        (201, Far, FAR, Media(30001, 4)),
-        (202, Far, FAR, Media(30002, 5)),
+        (3, Far, FAR, Media(50000, 3)),
+        (201, Far, FAR, Media(50001, 4)),
+        (202, Far, FAR, Media(50002, 5)),
     ];
     const LEAVES: &[(usize, Passing)] = &[
         (2, (202, Near, PLAYER, Media(12, 3))),
@@ -173,6 +173,28 @@ fn numbers_go_on_where_a_stream_restarts(rt: HostRuntime) -> Result<(), Fail> {
     ];
     let done = done(rt.alloc(), 4, COMES, LEAVES)?;
     assert!(rt; done.has_left);
+    Ok(())
+}
+
+/// A stream that restarted behind, and whose 50002 left as 14, goes on at 60000: 9997 packets are lost, and 15 to 10011 are a hole.
+#[test]
+fn a_jump_ahead_is_a_hole(rt: HostRuntime) -> Result<(), Fail> {
+    const COMES: &[Passing] = &[
+        (1, Far, FAR, Media(10, 1)),
+        (2, Far, FAR, Media(11, 2)),
+        (3, Far, FAR, Media(50000, 3)),
+        (201, Far, FAR, Media(50001, 4)),
+        (202, Far, FAR, Media(50002, 5)),
+        (203, Far, FAR, Media(60000, 6)),
+        (402, Far, FAR, Media(60001, 7)),
+    ];
+    const LEAVES: &[(usize, Passing)] = &[
+        (4, (202, Near, PLAYER, Media(14, 5))),
+        (5, (402, Near, PLAYER, Media(10012, 6))),
+        (6, (402, Near, PLAYER, Media(10013, 7))),
+    ];
+    let done = done(rt.alloc(), 7, COMES, LEAVES)?;
+    assert!(rt; done.has_left && done.gone == 7 && done.gaps == 0);
     Ok(())
 }
 

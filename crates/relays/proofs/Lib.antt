@@ -5,3 +5,4 @@ pub mod Reading
 pub mod Taking
 pub mod Waking
 pub mod Marked
+pub mod Holes

@@ -1,5 +1,5 @@
 -- Which SSRC and which sequence numbers a player sees: one SSRC, and the places' own numbers, shifted so that they go on where a
--- stream restarts.
+-- stream restarts with others.
 use Rattle.std.specs.Prelude.{ℕ, Bool, true, false, ◌+◌, ◌-◌, ◌%◌, Option, Some, None}
 use Rattle.places.specs.Place.{number}
 use Rattle.relays.specs.declared.numbering.Numbering.{Numbering}
@@ -23,6 +23,6 @@ numbered_after n place =
       is_anew = false;
     }
 
--- after a restart the next packet goes on from the last one
+-- after a restart with other numbers the next packet goes on from the last one
 abbrev pub anew : Numbering → Numbering
 anew n = record n { is_anew = true }

@@ -106,9 +106,14 @@ new_receive_side config capacity far player numbering hold bounds =
 abbrev pub is_done : ReceiveSide → (now : ℕ) → Bool
 is_done s now = is_over s.bounds (more s.counts.played s.counts.gaps) s.last now
 
--- where a stream restarts, the numbers of what is played go on
+-- Where a stream restarts behind, with other numbers, those of what is played go on. Ahead they keep their distance, and what the jump
+-- passed over is a hole, as is what the restart left behind.
+abbrev pub numbering_over : (skipped : Option ℕ) → Numbering → Numbering
+numbering_over None n = anew n
+numbering_over (Some many) n = n
+
 abbrev pub numbering_after : Result Heard ReceiveFault → Numbering → Numbering
-numbering_after (Ok (heard.Restarted r)) n = anew n
+numbering_after (Ok (heard.Restarted r)) n = numbering_over r.skipped n
 numbering_after answer n = n
 
 -- The octets are a media packet of the session with one of the next numbers, or they are not.

@@ -5,7 +5,8 @@ ghost use Rattle.relays.specs.Numbering.{numbered, numbered_after, anew};
 use places::Place;
 
 /// The SSRC and the sequence numbers of what is played. The numbers are the places' own, shifted so that they go on where a stream
-/// restarts. So what a player sees has one SSRC, and holes only where places were given up or overrun.
+/// restarts with others. So what a player sees has one SSRC, and holes only where packets are not played: where places were given up or
+/// overrun, and where a jump of the stream passed over them.
 #[derive(Clone, Copy, Debug, PartialEq, Eq)]
 pub struct Numbering {
     ssrc: u32,
@@ -30,7 +31,7 @@ impl Numbering {
         }
     }
 
-    /// Has the next packet go on from the last one, wherever its place is: the stream has restarted.
+    /// Has the next packet go on from the last one, wherever its place is: the stream has restarted with other numbers.
     pub fn restart(&mut self)
         ensures { self.new ≡ anew self.old }
     {

@@ -34,8 +34,8 @@ use timing::Playout;
 const MOST: usize = 256;
 
 /// It takes a session from a network, asks the far side for what is lost, and hands what is played to a player as RTP of one SSRC,
-/// whose sequence numbers have holes only where places were given up or overrun. How long it waits before it asks, and asks again,
-/// follows what it measures of the path. Each NACK leaves twice.
+/// whose sequence numbers have holes only where places were given up or overrun, or a jump of the stream passed over them. How long it
+/// waits before it asks, and asks again, follows what it measures of the path. Each NACK leaves twice.
 #[derive(Drop)]
 pub struct ReceiveRelay<W: Window> {
     endpoint: AskingEndpoint<W>,
@@ -377,12 +377,14 @@ impl<W: Window> ReceiveRelay<W> {
     }
 }
 
-/// Where a stream restarts, the numbers of what is played go on.
+/// Where a stream restarts with other numbers, those of what is played go on. What a jump ahead passed over is a hole.
 fn renumber(numbering: &mut Numbering, answer: &Result<Heard, ReceiveFault>)
     ensures { numbering.new ≡ numbering_after answer.now numbering.old }
 {
-    if let Ok(Heard::Restarted(_)) = answer {
-        numbering.restart();
+    if let Ok(Heard::Restarted(restart)) = answer {
+        if restart.skipped.is_none() {
+            numbering.restart();
+        }
     }
 }
 
