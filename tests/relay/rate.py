@@ -104,5 +104,40 @@ def media_first(checks, stage):
     sender.stop()
 
 
+@on_time(0.03)
+def answered(checks, stage, *words, again=0):
+    """A NACK that comes 300 milliseconds behind the packet after the lost one tells that an answer takes so long. Named again while it is on its
+    way the packet is not retransmitted, and once its time has passed it is; where a time is given for that, it is retransmitted then."""
+    name = f"answers on their way {words}"
+    far = End(stage)
+    sender = stage.send(far.at, "--packets", 2, *words)
+    app, at = App(stage, sender.at, ssrc=MEDIA, number=0), ("127.0.0.1", sender.source[1])
+
+    def repeated():
+        return sum(one.ssrc != MEDIA and original(one)[0] == 0 for one in far.packets())
+
+    for one in plain(2, 100):
+        app.send(one)
+    far.waits_for(2)
+    time.sleep(0.3)
+    far.send(nack(MEDIA, [0]), at)
+    checks.count(soon(lambda: repeated() == 1, 2), f"{name}: {repeated()} retransmissions at first")
+    time.sleep(0.1)
+    for _ in range(3):
+        far.send(nack(MEDIA, [0]), at)
+    time.sleep(0.1)
+    checks.same(repeated(), 1 + again, f"{name}: retransmissions before an answer can have come")
+    time.sleep(0.2)
+    far.send(nack(MEDIA, [0]), at)
+    checks.count(soon(lambda: repeated() == 2 + again, 2), f"{name}: {repeated()} retransmissions once it can have")
+    ends(checks, name, sender)
+    checks.same(sender.counts().get("early"), 3 - again, f"{name}: what was passed over")
+
+
+@on_time(0.03)
+def answered_by_rule(checks, stage):
+    answered(checks, stage, "--min-resend", "20", again=1)
+
+
 if __name__ == "__main__":
-    part(paced, at_once, shared, halved, media_first)
+    part(paced, at_once, shared, halved, media_first, answered, answered_by_rule)

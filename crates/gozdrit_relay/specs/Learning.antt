@@ -1,5 +1,5 @@
 -- Which session a relay learns, and the relay that it makes of it.
-use Rattle.std.specs.Prelude.{◌≡◌, ◌↔◌, ℕ, ◌+◌, ◌-◌, ◌/◌, ◌==◌, ◌&&◌, ◌||◌, Bool, true, false, not, max, min, List, length, Option, Some, None}
+use Rattle.std.specs.Prelude.{◌≡◌, ◌↔◌, ℕ, ◌+◌, ◌-◌, ◌/◌, ◌==◌, ◌&&◌, ◌||◌, Bool, true, false, not, max, min, List, length, Option, Some, None, if◌then◌else◌}
 use Rattle.std.specs.declared.net.socket_addr.SocketAddr.{SocketAddr}
 use Rattle.rtpwire.specs.Rtp.{RtpPacket, RtpSpells}
 use Rattle.rtpwire.specs.Session.{Streams}
@@ -9,6 +9,7 @@ use Rattle.sender.specs.Sender.{new_sending}
 use Rattle.receiver.specs.Config as receiving
 use Rattle.receiver.specs.Receiver.{begun, state_of}
 use Rattle.endpoint.specs.Demultiplex.{is_control}
+use Rattle.endpoint.specs.ResendMetering.{meter_following}
 use Rattle.timing.specs.declared.playout.Playout.{Playout}
 use Rattle.timing.specs.Capped.{capped}
 use Rattle.timing.specs.Playout.{new_playout}
@@ -62,9 +63,15 @@ abbrev pub sent_before : Option SendSide → (passed : ℕ) → ℕ
 sent_before None passed = passed
 sent_before (Some r) passed = capped (passed + r.counts.sent)
 
+-- a relay that follows the path, if it is to
+abbrev pub followed_if : (follows : Bool) → SendSide → SendSide
+followed_if follows s = record s { meter = if follows then meter_following else s.meter }
+
 -- The relay sends that stream under that session, to the far side: every reporter is heard, and a packet is retransmitted 255 times at most.
 pub record SendMakes (l : SendLearner) (b : Beginning) (before : Option SendSide) (relay : SendSide) (note : Note) (l' : SendLearner) : Type 0 where
-  pub is_relay : relay ≡ new_send_side (new_sending (sending.config_of b.session (given l.first b.number) l.rtx_first 255 true) (empty_past l.history)) l.rule relay.moments l.far (record { ssrc = b.ssrc; last = None }) (new_pace l.rate) (bounds_left l.bounds (sent_before before l.passed))
+  pub is_relay : relay ≡ followed_if l.follows
+      (new_send_side (new_sending (sending.config_of b.session (given l.first b.number) l.rtx_first 255 true) (empty_past l.history)) l.rule relay.moments l.far (record { ssrc = b.ssrc; last = None })
+      (new_pace l.rate) (bounds_left l.bounds (sent_before before l.passed)))
   pub moments : length relay.moments ≡ l.history
   pub told : note ≡ Began b.session (given l.first b.number) l.far
   pub learner : l' ≡ record l { passed = sent_before before l.passed }

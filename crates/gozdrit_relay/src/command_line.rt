@@ -44,6 +44,8 @@ pub enum Choice<'a> {
         options: Options<'a>,
         rate: Rate,
         rule: ResendRule,
+        /// Whether packets are retransmitted again no sooner than what is measured of the path says, nor than the rule does.
+        follows: bool,
         history: usize,
         rtx_first: u16,
     },
@@ -63,8 +65,8 @@ const LONGEST: u64 = 1_000_000_000;
 /// How much of the media's rate retransmissions have by default, in per cent.
 const SHARE: u64 = 200;
 
-/// How long after a retransmission feedback that names the packet again is passed over by default, in milliseconds: the other relay
-/// sends each NACK twice.
+/// How long after a retransmission feedback that names the packet again is passed over at least by default, in milliseconds: the other
+/// relay sends each NACK twice.
 const MIN_RESEND: u64 = 10;
 
 /// How many packets in a second are a stream by default: with less than 100 milliseconds between two of them.
@@ -106,13 +108,15 @@ fn chosen<'a>(matches: &ArgMatches<'a>) -> Result<Choice<'a>, Fault<'a>> {
 
 fn send<'a>(matches: &ArgMatches<'a>) -> Result<Choice<'a>, Fault<'a>> {
     let options = common(matches)?;
+    let min_resend = number(matches, "min-resend", 0, u64::MAX)?;
     Ok(Choice::Send {
         options,
         rate: rate(matches)?,
         rule: ResendRule {
-            min_resend: number(matches, "min-resend", 0, u64::MAX)?.unwrap_or(MIN_RESEND),
+            min_resend: min_resend.unwrap_or(MIN_RESEND),
             deadline: number(matches, "deadline", 0, u64::MAX)?,
         },
+        follows: min_resend.is_none(),
         history: number(matches, "history", 1, MOST_KEPT)?.unwrap_or(MOST_KEPT) as usize,
         rtx_first: sixteen(matches, "rtx-first")?.unwrap_or(0),
     })

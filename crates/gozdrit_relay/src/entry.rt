@@ -27,12 +27,13 @@ pub fn relay<'a>(rt: &HostRuntime, choice: &Choice<'a>) -> Result<(), Fault<'a>>
             options,
             rate,
             rule,
+            follows,
             history,
             rtx_first,
         } => {
             let peers = peers(rt, options.peers)?;
             let (to, near, far) = opened(rt, options)?;
-            let learner = sender(rt, options, *rate, *rule, *history, *rtx_first, to);
+            let learner = sender(rt, options, *rate, *rule, *follows, *history, *rtx_first, to);
             let store = Store::History(*history as u64);
             go::<SendRelay<RingHistory>, SendLearner>(rt, options, learner, peers, near, far, store)
         }
@@ -62,6 +63,7 @@ fn sender(
     options: &Options<'_>,
     rate: Rate,
     rule: ResendRule,
+    follows: bool,
     history: usize,
     rtx_first: u16,
     far: SocketAddr,
@@ -73,6 +75,7 @@ fn sender(
         rtx_first,
         rate,
         rule,
+        follows,
         history: within(history),
         far,
         bounds: bounds(options),

@@ -16,6 +16,8 @@ pub struct SendLearner {
     pub rtx_first: u16,
     pub rate: Rate,
     pub rule: ResendRule,
+    /// Whether its relays follow the path.
+    pub follows: bool,
     pub history: usize,
     pub far: SocketAddr,
     pub bounds: Bounds,

@@ -3,7 +3,7 @@ ghost use Rattle.std.specs.Prelude.{◌≡◌, ◌<◌, false, Some, IfSome};
 ghost use Rattle.relays.specs.declared.outside.Side.TheVariants.{Near, Far};
 ghost use Rattle.rtpwire.specs.Rtp.{RtpPacket, RtpSpells};
 ghost use Rattle.endpoint.specs.Demultiplex.{is_control};
-ghost use Rattle.gozdrit_relay.specs.Learning.{BeginsAs, IsBelieved, IsOfReceiver, ReceiveBegins, ReceiveBeginsOf, SendBegins, SendBeginsOf, bounds_left, config_for, first_retry, held_by, is_of_sender, numbering_for, played_before, sent_before};
+ghost use Rattle.gozdrit_relay.specs.Learning.{BeginsAs, IsBelieved, IsOfReceiver, ReceiveBegins, ReceiveBeginsOf, SendBegins, SendBeginsOf, bounds_left, config_for, first_retry, followed_if, held_by, is_of_sender, numbering_for, played_before, sent_before};
 
 use crate::learners::{ReceiveLearner, SendLearner};
 use crate::machine::{Beginning, Learner, Learnt};
@@ -108,6 +108,15 @@ impl SendLearner {
     }
 }
 
+/// Has a relay follow the path, if it is to.
+fn follow<H: History>(relay: &mut SendRelay<H>, follows: bool)
+    ensures { relay.new ≡ followed_if follows relay.old }
+{
+    if follows {
+        relay.follow();
+    }
+}
+
 impl<H: History> Learner<SendRelay<H>> for SendLearner {
     ghost use Rattle.relays.specs.declared.outside.Side.TheVariants.{Near};
     ghost use Rattle.gozdrit_relay.specs.Learning.{SendBegins, SendMakes};
@@ -145,7 +154,7 @@ impl<H: History> Learner<SendRelay<H>> for SendLearner {
         let first = self.first.unwrap_or(beginning.number);
         let config = SenderConfig::new(beginning.session, first, self.rtx_first, MOST).unwrap();
         let passed = sent_before(before, self.passed);
-        let relay = SendRelay::new(
+        let mut relay = SendRelay::new(
             self.alloc,
             config.with_any_reporter(),
             self.rule,
@@ -155,6 +164,7 @@ impl<H: History> Learner<SendRelay<H>> for SendLearner {
             Pace::new(self.rate),
             bounds_left(self.bounds, passed),
         )?;
+        follow(&mut relay, self.follows);
         self.passed = passed;
         Ok(Learnt {
             relay,

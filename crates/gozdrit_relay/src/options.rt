@@ -45,7 +45,7 @@ fn send<'a>(alloc: Global) -> Result<Command<'a>, AllocError> {
             alloc,
             "min-resend",
             "MS",
-            "How soon a packet is retransmitted again at most, in milliseconds; 10 by default",
+            "How soon a packet is retransmitted again, in milliseconds; by default not before its answer can have come, and 10 at least",
         ))?
         .arg(option(
             alloc,
