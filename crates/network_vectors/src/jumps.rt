@@ -61,10 +61,7 @@ fn what_a_jump_passes_over(rt: HostRuntime) -> Result<(), Fail> {
         (20000, 10000, 256, Some(None), 0),
     ];
     for (from, to, many, told, counted) in ROWS {
-        assert_eq!(rt;
-            jumped(rt.alloc(), *from, *to, *many)?,
-            (*told, *counted)
-        );
+        assert_eq!(rt; jumped(rt.alloc(), *from, *to, *many)?, (*told, *counted));
     }
     Ok(())
 }

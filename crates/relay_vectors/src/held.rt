@@ -143,8 +143,8 @@ fn an_odd_timestamp_moves_nothing(rt: HostRuntime) -> Result<(), Fail> {
 fn a_restart_begins_a_clock(rt: HostRuntime) -> Result<(), Fail> {
     const COMES: &[Passing] = &[
         (1000, Far, FAR, Stamped(10, 500000)),
-        (2000, Far, FAR, Stamped(30000, 100)),
-        (2010, Far, FAR, Stamped(30001, 110)),
+        (2000, Far, FAR, Stamped(50000, 100)),
+        (2010, Far, FAR, Stamped(50001, 110)),
     ];
     // Of the two that began it the second one is heard by the clock: the other one lies 10 milliseconds before it.
     const LEAVES: &[(u64, Packet)] = &[
