@@ -4,7 +4,7 @@ from rtp import packet, parse
 
 FORMS = {
     "send": {"sent": 4, "repair": 4, "lost": 2, "marked": 2, "tail": 2, "refused": 2, "unsent": 1, "passed": 1, "stray": 1, "session": 6},
-    "receive": {"taken": 3, "held": 1, "restarted": 2, "overrun": 2, "abandoned": 2, "refused": 2, "padding": 2, "unasked": 2, "play": 7, "gap": 2, "ask": 3, "lost": 2, "rtt": 2, "stray": 1,
+    "receive": {"taken": 3, "held": 1, "restarted": 2, "overrun": 2, "abandoned": 2, "skipped": 2, "refused": 2, "padding": 2, "unasked": 2, "play": 7, "gap": 2, "ask": 3, "lost": 2, "rtt": 2, "stray": 1,
                 "moved": 1, "session": 6},
 }
 
@@ -50,7 +50,7 @@ def sums(checks, name, relay):
                 "stray": many["stray"], "lost": many["lost"],
                 "marked": sum(int(one[1]) for one in lines if one[0] == "marked")}
     else:
-        behind = {word: sum(int(one[1]) for one in lines if one[0] == word) for word in ("overrun", "abandoned")}
+        behind = {word: sum(int(one[1]) for one in lines if one[0] == word) for word in ("overrun", "abandoned", "skipped")}
         overran = sum(int(one[2]) for one in lines if one[0] == "taken")
         checks.count(behind["overrun"] >= overran, f"{name}: {behind} in the log, where {overran} were overrun")
         told = {**behind, "played": many["play"], "gaps": many["gap"], "asked": many["ask"], "refused": many["refused"],

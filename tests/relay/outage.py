@@ -2,6 +2,7 @@
 """An outage that the window and the history bridge loses nothing; where they are too short, that is told and counted.
 
     outage.py PROGRAM"""
+import random
 import re
 import time
 
@@ -9,13 +10,13 @@ import ledger
 from base import ends, on_time, part, soon
 from net import App, End, Path, settled, udp
 from restarts import PAUSE, goes_on
-from rtp import nack, original, packet, parse, plain
+from rtp import index, nack, original, packet, parse, plain
 
 MANY, RATE = 3000, 2000
 OUT = range(500, 2700)  # what is lost when it is sent first: less than the 3000 that any window takes for a gap
 MEDIA = 0x1a2b3c4d
-WINDOW = re.compile(r"the window of (\d+) packets is too short for (\d+) packets a second and a latency of (\d+) ms: "
-                    r"give (--window|--window 8192 and --latency) (\d+) or (more|less)")
+WINDOW = re.compile(r"the window of (\d+) packets is too short for (\d+) packets a second and a latency of (\d+) ms"
+                    r"(?:, which want (\d+) where 8192 are the most)?: give (--window|--window 8192 and --latency) (\d+) or (more|less)")
 HISTORY = re.compile(r"the history of (\d+) packets is too short, and (\d+) asked for are gone: give .*--latency")
 
 
@@ -75,9 +76,35 @@ def left_behind(checks, stage):
     checks.count(player.waits_for(12), f"{name}: {len(player.came)} came")
     ends(checks, name, receiver)
     checks.same([one[1:] for one in receiver.logged("taken")][-1:], [[str(65536 + 100), "41"]], f"{name}: what is taken last")
-    checks.same(receiver.logged("overrun") + receiver.logged("abandoned"), [["overrun", "41"], ["abandoned", "50"]], f"{name}: the log")
-    counts = {one: receiver.counts().get(one) for one in ("taken", "played", "gaps", "overrun", "abandoned", "restarts")}
-    checks.same(counts, {"taken": 13, "played": 12, "gaps": 0, "overrun": 41, "abandoned": 50, "restarts": 1}, f"{name}: counts")
+    checks.same(receiver.logged("overrun") + receiver.logged("abandoned") + receiver.logged("skipped"),
+                [["overrun", "41"], ["abandoned", "50"], ["skipped", "29899"]], f"{name}: the log")
+    counts = {one: receiver.counts().get(one) for one in ("taken", "played", "gaps", "overrun", "abandoned", "skipped", "restarts")}
+    checks.same(counts, {"taken": 13, "played": 12, "gaps": 0, "overrun": 41, "abandoned": 50, "skipped": 29899, "restarts": 1}, f"{name}: counts")
+    checks.same([one.number for one in player.packets()], [*range(10), 30000, 30001], f"{name}: what is not played is a hole")
+    ledger.whole(checks, name, receiver)
+
+
+@on_time(0.1)
+def swallowed(checks, stage):
+    """More packets in a row are lost than any window bridges: each is counted, and they are a hole at the player."""
+    name, player, first, many, out = "an outage that swallows 12504", End(stage), 60000, 14004, range(1000, 13504)
+    receiver = stage.receive(player.at, "--packets", many - len(out))
+
+    def rule(way, octets):
+        one = parse(octets)
+        return () if way == "forth" and one.ssrc == MEDIA and (one.number - first & 65535) in out else (0,)
+    path = Path(stage, receiver.at, rule)
+    sender = stage.send(path.at, "--packets", many)
+    App(stage, sender.at, number=first, heed=(path.at[1], receiver.at[1], player.at[1])).stream(plain(many), 5000)
+    checks.count(player.waits_for(many - len(out)), f"{name}: {len(player.came)} came")
+    ends(checks, name, sender, receiver)
+    lost = {parse(octets).number for way, octets in path.passed if way == "forth" and parse(octets).ssrc == MEDIA and not rule(way, octets)}
+    checks.same(len(lost), len(out), f"{name}: packets that were lost")
+    wanted = [(first + i & 65535, i) for i in range(many) if i not in out]
+    checks.count([(one.number, index(one)) for one in player.packets()] == wanted, f"{name}: all but what was lost came, with its number")
+    counts = {one: receiver.counts().get(one) for one in ("played", "gaps", "overrun", "abandoned", "skipped", "restarts")}
+    checks.same(counts, {"played": many - len(out), "gaps": 0, "overrun": 0, "abandoned": 0, "skipped": len(out), "restarts": 1}, f"{name}: counts")
+    checks.same(receiver.logged("skipped"), [["skipped", str(len(out))]], f"{name}: the log")
     ledger.whole(checks, name, receiver)
 
 
@@ -108,12 +135,32 @@ def streams(checks, stage, latency, *words, seconds=3.6):
 
 @on_time(0.05)
 def too_fast(checks, stage):
-    """The rate is more than a window of fifty holds for a second: told once in each session, with the window that is wanted."""
+    """The rate is more than a window of fifty holds for a second: told in each session, with the window that is wanted."""
     first, both = streams(checks, stage, 1000, "--window", 50)
     checks.same((len(first), len(both)), (1, 2), f"a window that is too short is told: {both}")
-    for window, rate, latency, option, value, bound in both:
-        checks.same((window, latency, option, value, bound), ("50", "1000", "--window", rate, "more"), "what is told of the window")
-        checks.count(50 < int(rate) <= 110, f"the rate that is told: {rate}")
+    for window, rate, latency, wanted, option, value, bound in both:
+        checks.same((window, latency, wanted, option, value, bound), ("50", "1000", None, "--window", rate, "more"), "what is told of the window")
+        checks.count(95 <= int(rate) <= 110, f"the rate that is told: {rate}")
+
+
+@on_time(0.05)
+def faster(checks, stage):
+    """Half of a stream is lost at random, and then it is twice as fast: the window that is told is what its sender sends a second, and it
+    is told again once that has grown."""
+    player, far = End(stage), stage.keep(udp())
+    receiver = stage.receive(player.at, "--latency", 1000, "--window", 50)
+    draw, number, began = random.Random(7), 0, time.monotonic()
+    while number < 400 + 2400:
+        number += 1
+        due = began + min(number, 400) / 100 + max(0, number - 400) / 200
+        time.sleep(max(0, due - time.monotonic()))
+        if number <= 20 or draw.random() < 0.5:
+            far.sendto(packet(96, number, MEDIA, plain(1)[0]), receiver.at)
+    lines = told(receiver, WINDOW)
+    checks.same(len(lines), 2, f"a window that is too short is told, and again: {lines}")
+    rates = [int(one[1]) for one in lines]
+    checks.count(len(rates) == 2 and 90 <= rates[0] <= 110 and 190 <= rates[1] <= 210, f"the rates that are told: {rates}")
+    checks.same([one[5] for one in lines], [one[1] for one in lines], "the windows that are told")
 
 
 @on_time(0.05)
@@ -121,9 +168,9 @@ def too_long(checks, stage):
     """The latency is more than any window holds at this rate: the latency that it can have is told."""
     _, both = streams(checks, stage, 200000)
     checks.same(len(both), 2, f"a latency that is too long is told: {both}")
-    for window, rate, latency, option, value, bound in both:
-        came, longest = (window, latency, option, value, bound), str(8192000 // int(rate))
-        checks.same(came, ("8192", "200000", "--window 8192 and --latency", longest, "less"), "what is told of the latency")
+    for window, rate, latency, wanted, option, value, bound in both:
+        came, longest = (window, latency, wanted, option, value, bound), str(8192000 // int(rate))
+        checks.same(came, ("8192", "200000", str(200 * int(rate)), "--window 8192 and --latency", longest, "less"), "what is told of the latency")
 
 
 @on_time(0.05)
@@ -154,4 +201,4 @@ def gone(checks, stage):
 
 
 if __name__ == "__main__":
-    part(bridged, left_behind, overran, too_fast, too_long, enough, gone)
+    part(bridged, left_behind, swallowed, overran, too_fast, faster, too_long, enough, gone)

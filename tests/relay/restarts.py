@@ -12,10 +12,11 @@ from rtp import index, parse, plain
 PAUSE = 1.4  # longer than the second for which a stream has to be silent
 
 
-def goes_on(checks, name, came, ssrc, kind=96):
-    """One SSRC, one type, and numbers without holes."""
-    numbers = [one.number for one in came]
-    checks.count(numbers == [numbers[0] + i & 65535 for i in range(len(came))], f"{name}: the numbers have no holes: {numbers[:3]}")
+def goes_on(checks, name, came, ssrc, kind=96, hole=(0, 0)):
+    """One SSRC, one type, and numbers without holes, or with one of so many behind so many packets."""
+    numbers, (behind, many) = [one.number for one in came], hole
+    wanted = [numbers[0] + i + (many if i >= behind else 0) & 65535 for i in range(len(came))]
+    checks.count(numbers == wanted, f"{name}: the numbers have no other holes: {numbers[:3]}, {numbers[behind - 1:behind + 2]}")
     checks.same({(one.ssrc, one.kind) for one in came}, {(ssrc, kind)}, f"{name}: SSRCs and types at the player")
 
 
@@ -121,8 +122,14 @@ def running(checks, stage):
 
 
 def same_address(checks, stage):
-    """The sending relay is started anew at the same address with the same SSRC and other numbers: the stream restarts."""
-    name, player = "a sending relay at the same address", End(stage)
+    """The sending relay is started anew at the same address with the same SSRC and other numbers: the stream restarts. From numbers that
+    lie behind, the player's go on; ahead it looks like a loss of all between, which is a hole and counted."""
+    for first, skipped in ((60000, 0), (30000, 29300)):
+        restarted(checks, stage, first, skipped)
+
+
+def restarted(checks, stage, first, skipped):
+    name, player = f"a sending relay at the same address from {first} on", End(stage)
     receiver = stage.receive(player.at, "--packets", 400)
     sender = stage.send(receiver.at, "--from", "127.0.0.1:0")
     contents = plain(400)
@@ -130,12 +137,12 @@ def same_address(checks, stage):
     checks.count(player.waits_for(200), f"{name}: {len(player.came)} packets came before")
     sender.stop()
     again = stage.send(receiver.at, "--from", f"127.0.0.1:{sender.source[1]}", "--packets", 200)
-    App(stage, again.at, number=30000).stream(contents[200:], 1000)
+    App(stage, again.at, number=first).stream(contents[200:], 1000)
     checks.count(player.waits_for(400), f"{name}: {len(player.came)} packets came")
     ends(checks, name, again, receiver)
     checks.count([one.content for one in player.packets()] == contents, f"{name}: the contents")
-    goes_on(checks, name, player.packets(), 0x1a2b3c4d)
-    checks.same(receiver.counts().get("stray"), 0, f"{name}: strays")
+    goes_on(checks, name, player.packets(), 0x1a2b3c4d, hole=(200, skipped))
+    checks.same([receiver.counts().get(one) for one in ("stray", "restarts", "skipped")], [0, 1, skipped], f"{name}: counts")
 
 
 def receiving(checks, stage):

@@ -22,13 +22,14 @@ LINES = {
     "restarted": (PLACE,),
     "overrun": (COUNT,),
     "abandoned": (COUNT,),
+    "skipped": (COUNT,),
     "play": (PLACE, *CONTENT),
     "gap": (PLACE,),
     "ask": (INDEX, octets),
     "rtt": (COUNT,),
 }
 SENDS = ("sent", "repair", "marked", "tail", "unsent", "passed")
-RECEIVES = ("taken", "held", "moved", "restarted", "overrun", "abandoned", "play", "gap", "ask", "rtt")
+RECEIVES = ("taken", "held", "moved", "restarted", "overrun", "abandoned", "skipped", "play", "gap", "ask", "rtt")
 
 
 def is_one(log):
@@ -81,7 +82,7 @@ def tell(run, where, moment, word, line):
     elif word == "rtt":
         run.trips.append((moment, line[0]))
     elif word != "overrun":  # the line of what was taken tells these
-        run.tally(word, line[0] if word in ("marked", "tail", "abandoned") else 1)
+        run.tally(word, line[0] if word in ("marked", "tail", "abandoned", "skipped") else 1)
 
 
 def end_of_sender(run):

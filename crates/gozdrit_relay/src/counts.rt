@@ -27,6 +27,8 @@ pub struct Counts {
     pub overrun: u64,
     /// Places that a restart of the stream within a session left behind, neither played nor given up.
     pub abandoned: u64,
+    /// Packets that a jump of the stream within a session passed over.
+    pub skipped: u64,
     /// NACKs.
     pub asked: u64,
     /// Datagrams of the far side that were refused, but for the next two.
@@ -63,6 +65,7 @@ impl Counts {
         gaps: 0,
         overrun: 0,
         abandoned: 0,
+        skipped: 0,
         asked: 0,
         refused: 0,
         padding: 0,
@@ -122,6 +125,7 @@ impl Counts {
                 add(&mut self.restarts, 1);
                 add(&mut self.overrun, restart.taken.overrun);
                 add(&mut self.abandoned, restart.abandoned);
+                add(&mut self.skipped, restart.skipped.unwrap_or(0));
             }
             Ok(Heard::Control | Heard::HeldBack(_)) => {}
             Err(_) => self.refuse(kind),
@@ -188,7 +192,7 @@ impl Counts {
     }
 
     /// The words of a relay behind the network, with its restarts and the round-trip time as they are shown.
-    fn receiver_words<'x>(&self, restarts: u64, time: Word<'x>) -> [Word<'x>; 30] {
+    fn receiver_words<'x>(&self, restarts: u64, time: Word<'x>) -> [Word<'x>; 32] {
         [
             Word::Text(b"taken"),
             Word::Decimal(self.taken),
@@ -202,6 +206,8 @@ impl Counts {
             Word::Decimal(self.overrun),
             Word::Text(b"abandoned"),
             Word::Decimal(self.abandoned),
+            Word::Text(b"skipped"),
+            Word::Decimal(self.skipped),
             Word::Text(b"asked"),
             Word::Decimal(self.asked),
             Word::Text(b"refused"),

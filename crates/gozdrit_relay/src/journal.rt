@@ -106,13 +106,14 @@ impl Journal {
                 self.count(now, b"restarted", restart.taken.place.value());
                 self.leave_behind(now, b"overrun", restart.taken.overrun);
                 self.leave_behind(now, b"abandoned", restart.abandoned);
+                self.leave_behind(now, b"skipped", restart.skipped.unwrap_or(0));
             }
             Ok(Heard::Control) => {}
             Err(fault) => self.count(now, refused_as(kind), u64::from(fault.number())),
         }
     }
 
-    /// So many places were left behind by the packet of the line before, if any were.
+    /// So many places were left behind or passed over by the packet of the line before, if any were.
     fn leave_behind<'a>(&mut self, now: u64, how: &'a [u8], places: u64) {
         if places > 0 {
             self.count(now, how, places);
