@@ -112,6 +112,7 @@ static void test_sending(void) {
     ANSWERS(GOZDRIT_NULL, gozdrit_retransmit(&sender, &l.sent, NULL, sizeof l.out));
     ANSWERS(GOZDRIT_NULL, gozdrit_tail_loss_probe(NULL, &l.queued));
     ANSWERS(GOZDRIT_NULL, gozdrit_sender_set_time(NULL, 1));
+    ANSWERS(GOZDRIT_NULL, gozdrit_sender_set_adaptive(NULL, 1));
     ANSWERS(GOZDRIT_NULL, gozdrit_tail_loss_probe(&sender, NULL));
     ANSWERS(GOZDRIT_NULL, gozdrit_sender_counts(NULL, &l.sender_counts));
     ANSWERS(GOZDRIT_NULL, gozdrit_sender_counts(&sender, NULL));

@@ -88,6 +88,32 @@ static void test_no_rule(void) {
     ANSWERS(GOZDRIT_OK, gozdrit_sender_free(&sender));
 }
 
+/* The second packet was sent at 1008, and the NACK that shows it comes at 1048: an answer takes 40. Named 39 after its
+ * retransmission the first comes too soon, and 40 after it does not; by min_resend alone, which is 10, both don't. */
+static void test_waits_for_answers(uint8_t adaptive) {
+    gozdrit_sender_config config = CONFIG;
+    gozdrit_sender sender = {NULL, 0};
+    ANSWERS(GOZDRIT_EMPTY_HANDLE, gozdrit_sender_set_adaptive(&sender, 1));
+    config.min_resend = 10;
+    config.deadline = 0;
+    ANSWERS(GOZDRIT_OK, gozdrit_sender_new(&config, &sender));
+    ANSWERS(GOZDRIT_BAD_LIMIT, gozdrit_sender_set_adaptive(&sender, 2));
+    ANSWERS(GOZDRIT_OK, gozdrit_sender_set_adaptive(&sender, 1));
+    ANSWERS(GOZDRIT_OK, gozdrit_sender_set_adaptive(&sender, adaptive));
+    sends(&sender, 1005, 65736);
+    sends(&sender, 1008, 65737);
+    at(&sender, 1048);
+    names(&sender, 200, 0);
+    repeats(&sender, 1048, 65736);
+    at(&sender, 1087);
+    names(&sender, 200, 0);
+    repeats(&sender, 1087, adaptive ? 0 : 65736);
+    at(&sender, 1098);
+    names(&sender, 200, 0);
+    repeats(&sender, 1098, 65736);
+    ANSWERS(GOZDRIT_OK, gozdrit_sender_free(&sender));
+}
+
 void test_resend(void) {
     gozdrit_sender sender = {NULL, 0};
     ANSWERS(GOZDRIT_EMPTY_HANDLE, gozdrit_sender_set_time(&sender, 1));
@@ -96,4 +122,6 @@ void test_resend(void) {
     test_too_late(&sender);
     ANSWERS(GOZDRIT_OK, gozdrit_sender_free(&sender));
     test_no_rule();
+    test_waits_for_answers(0);
+    test_waits_for_answers(1);
 }

@@ -27,7 +27,7 @@ use Rattle.gozdrit.specs.Freeing.{AnswersFree}
 use Rattle.gozdrit.specs.Packets.{AnswersRead, AnswersWrite}
 use Rattle.gozdrit.specs.Reading.{AnswersMissing, AnswersSsrc, AnswersNext, AnswersHighest, AnswersTimeout, AnswersReceiverTimes, AnswersReceiverCounts, AnswersProbeCounts, AnswersSenderCounts}
 use Rattle.gozdrit.specs.Receiving.{AnswersReceiverNew, AnswersReceive, AnswersPlay, AnswersNack, AnswersBegin, AnswersRestart, AnswersTimes, AnswersFollow}
-use Rattle.gozdrit.specs.Sending.{AnswersSenderNew, AnswersSend, AnswersFeedback, AnswersRetransmit, AnswersMarkLast, AnswersTime}
+use Rattle.gozdrit.specs.Sending.{AnswersAdapt, AnswersSenderNew, AnswersSend, AnswersFeedback, AnswersRetransmit, AnswersMarkLast, AnswersTime}
 
 -- `gozdrit_sender_defaults`
 abbrev pub SenderDefaultsFor : (size : ℕ) → Option SenderFields → List ℕ → ℤ → Option SenderFields → List ℕ → Type 0
@@ -80,6 +80,12 @@ abbrev pub SenderTimeFor : (now : ℕ) → Option (Handle Sender) → ℤ → Op
 SenderTimeFor now =
     Answers1 null_pointer (λ sender code sender'.
     AnswersTime sender.inside now code sender'.inside)
+
+-- `gozdrit_sender_set_adaptive`
+abbrev pub AdaptFor : (adaptive : ℕ) → Option (Handle Sender) → ℤ → Option (Handle Sender) → Type 0
+AdaptFor adaptive =
+    Answers1 null_pointer (λ sender code sender'.
+    AnswersAdapt sender.inside adaptive code sender'.inside)
 
 -- `gozdrit_sender_counts`
 abbrev pub SenderCountsFor : Option (Handle Sender) → Option SenderCounts → ℤ → Option (Handle Sender) → Option SenderCounts → Type 0

@@ -2,6 +2,7 @@
 use Rattle.std.specs.Prelude.{◌≡◌, ◌≢◌, ◌⊎◌, ℕ, ◌<◌, ◌≤◌, ℤ, pos, List, length, Option, Some, None, IsSome, IsSomeAnd, Result, Ok, Err, IsOk}
 use Rattle.rtpwire.specs.declared.content.Content.{Content}
 use Rattle.rtpwire.specs.declared.fault.ConfigFault.{ConfigFault}
+use Rattle.rtpwire.specs.declared.fault.ConfigFault.TheVariants.{BadLimit}
 use Rattle.rtpwire.specs.declared.fault.TooShort.{TooShort}
 use Rattle.rtpwire.specs.declared.limits.TheConstants.{MAX_DATAGRAM}
 use Rattle.rtpwire.specs.Fault.{config_number}
@@ -18,10 +19,12 @@ use Rattle.endpoint.specs.declared.told.Told.{Told}
 use Rattle.endpoint.specs.Demultiplex.{is_control}
 use Rattle.endpoint.specs.Sending.{CountsSent, CountsRepaired, TellsKind}
 use Rattle.endpoint.specs.SendCounts.{count_told, no_counts}
+use Rattle.endpoint.specs.declared.resend_meter.ResendMeter.{ResendMeter}
 use Rattle.endpoint.specs.declared.resend_rule.ResendRule.{ResendRule}
 use Rattle.endpoint.specs.Moments.{told_sent, told_resent}
 use Rattle.endpoint.specs.Passing.{Retransmits}
 use Rattle.endpoint.specs.ResendCounts.{none_passed}
+use Rattle.endpoint.specs.ResendMetering.{HearsTime, meter_fixed, meter_following, meter_resent, meter_sent, rule_by}
 use Rattle.endpoint.specs.Resending.{always}
 use Rattle.gozdrit.specs.declared.answers.SentPacket.{SentPacket}
 use Rattle.gozdrit.specs.declared.config.SenderFields.{SenderFields}
@@ -35,11 +38,12 @@ use Rattle.gozdrit.specs.Ends.{Sender}
 use Rattle.gozdrit.specs.Heard.{outcome_fields}
 use Rattle.gozdrit.specs.Packet.{Fits, IsContent}
 
--- an endpoint that sent nothing, and was told no moment
+-- an endpoint that sent nothing, and was told no moment; nothing is measured, and its rule is the one that was configured
 abbrev pub IsNewSender : SenderFields → Sender → Type 0
 IsNewSender f made =
     (made.endpoint.endpoint.core ≡ new_sending (sender_config f) (empty_past f.history)) × (made.endpoint.endpoint.counts ≡ no_counts)
     × (made.endpoint.rule ≡ rule_of f) × (length made.endpoint.moments ≡ f.history) × (made.endpoint.passed ≡ none_passed) × (made.now ≡ 0)
+    × (made.config ≡ sender_config f) × (made.meter ≡ meter_fixed)
 
 -- A configuration is refused for the first check that it fails; else there is an endpoint that sent nothing, or no memory
 -- for it.
@@ -50,10 +54,26 @@ CreatesSender f code after =
     × (((code ≡ out_of_memory) × (after ≡ None))
     ⊎ ((code ≡ ok) × IsSomeAnd after (IsNewSender f))))
 
--- neither the rule nor the moment changes
+-- neither the rule nor the configuration nor the moment changes
 pub record AreAsTheyWere (before after : Sender) : Type 0 where
   pub rule : after.endpoint.rule ≡ before.endpoint.rule
+  pub config : after.config ≡ before.config
   pub now : after.now ≡ before.now
+
+-- what is measured of a send, and of a retransmission
+abbrev pub measured_send : Result (Result (ℕ × ℕ) SendFault) TooShort → (now : ℕ) → ResendMeter → ResendMeter
+measured_send (Ok (Ok sent)) now m = meter_sent m now
+measured_send (Ok (Err fault)) now m = m
+measured_send (Err short) now m = m
+
+abbrev pub measured_resend : Result (Option (ℕ × ℕ)) TooShort → (now : ℕ) → ResendMeter → ResendMeter
+measured_resend (Ok (Some sent)) now m = meter_resent m now
+measured_resend (Ok None) now m = m
+measured_resend (Err short) now m = m
+
+-- the rule in force: the one that was configured, or one that follows the path
+abbrev pub rule_now : Sender → ResendRule
+rule_now s = rule_by s.meter.interval s.endpoint.rule s.now
 
 -- what the endpoint's own call promises of a send
 pub record SendsAs (before : Sender) (content : Content) (padding : ℕ) (out : List ℕ) (answer : Result (Result (ℕ × ℕ) SendFault) TooShort) (out' : List ℕ) (after : Sender) : Type 0 where
@@ -62,6 +82,7 @@ pub record SendsAs (before : Sender) (content : Content) (padding : ℕ) (out : 
   pub stays : Stays before.endpoint.endpoint.core after.endpoint.endpoint.core
   pub counts : CountsSent content answer before.endpoint.endpoint.counts after.endpoint.endpoint.counts
   pub moments : after.endpoint.moments ≡ told_sent answer before.now before.endpoint.moments
+  pub meter : after.meter ≡ measured_send answer before.now before.meter
   pub rest : AreAsTheyWere before after
   pub passed : after.endpoint.passed ≡ before.endpoint.passed
 
@@ -71,24 +92,27 @@ TellsSend (Ok (Ok (place, len))) sent code sent' = (code ≡ ok) × (sent' ≡ r
 TellsSend (Ok (Err fault)) sent code sent' = code ≡ pos (send_number fault)
 TellsSend (Err short) sent code sent' = code ≡ no_room
 
--- what the endpoint's own call promises of a datagram
+-- what the endpoint's own call promises of a datagram, by which the path is measured
 pub record TellsAs (before : Sender) (octets : List ℕ) (answer : Result Told FeedbackFault) (after : Sender) : Type 0 where
   pub tells : TellsKind (is_control octets) before.endpoint.endpoint.core octets answer after.endpoint.endpoint.core
   pub counts : after.endpoint.endpoint.counts ≡ count_told answer before.endpoint.endpoint.counts
   pub moments : after.endpoint.moments ≡ before.endpoint.moments
+  pub meter : HearsTime before.config before.endpoint.endpoint.core.past before.endpoint.moments octets before.now before.meter.interval after.meter.interval
   pub rest : AreAsTheyWere before after
   pub passed : after.endpoint.passed ≡ before.endpoint.passed
 
--- What the endpoint's own call promises of a retransmission. By the rule that lets each go, it is the one of the least marked place.
+-- What the endpoint's own call promises of a retransmission, by the rule in force. By the rule that lets each go, it is the one of the least
+-- marked place.
 pub record RepairsAs (before : Sender) (out : List ℕ) (answer : Result (Option (ℕ × ℕ)) TooShort) (out' : List ℕ) (after : Sender) : Type 0 where
-  pub retransmits : Retransmits before.endpoint.rule before.endpoint.moments before.endpoint.endpoint.core.config.session before.now (state_of before.endpoint.endpoint.core) before.endpoint.passed out answer out' (state_of after.endpoint.endpoint.core) after.endpoint.passed
+  pub retransmits : Retransmits (rule_now before) before.endpoint.moments before.endpoint.endpoint.core.config.session before.now (state_of before.endpoint.endpoint.core) before.endpoint.passed out answer out' (state_of after.endpoint.endpoint.core) after.endpoint.passed
   pub enough : MAX_DATAGRAM ≤ length out → IsOk answer
   pub stays : Stays before.endpoint.endpoint.core after.endpoint.endpoint.core
   pub counts : CountsRepaired answer before.endpoint.endpoint.counts after.endpoint.endpoint.counts
   pub moments : after.endpoint.moments ≡ told_resent answer before.now before.endpoint.moments
+  pub meter : after.meter ≡ measured_resend answer before.now before.meter
   pub rest : AreAsTheyWere before after
-  pub plain : before.endpoint.rule ≡ always → RepairsInto before.endpoint.endpoint.core.config.session (state_of before.endpoint.endpoint.core) out answer out' (state_of after.endpoint.endpoint.core)
-  pub none : before.endpoint.rule ≡ always → answer ≡ Ok None → after.endpoint.endpoint.core ≡ before.endpoint.endpoint.core
+  pub plain : rule_now before ≡ always → RepairsInto before.endpoint.endpoint.core.config.session (state_of before.endpoint.endpoint.core) out answer out' (state_of after.endpoint.endpoint.core)
+  pub none : rule_now before ≡ always → answer ≡ Ok None → after.endpoint.endpoint.core ≡ before.endpoint.endpoint.core
 
 -- there is room: by a rule that may pass packets over, for any datagram
 abbrev pub HasRoomBy : ResendRule → (out : List ℕ) → Type 0
@@ -107,6 +131,7 @@ pub record MarksAs (before : Sender) (marked : Marked) (after : Sender) : Type 0
   pub stays : Stays before.endpoint.endpoint.core after.endpoint.endpoint.core
   pub counts : after.endpoint.endpoint.counts ≡ before.endpoint.endpoint.counts
   pub moments : after.endpoint.moments ≡ before.endpoint.moments
+  pub meter : after.meter ≡ before.meter
   pub rest : AreAsTheyWere before after
   pub passed : after.endpoint.passed ≡ before.endpoint.passed
 
@@ -135,8 +160,8 @@ pub record AnswersFeedback (old : Option Sender) (octets : List ℕ) (told : Out
 
 -- a retransmission of a sender
 pub record RetransmitsTo (before : Sender) (sent : SentPacket) (out : List ℕ) (code : ℤ) (after : Sender) (sent' : SentPacket) (out' : List ℕ) : Type 0 where
-  pub repairs : HasRoomBy before.endpoint.rule out → (answer : Result (Option (ℕ × ℕ)) TooShort) × RepairsAs before out answer out' after × TellsRepair answer sent code sent'
-  pub short : (HasRoomBy before.endpoint.rule out → ⊥) → code ≡ no_room
+  pub repairs : HasRoomBy (rule_now before) out → (answer : Result (Option (ℕ × ℕ)) TooShort) × RepairsAs before out answer out' after × TellsRepair answer sent code sent'
+  pub short : (HasRoomBy (rule_now before) out → ⊥) → code ≡ no_room
   pub refused : code ≢ ok → (after ≡ before) × (sent' ≡ sent) × (out' ≡ out)
 
 -- `gozdrit_retransmit`
@@ -150,6 +175,13 @@ pub record AnswersRetransmit (old : Option Sender) (sent : SentPacket) (out : Li
 pub record AnswersTime (old : Option Sender) (now : ℕ) (code : ℤ) (new : Option Sender) : Type 0 where
   pub none : old ≡ None → (code ≡ no_end) × (new ≡ old)
   pub tells : (before : Sender) → old ≡ Some before → (code ≡ ok) × (new ≡ Some (record before { now = now }))
+
+-- `gozdrit_sender_set_adaptive`: from now on the path is measured, and the rule follows it, or the rule holds as it was configured
+pub record AnswersAdapt (old : Option Sender) (adaptive : ℕ) (code : ℤ) (new : Option Sender) : Type 0 where
+  pub none : old ≡ None → (code ≡ no_end) × (new ≡ old)
+  pub bad : IsSome old → 1 < adaptive → (code ≡ pos (config_number BadLimit)) × (new ≡ old)
+  pub fixed : (before : Sender) → old ≡ Some before → adaptive ≡ 0 → (code ≡ ok) × (new ≡ Some (record before { meter = meter_fixed }))
+  pub follows : (before : Sender) → old ≡ Some before → adaptive ≡ 1 → (code ≡ ok) × (new ≡ Some (record before { meter = meter_following }))
 
 -- `gozdrit_tail_loss_probe`
 pub record AnswersMarkLast (old : Option Sender) (marked : ℕ) (code : ℤ) (new : Option Sender) (marked' : ℕ) : Type 0 where

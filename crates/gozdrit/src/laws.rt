@@ -5,7 +5,7 @@ ghost use Rattle.gozdrit.specs.declared.config.SenderFields.{SenderFields};
 ghost use Rattle.gozdrit.specs.declared.config.ReceiverFields.{ReceiverFields};
 ghost use Rattle.gozdrit.specs.Config.{streams_of, sender_config, receiver_config, probation_of, rule_of};
 ghost use Rattle.gozdrit.specs.Ends.{Sender};
-ghost use Rattle.gozdrit.specs.Sending.{IsNewSender};
+ghost use Rattle.gozdrit.specs.Sending.{IsNewSender, rule_now};
 ghost use Rattle.gozdrit.specs.Receiving.{new_receiver};
 ghost use Rattle.gozdrit.specs.Sizes.{SaysKnown};
 ghost use Rattle.gozdrit.specs.declared.sizes.TheConstants.{RECEIVER_CONFIG, SENDER_CONFIG};
@@ -41,6 +41,8 @@ pub fn fields_say_configurations()
 pub fn new_ends_are_as_configured()
     ensures sender { (f : SenderFields) (s : Sender) → IsNewSender f s →
         (s.endpoint.endpoint.core.config ≡ sender_config f) × (s.endpoint.endpoint.core.past.capacity ≡ f.history) × (s.endpoint.rule ≡ rule_of f) }
+    // Until it is told to follow the path, its rule is the one that was configured.
+    ensures rule_now { (f : SenderFields) (s : Sender) → IsNewSender f s → rule_now s ≡ rule_of f }
     ensures receiver { (f : ReceiverFields) → let r = (new_receiver f).endpoint in
         (r.endpoint.core.config ≡ receiver_config f) × (r.endpoint.core.span.capacity ≡ f.window)
         × (r.endpoint.spare.config ≡ receiver_config f) × (r.endpoint.spare.span.capacity ≡ f.window) × (r.endpoint.probation ≡ probation_of f)

@@ -17,7 +17,7 @@ ghost use Rattle.gozdrit.specs.contracts.answers.SentPacket.{the_row as sent_row
 ghost use Rattle.gozdrit.specs.declared.answers.SentPacket.{SentPacket};
 ghost use Rattle.gozdrit.specs.contracts.heard.OutcomeFields.{the_row as told_row};
 ghost use Rattle.gozdrit.specs.declared.heard.OutcomeFields.{OutcomeFields};
-ghost use Rattle.gozdrit.specs.Lent.{SenderNewFor, SenderFreeFor, SendFor, FeedbackFor, RetransmitFor, MarkLastFor, SenderTimeFor};
+ghost use Rattle.gozdrit.specs.Lent.{SenderNewFor, SenderFreeFor, SendFor, FeedbackFor, RetransmitFor, MarkLastFor, SenderTimeFor, AdaptFor};
 
 use crate::answers::SentPacket;
 use crate::blocks::SenderBlock;
@@ -28,7 +28,7 @@ use crate::heard::OutcomeFields;
 use crate::lent::{Lent, LentSlice};
 use crate::rest::says_known;
 use crate::sending::{
-    SenderHandle, feedback, mark_last, retransmit, send, sender_free, sender_new, tell_time,
+    SenderHandle, adapt, feedback, mark_last, retransmit, send, sender_free, sender_new, tell_time,
 };
 use crate::sized::LentSized;
 use crate::sizes::SENDER_CONFIG;
@@ -336,5 +336,34 @@ fn sender_time_lent(mut sender: Lent<SenderHandle>, now: u64) -> (i32, Lent<Send
         return (NULL, sender);
     }
     let code = tell_time(sender.get(), now);
+    (code, sender)
+}
+
+/// Whether the rule of what is retransmitted again follows what is measured of the path.
+#[unsafe(no_mangle)]
+pub unsafe extern "C" fn gozdrit_sender_set_adaptive(sender: *mut SenderBlock, adaptive: u8) -> i32
+    ghost before: { Option (Handle Sender) }
+    requires* { sem 𝓛 (value_lies_at SenderRow sender before) }
+    ensures* { ∃ₛ (λ (after : Option (Handle Sender)).
+        sem 𝓛 (value_lies_at SenderRow sender after)
+        ∗ ⌜ AdaptFor adaptive before result after ⌝) }
+{
+    adapt_lent(
+        Lent {
+            at: sender as *mut SenderHandle,
+        },
+        adaptive,
+    )
+    .0
+}
+
+fn adapt_lent(mut sender: Lent<SenderHandle>, adaptive: u8) -> (i32, Lent<SenderHandle>)
+    ensures { (result.1.at ≡ sender.at)
+        × AdaptFor adaptive sender.value result.0 result.1.value }
+{
+    if sender.is_null() {
+        return (NULL, sender);
+    }
+    let code = adapt(sender.get(), adaptive);
     (code, sender)
 }

@@ -1,9 +1,9 @@
 //! The sending end for C.
-ghost use Rattle.std.specs.Prelude.{ℕ, List, ◌↔◌, IsTrue};
+ghost use Rattle.std.specs.Prelude.{◌≡◌, ℕ, List, ◌↔◌, IsTrue};
 ghost use Rattle.gozdrit.specs.declared.sizes.TheConstants.{SENDER_CONFIG};
 ghost use Rattle.gozdrit.specs.Sizes.{SaysKnown};
 ghost use Rattle.gozdrit.specs.Freeing.{AnswersFree};
-ghost use Rattle.gozdrit.specs.Sending.{AnswersSenderNew, AnswersSend, AnswersFeedback, AnswersRetransmit, AnswersMarkLast, AnswersTime, RetransmitsTo};
+ghost use Rattle.gozdrit.specs.Sending.{AnswersAdapt, AnswersSenderNew, AnswersSend, AnswersFeedback, AnswersRetransmit, AnswersMarkLast, AnswersTime, RetransmitsTo, measured_resend, measured_send};
 
 use crate::answers::SentPacket;
 use crate::code::{BAD_SIZE, HELD, NO_END, NO_ROOM, OK, OUT_OF_MEMORY, TOO_LARGE};
@@ -12,15 +12,19 @@ use crate::handle::Handle;
 use crate::header::Header;
 use crate::heard::OutcomeFields;
 use crate::sizes::{OUTCOME, SENT};
-use endpoint::TimelyEndpoint;
-use rtpwire::MAX_DATAGRAM;
+use endpoint::{ResendMeter, ResendRule, TimelyEndpoint};
+use places::Place;
+use rtpwire::{ConfigFault, MAX_DATAGRAM, TooShort};
+use sender::{SendFault, SenderConfig};
 use std::alloc::Global;
 use stores::RingHistory;
 
-/// A sender, and the moment that it was told last.
+/// A sender, how it was configured, what it measures of the path, where its rule follows that, and the moment that it was told last.
 #[derive(Drop)]
 pub struct TimedSender {
     pub(crate) endpoint: TimelyEndpoint<RingHistory>,
+    pub(crate) config: SenderConfig,
+    pub(crate) meter: ResendMeter,
     pub(crate) now: u64,
 }
 
@@ -51,7 +55,13 @@ pub(crate) fn sender_new(
     else {
         return OUT_OF_MEMORY;
     };
-    let Ok(inside) = Box::new(alloc, TimedSender { endpoint, now: 0 }) else {
+    let timed = TimedSender {
+        endpoint,
+        config: made,
+        meter: ResendMeter::fixed(),
+        now: 0,
+    };
+    let Ok(inside) = Box::new(alloc, timed) else {
         return OUT_OF_MEMORY;
     };
     sender.put(inside);
@@ -88,10 +98,10 @@ pub(crate) fn send(
         return TOO_LARGE;
     };
     let sender = sender.lend();
-    match sender
-        .endpoint
-        .send_into(out, &carried, padding, sender.now)
-    {
+    let now = sender.now;
+    let answer = sender.endpoint.send_into(out, &carried, padding, now);
+    measure_send(&mut sender.meter, &answer, now);
+    match answer {
         Ok(Ok((place, length))) => {
             sent.tell(place, length);
             OK
@@ -110,7 +120,11 @@ pub(crate) fn feedback(sender: &mut SenderHandle, octets: &[u8], told: &mut Outc
     if told.size < OUTCOME {
         return BAD_SIZE;
     }
-    *told = OutcomeFields::of(told.size, sender.lend().endpoint.on_datagram(octets));
+    let sender = sender.lend();
+    sender
+        .meter
+        .hear(&sender.endpoint, &sender.config, octets, sender.now);
+    *told = OutcomeFields::of(told.size, sender.endpoint.on_datagram(octets));
     OK
 }
 
@@ -130,14 +144,62 @@ pub(crate) fn retransmit(sender: &mut SenderHandle, sent: &mut SentPacket, out: 
 fn retransmit_to(sender: &mut TimedSender, sent: &mut SentPacket, out: &mut [u8]) -> i32
     ensures { RetransmitsTo sender.old sent.old out.old result sender.new sent.new out.new }
 {
-    if !sender.endpoint.rule().is_always() && out.len() < MAX_DATAGRAM {
+    let now = sender.now;
+    let rule = sender.meter.rule(sender.endpoint.rule(), now);
+    if !rule.is_always() && out.len() < MAX_DATAGRAM {
         return NO_ROOM;
     }
-    match sender.endpoint.retransmit_into(out, sender.now) {
+    let answer = sender.endpoint.retransmit_by(rule, out, now);
+    measure_resend(&mut sender.meter, &answer, now);
+    match answer {
         Ok(Some((place, length))) => sent.tell(place, length),
         Ok(None) => sent.length = 0,
         Err(short) => return i32::from(short.number()),
     }
+    OK
+}
+
+/// What was sent is measured.
+fn measure_send(
+    meter: &mut ResendMeter,
+    answer: &Result<Result<(Place, usize), SendFault>, TooShort>,
+    now: u64,
+)
+    ensures { meter.new ≡ measured_send answer.now now meter.old }
+{
+    if let Ok(Ok(_)) = answer {
+        meter.send(now);
+    }
+}
+
+/// And what was retransmitted.
+fn measure_resend(
+    meter: &mut ResendMeter,
+    answer: &Result<Option<(Place, usize)>, TooShort>,
+    now: u64,
+)
+    ensures { meter.new ≡ measured_resend answer.now now meter.old }
+{
+    if let Ok(Some(_)) = answer {
+        meter.resend(now);
+    }
+}
+
+/// Has the rule follow the path from now on, or hold as it was configured.
+pub(crate) fn adapt(sender: &mut SenderHandle, adaptive: u8) -> i32
+    ensures { AnswersAdapt sender.old.inside adaptive result sender.new.inside }
+{
+    if !sender.is_held() {
+        return NO_END;
+    }
+    if adaptive > 1 {
+        return i32::from(ConfigFault::BadLimit.number());
+    }
+    sender.lend().meter = if adaptive == 0 {
+        ResendMeter::fixed()
+    } else {
+        ResendMeter::following()
+    };
     OK
 }
 

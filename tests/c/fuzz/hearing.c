@@ -25,9 +25,14 @@ static int32_t walk(const uint8_t *octets, size_t length) {
     return has_nack ? 0 : has_feedback ? GOZDRIT_NOT_NACK : GOZDRIT_NOT_RTPFB;
 }
 
+static uint64_t sequence_of(const struct sender *it, uint16_t number) {
+    uint64_t back = (uint16_t)((uint16_t)it->next - number);
+    return it->next - (back == 0 ? 65536 : back);
+}
+
 /* A number that a NACK of the session names. */
 static void hear_number(struct sender *it, uint16_t number, gozdrit_outcome *outcome) {
-    uint64_t back = (uint16_t)((uint16_t)it->next - number), sequence = it->next - (back == 0 ? 65536 : back);
+    uint64_t back = (uint16_t)((uint16_t)it->next - number), sequence = sequence_of(it, number);
     struct kept *kept = kept_at(it, sequence);
     outcome->nacked++;
     if (back == 0 || sequence < oldest(it)) {
@@ -56,6 +61,34 @@ static int32_t refuse_nack(const struct sender *it, const uint8_t *packet) {
     if (get32(packet + 8) != it->config.session.media_ssrc) return GOZDRIT_WRONG_MEDIA;
     if (!it->config.any_reporter && get32(packet + 4) != it->config.session.receiver_ssrc) return GOZDRIT_WRONG_REPORTER;
     return 0;
+}
+
+/* The number that a NACK names last. */
+static uint16_t last_number(const uint8_t *packet, size_t length) {
+    uint16_t pid = get16(packet + length - 4), blp = get16(packet + length - 2);
+    int bit;
+    for (bit = 15; bit >= 0; bit--)
+        if (blp >> bit & 1) return (uint16_t)(pid + 1 + bit);
+    return pid;
+}
+
+/* The path is measured before anything is marked, by the last number that is named. */
+static void measure(struct sender *it, const uint8_t *octets, size_t length) {
+    const struct kept *kept;
+    bool has_number = false;
+    uint16_t number = 0;
+    uint64_t sequence;
+    size_t at, whole;
+    for (at = 0; at < length; at += whole) {
+        whole = 4 + 4 * (size_t)get16(octets + at + 2);
+        if (octets[at + 1] != 205 || (octets[at] & 31) != 1 || refuse_nack(it, octets + at) != 0) continue;
+        has_number = true;
+        number = last_number(octets + at, whole);
+    }
+    if (!has_number || (uint16_t)it->next == number) return;
+    sequence = sequence_of(it, number);
+    kept = kept_at(it, sequence);
+    if (sequence >= oldest(it) && !kept->is_queued && kept->retransmissions == 0) follow_hear(it, sequence);
 }
 
 /* Goes on with the NACKs of a datagram without a fault. */
@@ -95,6 +128,7 @@ void hear(struct sender *it, const uint8_t *octets, size_t length, gozdrit_outco
         return;
     }
     outcome->refusal = (uint8_t)fault;
+    if (fault == 0) measure(it, octets, length);
     if (fault == 0) hear_nacks(it, octets, length, outcome);
     if (outcome->kind == GOZDRIT_REFUSED) it->counts.refused++;
     it->counts.nacks += outcome->nacks;

@@ -94,6 +94,7 @@ static void call_new(struct sender *it) {
         it->first = it->next = 65536 + (uint64_t)config.first_sequence;
         it->rtx_next = config.rtx_first_sequence;
         it->now = 0;
+        follow(it, false);
         memset(&it->counts, 0, sizeof it->counts);
     }
     check_handle(it, answer);
@@ -203,6 +204,7 @@ static bool send_packet(struct sender *it, const gozdrit_header *header, const u
     memcpy(kept_at(it, it->next), &made, sizeof made);
     keep(it, made.datagram, made.length, it->next, false);
     it->next++;
+    follow_send(it);
     it->counts.sent++;
     it->counts.octets += length;
     return true;
@@ -242,7 +244,7 @@ static uint64_t next_queued(struct sender *it) {
     return sequence;
 }
 
-static bool has_rule(const struct sender *it) { return it->config.min_resend > 0 || it->config.deadline > 0; }
+static bool has_rule(const struct sender *it) { return min_resend(it) > 0 || it->config.deadline > 0; }
 
 static uint64_t since(const struct sender *it, uint64_t moment) { return it->now > moment ? it->now - moment : 0; }
 
@@ -251,7 +253,7 @@ static bool is_expired(const struct sender *it, const struct kept *kept) {
 }
 
 static bool is_early(const struct sender *it, const struct kept *kept) {
-    return kept->was_resent && since(it, kept->resent_at) < it->config.min_resend;
+    return kept->was_resent && since(it, kept->resent_at) < min_resend(it);
 }
 
 /* The least sequence that is to be retransmitted and fits the time, or the next one where there is none. */
@@ -290,6 +292,7 @@ static void retransmit(struct sender *it, uint64_t sequence, const uint8_t *data
         kept->is_queued = false;
         kept->was_resent = true;
         kept->resent_at = it->now;
+        follow_resend(it);
         kept->retransmissions++;
         it->rtx_next++;
         it->counts.retransmissions++;
@@ -324,6 +327,16 @@ static void call_set_time(struct sender *it) {
     answer = gozdrit_sender_set_time(lend(it, true), now);
     end_call(unless_none(it, GOZDRIT_OK), answer);
     if (answer == GOZDRIT_OK) it->now = now;
+    check_handle(it, answer);
+}
+
+static void call_set_adaptive(struct sender *it) {
+    uint8_t adaptive = (uint8_t)(one_in(10) ? between(2, 255) : below(4) > 0);
+    int32_t answer;
+    begin_call(CALL_sender_set_adaptive);
+    answer = gozdrit_sender_set_adaptive(lend(it, true), adaptive);
+    end_call(unless_none(it, adaptive > 1 ? GOZDRIT_BAD_LIMIT : GOZDRIT_OK), answer);
+    if (answer == GOZDRIT_OK) follow(it, adaptive == 1);
     check_handle(it, answer);
 }
 
@@ -412,5 +425,6 @@ void call_sender(void) {
     else if (which < 940) call_retransmit(it);
     else if (which < 960) call_tail_loss_probe(it);
     else if (which < 980) call_set_time(it);
+    else if (which < 984) call_set_adaptive(it);
     else call_counts(it);
 }

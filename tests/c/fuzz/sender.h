@@ -17,6 +17,13 @@ struct kept {
     uint8_t datagram[GOZDRIT_MAX_DATAGRAM];
 };
 
+/* What is measured of the path, where the rule follows it: how long an answer takes, the mean gap between packets and when the last one
+ * was sent, and until when retransmissions are being taken; the gap and that in 4096 parts of a millisecond. */
+struct path {
+    bool is_followed, has_answer, has_sent;
+    uint64_t answer, gap, last, busy;
+};
+
 struct sender {
     bool is_made;
     unsigned session;
@@ -26,6 +33,7 @@ struct sender {
     uint16_t rtx_next;
     uint64_t now;
     uint64_t fed;
+    struct path path;
     struct kept *history; /* of GOZDRIT_MAX_STORE packets, each at its sequence modulo that */
 };
 
@@ -39,5 +47,14 @@ uint64_t oldest(const struct sender *it);
 
 /* Hears a datagram, with its counts. */
 void hear(struct sender *it, const uint8_t *octets, size_t length, gozdrit_outcome *outcome);
+
+/* ---- what follows the path (following.c) */
+
+void follow(struct sender *it, bool follows);
+void follow_send(struct sender *it);
+void follow_resend(struct sender *it);
+void follow_hear(struct sender *it, uint64_t sequence);
+/* How long a packet is not retransmitted again. */
+uint64_t min_resend(const struct sender *it);
 
 #endif

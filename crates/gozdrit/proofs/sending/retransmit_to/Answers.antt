@@ -11,7 +11,7 @@ returns-in-Err c =
           let room : MAX_DATAGRAM ≤ length c.args.out.now = search rules in
           absurd (search rules)
       | else-not-is_always-via-else-not-is_always w ↦
-          let is : c.args.sender.now.endpoint.rule ≡ always = search rules in
-          let same = c.retransmit_into.ensures.plain_err is in
+          let is : c.rule-rule.result ≡ always = search rules in
+          let same = c.retransmit_by-answer.ensures.plain_err is in
           search rules
     ]
