@@ -88,8 +88,9 @@ static void test_no_rule(void) {
     ANSWERS(GOZDRIT_OK, gozdrit_sender_free(&sender));
 }
 
-/* The second packet was sent at 1008, and the NACK that shows it comes at 1048: an answer takes 40. Named 39 after its
- * retransmission the first comes too soon, and 40 after it does not; by min_resend alone, which is 10, both don't. */
+/* The second packet was sent at 1008, and the NACK that shows it comes at 1048: an answer takes 40. Named 19 after its
+ * retransmission the first comes too soon, and 31 after that it does not, as half of 40 has passed; by min_resend alone, which
+ * is 10, neither does. */
 static void test_waits_for_answers(uint8_t adaptive) {
     gozdrit_sender_config config = CONFIG;
     gozdrit_sender sender = {NULL, 0};
@@ -105,9 +106,9 @@ static void test_waits_for_answers(uint8_t adaptive) {
     at(&sender, 1048);
     names(&sender, 200, 0);
     repeats(&sender, 1048, 65736);
-    at(&sender, 1087);
+    at(&sender, 1067);
     names(&sender, 200, 0);
-    repeats(&sender, 1087, adaptive ? 0 : 65736);
+    repeats(&sender, 1067, adaptive ? 0 : 65736);
     at(&sender, 1098);
     names(&sender, 200, 0);
     repeats(&sender, 1098, 65736);

@@ -106,8 +106,8 @@ def media_first(checks, stage):
 
 @on_time(0.03)
 def answered(checks, stage, *words, again=0):
-    """A NACK that comes 300 milliseconds behind the packet after the lost one tells that an answer takes so long. Named again while it is on its
-    way the packet is not retransmitted, and once its time has passed it is; where a time is given for that, it is retransmitted then."""
+    """A NACK that comes 300 milliseconds behind the packet after the lost one tells that an answer takes so long. Named again 100 after its
+    retransmission the packet is not retransmitted, and 300 after it is; where a time is given for that, it is both times."""
     name = f"answers on their way {words}"
     far = End(stage)
     sender = stage.send(far.at, "--packets", 2, *words)
@@ -126,10 +126,10 @@ def answered(checks, stage, *words, again=0):
     for _ in range(3):
         far.send(nack(MEDIA, [0]), at)
     time.sleep(0.1)
-    checks.same(repeated(), 1 + again, f"{name}: retransmissions before an answer can have come")
+    checks.same(repeated(), 1 + again, f"{name}: retransmissions while an answer is on its way")
     time.sleep(0.2)
     far.send(nack(MEDIA, [0]), at)
-    checks.count(soon(lambda: repeated() == 2 + again, 2), f"{name}: {repeated()} retransmissions once it can have")
+    checks.count(soon(lambda: repeated() == 2 + again, 2), f"{name}: {repeated()} retransmissions later")
     ends(checks, name, sender)
     checks.same(sender.counts().get("early"), 3 - again, f"{name}: what was passed over")
 

@@ -45,7 +45,7 @@ fn send<'a>(alloc: Global) -> Result<Command<'a>, AllocError> {
             alloc,
             "min-resend",
             "MS",
-            "How soon a packet is retransmitted again, in milliseconds; by default not before its answer can have come, and 10 at least",
+            "How soon a packet is retransmitted again, in milliseconds; half of what an answer takes by default, and 10 at least",
         ))?
         .arg(option(
             alloc,

@@ -288,7 +288,7 @@ fn how_long_an_answer_takes(rt: HostRuntime) -> Result<(), Fail> {
     Ok(())
 }
 
-/// The rule that holds where one has 10 milliseconds, once an answer took 65.
+/// The rule that holds where one has 10 milliseconds, once an answer took 65, of which half is 32.
 #[test]
 fn a_rule_that_follows(rt: HostRuntime) -> Result<(), Fail> {
     let mut endpoint = timely(rt.alloc(), 0, None)?;
@@ -308,15 +308,15 @@ fn a_rule_that_follows(rt: HostRuntime) -> Result<(), Fail> {
     fixed.hear(&endpoint, &config, nack(0x33, 0x11, 0).as_slice(), 95);
     let heard = follows.rule(rule, 95)
         == ResendRule {
-            min_resend: 65,
+            min_resend: 32,
             deadline: Some(300),
         };
     // A retransmission takes as long as lies between two packets.
     follows.resend(95);
     fixed.resend(95);
-    let resent = follows.rule(rule, 95).min_resend == 95
-        && follows.rule(rule, 110).min_resend == 80
-        && follows.rule(rule, 125).min_resend == 65;
+    let resent = follows.rule(rule, 95).min_resend == 62
+        && follows.rule(rule, 110).min_resend == 47
+        && follows.rule(rule, 125).min_resend == 32;
     assert!(rt; are_sent && before && heard && resent && fixed.rule(rule, 95) == rule);
     Ok(())
 }

@@ -23,17 +23,17 @@ all_rise (took ∷ others) r before first floor longer is fits high since slow =
     let one = rises before took first floor longer fits high since slow.0 in
     all_rise others (heard_after r took) (answered_after (Some before) took) first (floor + first / 8 + 1) longer (ap (λ a. Some (answered_after a took)) is) fits one.0 one.1 slow.1
 
--- an interval is no shorter than what answers take
-no_shorter : (r : ResendInterval) (least now longer : ℕ) → longer < 2 ^ 64 → IsSomeAnd r.answer (λ after. longer ≤ after) → longer ≤ interval_at r least now
+-- an interval is no shorter than half of what answers take
+no_shorter : (r : ResendInterval) (least now longer : ℕ) → longer < 2 ^ 64 → IsSomeAnd r.answer (λ after. longer ≤ after) → longer / 2 ≤ interval_at r least now
 no_shorter r least now longer fits takes = by r.answer refl takes
   where
-    by : (answer : Option ℕ) → r.answer ≡ answer → IsSomeAnd answer (λ after. longer ≤ after) → longer ≤ interval_at r least now
+    by : (answer : Option ℕ) → r.answer ≡ answer → IsSomeAnd answer (λ after. longer ≤ after) → longer / 2 ≤ interval_at r least now
     by None is takes = absurd takes
-    by (Some after) is takes = subst (λ a. longer ≤ interval_with a (queued_at r now) least) (sym is) (omega (arith, takes))
+    by (Some after) is takes = subst (λ a. longer / 2 ≤ interval_with a (queued_at r now) least) (sym is) (omega (arith, takes))
 
 pub doubled : (r : ResendInterval) (before longer a b c d e f g h least now : ℕ) → r.answer ≡ Some before → longer < 2 ^ 64
     → TakeAtLeast (a ∷ b ∷ c ∷ d ∷ e ∷ f ∷ g ∷ h ∷ []) longer
-    → min longer (2 * before) ≤ interval_at (answers_heard r (a ∷ b ∷ c ∷ d ∷ e ∷ f ∷ g ∷ h ∷ [])) least now
+    → min longer (2 * before) / 2 ≤ interval_at (answers_heard r (a ∷ b ∷ c ∷ d ∷ e ∷ f ∷ g ∷ h ∷ [])) least now
 doubled r before longer a b c d e f g h least now is fits slow =
     let after = answers_heard r (a ∷ b ∷ c ∷ d ∷ e ∷ f ∷ g ∷ h ∷ []) in
     let high = all_rise (a ∷ b ∷ c ∷ d ∷ e ∷ f ∷ g ∷ h ∷ []) r before before before longer is fits (omega arith) (omega arith) slow in
@@ -87,13 +87,13 @@ adds (suc many) r now fits =
     one_adds many r (resent_many r now many) now fits (adds many r now (omega (arith, fits, product)))
 
 pub behind : (r : ResendInterval) (answer now many least : ℕ) → r.answer ≡ Some answer → now * 4096 + many * r.gap < 2 ^ 64
-    → answer + many * r.gap / 4096 < 2 ^ 64 → answer + many * r.gap / 4096 ≤ interval_at (resent_many r now many) least now
+    → answer / 2 + many * r.gap / 4096 < 2 ^ 64 → answer / 2 + many * r.gap / 4096 ≤ interval_at (resent_many r now many) least now
 behind r answer now many least is fits short =
     let added = adds many r now fits in
-    subst (λ a. answer + many * r.gap / 4096 ≤ interval_with a (queued_at (resent_many r now many) now) least) (sym (added.answer ∙ is)) (by many refl added.busy)
+    subst (λ a. answer / 2 + many * r.gap / 4096 ≤ interval_with a (queued_at (resent_many r now many) now) least) (sym (added.answer ∙ is)) (by many refl added.busy)
   where
     by : (n : ℕ) → many ≡ n → (0 < many → now * 4096 + many * r.gap ≤ (resent_many r now many).busy)
-        → answer + many * r.gap / 4096 ≤ interval_with (Some answer) (queued_at (resent_many r now many) now) least
+        → answer / 2 + many * r.gap / 4096 ≤ interval_with (Some answer) (queued_at (resent_many r now many) now) least
     by zero none busy =
         let product : many * r.gap ≡ 0 = subst (λ n. n * r.gap ≡ 0) (sym none) (omega arith) in
         omega (arith, product, short)

@@ -1,4 +1,4 @@
--- How soon a sender may retransmit a packet again: not before the answer to its last retransmission could have come. (The rule is this
+-- How soon a sender may retransmit a packet again: not while the answer to its last retransmission is on its way. (The rule is this
 -- project's own.) Moments and spans are in milliseconds, and where it is said in 4096 parts of one.
 use Rattle.std.specs.Prelude.{ℕ, zero, suc, ◌≤◌, ◌+◌, ◌-◌, ◌*◌, ◌/◌, ◌==◌, List, [], ◌∷◌, max, min, Option, Some, None, if◌then◌else◌}
 use Rattle.timing.specs.Capped.{capped}
@@ -37,9 +37,10 @@ heard_after r took = record r { answer = Some (answered_after r.answer took) }
 abbrev pub queued_at : ResendInterval → (now : ℕ) → ℕ
 queued_at r now = (r.busy - capped (now * 4096)) / 4096
 
+-- half of what an answer takes, of which a receiver may have waited the other half for reordering, and for what is still taken
 abbrev pub interval_with : (answer : Option ℕ) → (queued least : ℕ) → ℕ
 interval_with None queued least = least
-interval_with (Some answer) queued least = max least (capped (answer + queued))
+interval_with (Some answer) queued least = max least (capped (answer / 2 + queued))
 
 abbrev pub interval_at : ResendInterval → (least now : ℕ) → ℕ
 interval_at r least now = interval_with r.answer (queued_at r now) least

@@ -86,11 +86,11 @@ pub fn answers_are_waited_for()
     ensures least { (r : ResendInterval) (least now : ℕ) → least ≤ interval_at r least now }
     // An answer that took less counts at once.
     ensures at_once { (r : ResendInterval) (took : ℕ) → IsSomeAnd (heard_after r took).answer (λ answer. answer ≤ took) }
-    // Eight answers in a row that took longer, as over a queue that fills, double the interval, or raise it to what they took.
+    // Eight answers in a row that took longer, as over a queue that fills, double the interval, or raise it to half of what they took.
     ensures doubled { (r : ResendInterval) (before longer a b c d e f g h least now : ℕ) → r.answer ≡ Some before → longer < 2 ^ 64
         → TakeAtLeast (a ∷ b ∷ c ∷ d ∷ e ∷ f ∷ g ∷ h ∷ []) longer
-        → min longer (2 * before) ≤ interval_at (answers_heard r (a ∷ b ∷ c ∷ d ∷ e ∷ f ∷ g ∷ h ∷ [])) least now }
+        → min longer (2 * before) / 2 ≤ interval_at (answers_heard r (a ∷ b ∷ c ∷ d ∷ e ∷ f ∷ g ∷ h ∷ [])) least now }
     // Behind packets that left at once it is longer by as many gaps of the media.
     ensures behind { (r : ResendInterval) (answer now many least : ℕ) → r.answer ≡ Some answer → now * 4096 + many * r.gap < 2 ^ 64
-        → answer + many * r.gap / 4096 < 2 ^ 64 → answer + many * r.gap / 4096 ≤ interval_at (resent_many r now many) least now }
+        → answer / 2 + many * r.gap / 4096 < 2 ^ 64 → answer / 2 + many * r.gap / 4096 ≤ interval_at (resent_many r now many) least now }
 {}

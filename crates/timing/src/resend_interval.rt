@@ -8,13 +8,14 @@ const PAUSE: u64 = 100;
 /// Into so many parts a millisecond is divided, for gaps that are shorter.
 const PARTS: u64 = 4096;
 
-/// How soon a packet that was retransmitted may be retransmitted again, as its sender sees it: no ask again is answered before the answer to
-/// the one before could have come (RFC 6298 and RFC 8985 have it of TCP's segments). Two things say when that is.
+/// How soon a packet that was retransmitted may be retransmitted again, as its sender sees it: what is asked for again while the answer is on
+/// its way is passed over (RFC 6298 and RFC 8985 have it of TCP's segments). Two things say how long that may be.
 ///
 /// - **A NACK that names a packet for the first time** comes as soon as a later packet shows its loss. How long before that the packet right
-///   behind it was sent is a round trip over the path as it is now, with each queue on the way, and with what the receiver waits for reordering.
-///   A NACK may be late, as one before it was lost, so what is longer than before raises it by an eighth at most (the gain of RFC 6298,
-///   section 2), and what is shorter counts at once.
+///   behind it was sent is a round trip over the path as it is now, with each queue on the way, and with what the receiver waits for reordering,
+///   which is up to a round trip too (RFC 8985, section 6.2). So half of that is waited for: a receiver asks again a round trip later at the
+///   soonest. A NACK may be late, as one before it was lost, so what is longer than before raises it by an eighth at most (the gain of
+///   RFC 6298, section 2), and what is shorter counts at once.
 /// - **What left together may fill a queue** before any NACK tells of it. A path that has room for the media alone takes as long for a
 ///   retransmission as lies between two packets of media, on the mean; until it would have taken all that left, an answer may take so much longer.
 ///
@@ -84,7 +85,7 @@ impl ResendInterval {
             return least;
         };
         let queued = self.busy.saturating_sub(now.saturating_mul(PARTS)) / PARTS;
-        least.max(answer.saturating_add(queued))
+        least.max((answer / 2).saturating_add(queued))
     }
 }
 

@@ -13,15 +13,16 @@ fn each_ten() -> ResendInterval {
 
 #[test]
 fn answers_that_took_longer(_rt: HostRuntime) -> Result<(), Fail> {
-    // How long an answer took, and the interval then, where it is ten at least: an eighth longer and one, or what is shorter at once.
+    // How long an answer took, and the interval then, where it is ten at least: half of 50, of 57, which is an eighth longer and one, of 65
+    // and of 74, and of what is shorter at once.
     let rows = [
-        (50, 50),
-        (200, 57),
-        (200, 65),
-        (200, 74),
-        (70, 70),
+        (50, 25),
+        (200, 28),
+        (200, 32),
+        (200, 37),
+        (70, 35),
         (3, 10),
-        // Four, by an eighth and one.
+        // Four, by an eighth and one, and five.
         (200, 10),
         (200, 10),
     ];
@@ -46,12 +47,12 @@ fn what_left_together(_rt: HostRuntime) -> Result<(), Fail> {
     for _ in 0..5u8 {
         interval.resend(1000);
     }
-    let five = interval.at(10, 1000) == 90 && interval.at(10, 1020) == 70;
+    let five = interval.at(10, 1000) == 70 && interval.at(10, 1020) == 50;
     interval.resend(1020);
-    let six = interval.at(10, 1020) == 80 && interval.at(10, 1060) == 40;
+    let six = interval.at(10, 1020) == 60 && interval.at(10, 1060) == 20;
     // Later nothing is behind them any more.
     interval.resend(2000);
-    let later = interval.at(10, 2000) == 50 && interval.at(60, 2000) == 60;
+    let later = interval.at(10, 2000) == 30 && interval.at(60, 2000) == 60;
     if five && six && later {
         Ok(())
     } else {
@@ -68,11 +69,11 @@ fn a_pause_is_no_gap(_rt: HostRuntime) -> Result<(), Fail> {
     interval.resend(6000);
     let before = interval.at(10, 6000) == 10;
     interval.hear(40);
-    let one = interval.at(10, 6000) == 51;
+    let one = interval.at(10, 6000) == 31;
     for _ in 0..9u8 {
         interval.resend(6000);
     }
-    let ten = interval.at(10, 6000) == 154;
+    let ten = interval.at(10, 6000) == 134;
     if before && one && ten {
         Ok(())
     } else {

@@ -50,6 +50,6 @@ uint64_t min_resend(const struct sender *it) {
     const struct path *path = &it->path;
     uint64_t span;
     if (!path->is_followed || !path->has_answer) return it->config.min_resend;
-    span = sum(path->answer, above(path->busy, times(it->now, PARTS)) / PARTS);
+    span = sum(path->answer / 2, above(path->busy, times(it->now, PARTS)) / PARTS);
     return span > it->config.min_resend ? span : it->config.min_resend;
 }
