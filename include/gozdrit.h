@@ -526,13 +526,12 @@ int32_t gozdrit_sender_set_time(gozdrit_sender *sender, uint64_t now);
 
 /*
  * Since 2.1. 1: the path is measured from now on, and a packet is not retransmitted again while the answer to its last
- * retransmission is on its way, nor within `min_resend`. Two things say how long that is: half of how long ago the packet
- * behind it was sent when a NACK names a packet for the first time (a round trip, with each queue on the way, and with what
- * the receiver waits for reordering); and what was retransmitted just before, as if the path took that as slowly as packets
- * are sent. So over a link of little more than the stream retransmissions don't fill a queue in vain. It wants
- * gozdrit_sender_set_time before each send, each gozdrit_feedback and each gozdrit_retransmit, in milliseconds of a clock
- * that only goes forward. Once a NACK has told something gozdrit_retransmit wants GOZDRIT_MAX_DATAGRAM of room, as with
- * `min_resend`.
+ * retransmission may wait in a queue, nor within `min_resend`. Two things tell of a queue: what lies beyond twice the
+ * least of how long ago the packet behind it was sent when a NACK names a packet for the first time, a round trip; and
+ * what was retransmitted just before, as if the path took that as slowly as packets are sent. So over a link of little more
+ * than the stream retransmissions don't fill a queue in vain. It wants gozdrit_sender_set_time before each send, each
+ * gozdrit_feedback and each gozdrit_retransmit, in milliseconds of a clock that only goes forward. While a queue is seen
+ * gozdrit_retransmit wants GOZDRIT_MAX_DATAGRAM of room, as with `min_resend`.
  * 0: `min_resend` alone holds, as it does before the first call.
  *
  *   53  adaptive is neither 0 nor 1

@@ -88,9 +88,9 @@ static void test_no_rule(void) {
     ANSWERS(GOZDRIT_OK, gozdrit_sender_free(&sender));
 }
 
-/* The second packet was sent at 1008, and the NACK that shows it comes at 1048: an answer takes 40. Named 19 after its
- * retransmission the first comes too soon, and 31 after that it does not, as half of 40 has passed; by min_resend alone, which
- * is 10, neither does. */
+/* The second packet is sent 40 behind the first, so a path with room for the media alone takes as long for a retransmission.
+ * Named 19 after its retransmission the first comes too soon, as that would be taken for 21 more, and 38 after it it does
+ * not; by min_resend alone, which is 10, both are answered. */
 static void test_waits_for_answers(uint8_t adaptive) {
     gozdrit_sender_config config = CONFIG;
     gozdrit_sender sender = {NULL, 0};
@@ -102,13 +102,13 @@ static void test_waits_for_answers(uint8_t adaptive) {
     ANSWERS(GOZDRIT_OK, gozdrit_sender_set_adaptive(&sender, 1));
     ANSWERS(GOZDRIT_OK, gozdrit_sender_set_adaptive(&sender, adaptive));
     sends(&sender, 1005, 65736);
-    sends(&sender, 1008, 65737);
-    at(&sender, 1048);
+    sends(&sender, 1045, 65737);
+    at(&sender, 1060);
     names(&sender, 200, 0);
-    repeats(&sender, 1048, 65736);
-    at(&sender, 1067);
+    repeats(&sender, 1060, 65736);
+    at(&sender, 1079);
     names(&sender, 200, 0);
-    repeats(&sender, 1067, adaptive ? 0 : 65736);
+    repeats(&sender, 1079, adaptive ? 0 : 65736);
     at(&sender, 1098);
     names(&sender, 200, 0);
     repeats(&sender, 1098, 65736);

@@ -104,11 +104,11 @@ def media_first(checks, stage):
     sender.stop()
 
 
-@on_time(0.03)
+@on_time(0.01)
 def answered(checks, stage, *words, again=0):
-    """A NACK that comes 300 milliseconds behind the packet after the lost one tells that an answer takes so long. Named again 100 after its
-    retransmission the packet is not retransmitted, and 300 after it is; where a time is given for that, it is both times."""
-    name = f"answers on their way {words}"
+    """Between two packets lie 100 milliseconds or more, so a path with room for the media alone takes as long for a retransmission. Named again 30
+    behind one the packet is not retransmitted, and 200 behind it is; where a time is given for that, it is both times."""
+    name = f"answers in a queue {words}"
     far = End(stage)
     sender = stage.send(far.at, "--packets", 2, *words)
     app, at = App(stage, sender.at, ssrc=MEDIA, number=0), ("127.0.0.1", sender.source[1])
@@ -118,23 +118,23 @@ def answered(checks, stage, *words, again=0):
 
     for one in plain(2, 100):
         app.send(one)
-    far.waits_for(2)
-    time.sleep(0.3)
+        time.sleep(0.12)
+    time.sleep(0.2)  # the last packet's own retransmission, as the stream is silent
     far.send(nack(MEDIA, [0]), at)
     checks.count(soon(lambda: repeated() == 1, 2), f"{name}: {repeated()} retransmissions at first")
-    time.sleep(0.1)
+    time.sleep(0.03)
     for _ in range(3):
         far.send(nack(MEDIA, [0]), at)
-    time.sleep(0.1)
-    checks.same(repeated(), 1 + again, f"{name}: retransmissions while an answer is on its way")
-    time.sleep(0.2)
+    time.sleep(0.03)
+    checks.same(repeated(), 1 + again, f"{name}: retransmissions while an answer may wait in a queue")
+    time.sleep(0.14)
     far.send(nack(MEDIA, [0]), at)
     checks.count(soon(lambda: repeated() == 2 + again, 2), f"{name}: {repeated()} retransmissions later")
     ends(checks, name, sender)
     checks.same(sender.counts().get("early"), 3 - again, f"{name}: what was passed over")
 
 
-@on_time(0.03)
+@on_time(0.01)
 def answered_by_rule(checks, stage):
     answered(checks, stage, "--min-resend", "20", again=1)
 

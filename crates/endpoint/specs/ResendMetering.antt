@@ -22,15 +22,15 @@ meter_sent m now = record { interval = option_map (λ i. sent_at i now) m.interv
 abbrev pub meter_resent : ResendMeter → (now : ℕ) → ResendMeter
 meter_resent m now = record { interval = option_map (λ i. resent_at i now) m.interval }
 
-abbrev pub heard_by : (answer : Option ℕ) → ResendInterval → ResendInterval
-heard_by None i = i
-heard_by (Some took) i = heard_after i took
+abbrev pub heard_by : (answer : Option ℕ) → (now : ℕ) → ResendInterval → ResendInterval
+heard_by None now i = i
+heard_by (Some took) now i = heard_after i took now
 
 -- a datagram is heard of an endpoint with such a history, and such moments of its packets
 pub record HearsAnswer (c : Config) (past : Past) (cells : List Times) (octets : List ℕ) (now : ℕ) (i : ResendInterval) (new : Option ResendInterval) : Type 0 where
   pub answer : Option ℕ
   pub tells : TellsAnswer c past cells octets now answer
-  pub heard : new ≡ Some (heard_by answer i)
+  pub heard : new ≡ Some (heard_by answer now i)
 
 abbrev pub HearsTime : Config → Past → List Times → (octets : List ℕ) → (now : ℕ) → (old new : Option ResendInterval) → Type 0
 HearsTime c past cells octets now None new = new ≡ None

@@ -8,8 +8,8 @@ use sender::SenderConfig;
 use stores::History;
 use timing::ResendInterval;
 
-/// What a sending endpoint measures of the path, so that no packet is retransmitted again while the answer to its last retransmission is on
-/// its way ([`timing::ResendInterval`]); or nothing, where a rule is to hold as it is.
+/// What a sending endpoint measures of the path, so that no packet is retransmitted again while the answer to its last retransmission may
+/// wait in a queue ([`timing::ResendInterval`]); or nothing, where a rule is to hold as it is.
 ///
 /// It is handed what its endpoint did: each packet that was sent, each that was retransmitted, and each datagram of the far side, before
 /// the endpoint hears that. Moments are in milliseconds.
@@ -65,7 +65,7 @@ impl ResendMeter {
     {
         if let Some(interval) = &mut self.interval {
             if let Some(answer) = endpoint.answer_time(config, octets, now) {
-                interval.hear(answer);
+                interval.hear(answer, now);
             }
         }
     }

@@ -45,7 +45,7 @@ fn send<'a>(alloc: Global) -> Result<Command<'a>, AllocError> {
             alloc,
             "min-resend",
             "MS",
-            "How soon a packet is retransmitted again, in milliseconds; half of what an answer takes by default, and 10 at least",
+            "How soon a packet is retransmitted again, in milliseconds; 10 by default, and longer where a queue is seen",
         ))?
         .arg(option(
             alloc,

@@ -288,10 +288,14 @@ fn how_long_an_answer_takes(rt: HostRuntime) -> Result<(), Fail> {
     Ok(())
 }
 
-/// The rule that holds where one has 10 milliseconds, once an answer took 65, of which half is 32.
+/// The rule that holds where one has 10 milliseconds. An answer took ten, and then eight times 500: 12, 14, 16, 19, 22, 25, 29 and 33 are told,
+/// of which what is above twice ten counts. A retransmission takes as long as lies between two packets, which is 30.
 #[test]
 fn a_rule_that_follows(rt: HostRuntime) -> Result<(), Fail> {
     let mut endpoint = timely(rt.alloc(), 0, None)?;
+    let Ok(config) = SenderConfig::new(session()?, 1, 5, 3) else {
+        return Err(Fail::from("a good configuration"));
+    };
     let rule = ResendRule {
         min_resend: 10,
         deadline: Some(300),
@@ -300,23 +304,22 @@ fn a_rule_that_follows(rt: HostRuntime) -> Result<(), Fail> {
     let are_sent = sent(&mut endpoint, 0) == Some(1) && sent(&mut endpoint, 30) == Some(2);
     follows.send(0);
     follows.send(30);
-    let before = follows.rule(rule, 95) == rule;
-    let Ok(config) = SenderConfig::new(session()?, 1, 5, 3) else {
-        return Err(Fail::from("a good configuration"));
-    };
-    follows.hear(&endpoint, &config, nack(0x33, 0x11, 0).as_slice(), 95);
-    fixed.hear(&endpoint, &config, nack(0x33, 0x11, 0).as_slice(), 95);
-    let heard = follows.rule(rule, 95)
+    follows.hear(&endpoint, &config, nack(0x33, 0x11, 0).as_slice(), 40);
+    let without_queue = follows.rule(rule, 40) == rule;
+    for _ in 0..8u8 {
+        follows.hear(&endpoint, &config, nack(0x33, 0x11, 0).as_slice(), 530);
+        fixed.hear(&endpoint, &config, nack(0x33, 0x11, 0).as_slice(), 530);
+    }
+    let queued = follows.rule(rule, 530)
         == ResendRule {
-            min_resend: 32,
+            min_resend: 13,
             deadline: Some(300),
         };
-    // A retransmission takes as long as lies between two packets.
-    follows.resend(95);
-    fixed.resend(95);
-    let resent = follows.rule(rule, 95).min_resend == 62
-        && follows.rule(rule, 110).min_resend == 47
-        && follows.rule(rule, 125).min_resend == 32;
-    assert!(rt; are_sent && before && heard && resent && fixed.rule(rule, 95) == rule);
+    follows.resend(530);
+    fixed.resend(530);
+    let resent = follows.rule(rule, 530).min_resend == 43
+        && follows.rule(rule, 545).min_resend == 28
+        && follows.rule(rule, 560).min_resend == 13;
+    assert!(rt; are_sent && without_queue && queued && resent && fixed.rule(rule, 530) == rule);
     Ok(())
 }

@@ -277,26 +277,27 @@ fn what_does_not_fit_the_time_is_passed_over(rt: HostRuntime) -> Result<(), Fail
     Ok(())
 }
 
-/// The second packet leaves at 8, and the NACK that shows it comes at 48: an answer takes 40. The same NACK 19 after the retransmission comes
-/// too soon for one, and 20 after it, which is half of that, it does not; by the rule alone, which has 10, the first is answered.
+/// The second packet leaves 40 behind the first, so a path with room for the media alone takes as long for a retransmission. The same NACK 19 after
+/// one comes too soon, as what left would be taken for 21 more, and 20 after it it does not; by the rule alone, which has 10, the first is
+/// answered.
 #[test]
 fn an_answer_on_its_way_is_waited_for(rt: HostRuntime) -> Result<(), Fail> {
     const COMES: &[Passing] = &[
         (5, Near, APPLICATION, FIRST),
-        (8, Near, APPLICATION, SECOND),
-        (48, Far, FAR, NACK),
-        (67, Far, FAR, NACK),
-        (68, Far, FAR, NACK),
+        (45, Near, APPLICATION, SECOND),
+        (60, Far, FAR, NACK),
+        (79, Far, FAR, NACK),
+        (80, Far, FAR, NACK),
         (90, Near, APPLICATION, SECOND),
     ];
     const LEAVES: &[(usize, Passing)] = &[
-        (2, (48, Far, FAR, REPAIRED_FIRST)),
-        (3, (68, Far, FAR, REPAIRED_AGAIN)),
+        (2, (60, Far, FAR, REPAIRED_FIRST)),
+        (3, (80, Far, FAR, REPAIRED_AGAIN)),
         (4, (90, Far, FAR, SENT_AGAIN)),
     ];
     const LEAVES_BY_RULE: &[(usize, Passing)] = &[
-        (2, (48, Far, FAR, REPAIRED_FIRST)),
-        (3, (67, Far, FAR, REPAIRED_AGAIN)),
+        (2, (60, Far, FAR, REPAIRED_FIRST)),
+        (3, (79, Far, FAR, REPAIRED_AGAIN)),
         (4, (90, Far, FAR, SENT_AGAIN)),
     ];
     let rule = ResendRule {

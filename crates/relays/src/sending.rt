@@ -31,7 +31,7 @@ const SILENT: u64 = 100;
 pub struct SendRelay<H: History> {
     endpoint: TimelyEndpoint<H>,
     config: SenderConfig,
-    /// What it measures of the path, by which no packet is retransmitted again while its answer is on its way.
+    /// What it measures of the path, by which no packet is retransmitted again while its answer may wait in a queue.
     meter: ResendMeter,
     far: SocketAddr,
     stream: Stream,

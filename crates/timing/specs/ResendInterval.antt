@@ -1,11 +1,12 @@
--- How soon a sender may retransmit a packet again: not while the answer to its last retransmission is on its way. (The rule is this
+-- How soon a sender may retransmit a packet again: not while the answer to its last retransmission waits in a queue. (The rule is this
 -- project's own.) Moments and spans are in milliseconds, and where it is said in 4096 parts of one.
 use Rattle.std.specs.Prelude.{ℕ, zero, suc, ◌≤◌, ◌+◌, ◌-◌, ◌*◌, ◌/◌, ◌==◌, List, [], ◌∷◌, max, min, Option, Some, None, if◌then◌else◌}
 use Rattle.timing.specs.Capped.{capped}
+use Rattle.timing.specs.Lately.{greatest_at, seen_at, seen_none}
 use Rattle.timing.specs.declared.resend_interval.ResendInterval.{ResendInterval}
 
 abbrev pub first_resends : ResendInterval
-first_resends = record { answer = None; gap = 0; last = None; busy = 0 }
+first_resends = record { answer = None; idle = seen_none; gap = 0; last = None; busy = 0 }
 
 -- the mean gap, in parts, after a gap of so many milliseconds: the first one, and then 63 parts of 64 of the old mean and one of the gap
 abbrev pub mean_after : (mean gap : ℕ) → ℕ
@@ -30,30 +31,34 @@ abbrev pub answered_after : (answer : Option ℕ) → (took : ℕ) → ℕ
 answered_after None took = took
 answered_after (Some before) took = min took (capped (capped (before + before / 8) + 1))
 
-abbrev pub heard_after : ResendInterval → (took : ℕ) → ResendInterval
-heard_after r took = record r { answer = Some (answered_after r.answer took) }
+abbrev pub heard_after : ResendInterval → (took now : ℕ) → ResendInterval
+heard_after r took now = record r { answer = Some (answered_after r.answer took); idle = seen_at r.idle (60000 - took) now }
+
+-- the least that answers took of late, below a minute
+abbrev pub least_at : ResendInterval → (now : ℕ) → ℕ
+least_at r now = 60000 - greatest_at r.idle now
 
 -- for how long what was retransmitted would still be taken
 abbrev pub queued_at : ResendInterval → (now : ℕ) → ℕ
 queued_at r now = (r.busy - capped (now * 4096)) / 4096
 
--- half of what an answer takes, of which a receiver may have waited the other half for reordering, and for what is still taken
-abbrev pub interval_with : (answer : Option ℕ) → (queued least : ℕ) → ℕ
-interval_with None queued least = least
-interval_with (Some answer) queued least = max least (capped (answer / 2 + queued))
+-- what an answer takes beyond twice the least, and for how long what was retransmitted would still be taken
+abbrev pub interval_with : (answer : Option ℕ) → (idle queued least : ℕ) → ℕ
+interval_with None idle queued least = least
+interval_with (Some answer) idle queued least = max least (capped (answer - 2 * idle + queued))
 
 abbrev pub interval_at : ResendInterval → (least now : ℕ) → ℕ
-interval_at r least now = interval_with r.answer (queued_at r now) least
+interval_at r least now = interval_with r.answer (least_at r now) (queued_at r now) least
 
--- answers took so long, one after another
-abbrev pub answers_heard : ResendInterval → List ℕ → ResendInterval
+-- answers took so long, one after another, each heard at its moment
+abbrev pub answers_heard : ResendInterval → List (ℕ × ℕ) → ResendInterval
 answers_heard r [] = r
-answers_heard r (took ∷ others) = answers_heard (heard_after r took) others
+answers_heard r (took ∷ others) = answers_heard (heard_after r took.0 took.1) others
 
 -- each of them took so long at least
-abbrev pub TakeAtLeast : List ℕ → (least : ℕ) → Type 0
+abbrev pub TakeAtLeast : List (ℕ × ℕ) → (least : ℕ) → Type 0
 TakeAtLeast [] least = Unit {0}
-TakeAtLeast (took ∷ others) least = (least ≤ took) × TakeAtLeast others least
+TakeAtLeast (took ∷ others) least = (least ≤ took.0) × TakeAtLeast others least
 
 -- so many packets were retransmitted at one moment
 unfoldable pub resent_many : ResendInterval → (now many : ℕ) → ResendInterval

@@ -8,7 +8,7 @@ ghost use Rattle.timing.specs.declared.silence.Silence.{Silence};
 ghost use Rattle.timing.specs.AskTimes.{ask_times, answer_of};
 ghost use Rattle.timing.specs.Lately.{greatest_at};
 ghost use Rattle.timing.specs.Playout.{AllOdd, heard_all, heard_at, is_beyond, ms_of, release_at, ticks_of};
-ghost use Rattle.timing.specs.ResendInterval.{answers_heard, heard_after, interval_at, resent_many, TakeAtLeast};
+ghost use Rattle.timing.specs.ResendInterval.{answers_heard, heard_after, interval_at, least_at, resent_many, TakeAtLeast};
 ghost use Rattle.timing.specs.RoundTrip.{doubted, heard_again, heard_at as taken_at, probed};
 ghost use Rattle.timing.specs.Silence.{lead_of};
 ghost use Rattle.timing.specs.Sightings.{Sighting, seen_of, IsInOrder, AreWithin, AreLatelyWithin};
@@ -80,17 +80,22 @@ pub fn packets_leave_as_they_were_sent()
 {}
 
 /// Of how soon a packet is retransmitted again.
-#[tactic(auto, using(crate::proofs::Resends::least_is, crate::proofs::Resends::at_once, crate::proofs::Resends::behind))]
+#[tactic(auto, using(crate::proofs::Resends::least_is, crate::proofs::Resends::at_once, crate::proofs::Resends::beyond, crate::proofs::Resends::free, crate::proofs::Resends::behind))]
 pub fn answers_are_waited_for()
     // Never sooner than it may be.
     ensures least { (r : ResendInterval) (least now : ℕ) → least ≤ interval_at r least now }
+    // And no later where no queue is seen, and what was retransmitted would have been taken.
+    ensures free { (r : ResendInterval) (answer least now : ℕ) → r.answer ≡ Some answer → answer ≤ 2 * least_at r now → r.busy ≤ now * 4096 → now * 4096 < 2 ^ 64
+        → interval_at r least now ≡ least }
+    // What an answer takes beyond twice the least of late is waited for.
+    ensures beyond { (r : ResendInterval) (answer least now : ℕ) → r.answer ≡ Some answer → answer < 2 ^ 64 → answer ≤ 2 * least_at r now + interval_at r least now }
     // An answer that took less counts at once.
-    ensures at_once { (r : ResendInterval) (took : ℕ) → IsSomeAnd (heard_after r took).answer (λ answer. answer ≤ took) }
-    // Eight answers in a row that took longer, as over a queue that fills, double the interval, or raise it to half of what they took.
-    ensures doubled { (r : ResendInterval) (before longer a b c d e f g h least now : ℕ) → r.answer ≡ Some before → longer < 2 ^ 64
+    ensures at_once { (r : ResendInterval) (took now : ℕ) → IsSomeAnd (heard_after r took now).answer (λ answer. answer ≤ took) }
+    // Eight answers in a row that took longer, as over a queue that fills, double what an answer is known to take, or raise it to what they took.
+    ensures doubled { (r : ResendInterval) (before longer : ℕ) (a b c d e f g h : ℕ × ℕ) → r.answer ≡ Some before → longer < 2 ^ 64
         → TakeAtLeast (a ∷ b ∷ c ∷ d ∷ e ∷ f ∷ g ∷ h ∷ []) longer
-        → min longer (2 * before) / 2 ≤ interval_at (answers_heard r (a ∷ b ∷ c ∷ d ∷ e ∷ f ∷ g ∷ h ∷ [])) least now }
-    // Behind packets that left at once it is longer by as many gaps of the media.
+        → IsSomeAnd (answers_heard r (a ∷ b ∷ c ∷ d ∷ e ∷ f ∷ g ∷ h ∷ [])).answer (λ after. min longer (2 * before) ≤ after) }
+    // Behind packets that left at once it is as many mean gaps of the media, once an answer was heard.
     ensures behind { (r : ResendInterval) (answer now many least : ℕ) → r.answer ≡ Some answer → now * 4096 + many * r.gap < 2 ^ 64
-        → answer / 2 + many * r.gap / 4096 < 2 ^ 64 → answer / 2 + many * r.gap / 4096 ≤ interval_at (resent_many r now many) least now }
+        → many * r.gap / 4096 ≤ interval_at (resent_many r now many) least now }
 {}

@@ -1,21 +1,26 @@
 //! How soon a sender may retransmit a packet again.
 ghost use Rattle.std.specs.Prelude.{◌≡◌, ◌<◌};
-ghost use Rattle.timing.specs.ResendInterval.{answered_after, first_resends, heard_after, interval_at, resent_at, sent_at};
+ghost use Rattle.timing.specs.ResendInterval.{answered_after, first_resends, heard_after, interval_at, least_at, resent_at, sent_at};
+
+use crate::lately::Lately;
 
 /// A gap between packets counts up to so many milliseconds, so that a pause is no gap.
 const PAUSE: u64 = 100;
 
+/// The longest time of an answer that is told from longer ones, in milliseconds: a minute.
+const LONGEST: u64 = 60_000;
+
 /// Into so many parts a millisecond is divided, for gaps that are shorter.
 const PARTS: u64 = 4096;
 
-/// How soon a packet that was retransmitted may be retransmitted again, as its sender sees it: what is asked for again while the answer is on
-/// its way is passed over (RFC 6298 and RFC 8985 have it of TCP's segments). Two things say how long that may be.
+/// How soon a packet that was retransmitted may be retransmitted again, as its sender sees it: what is asked for again while its answer waits
+/// in a queue is passed over (RFC 6298 and RFC 8985 have it of TCP's segments). Two things tell of a queue.
 ///
 /// - **A NACK that names a packet for the first time** comes as soon as a later packet shows its loss. How long before that the packet right
-///   behind it was sent is a round trip over the path as it is now, with each queue on the way, and with what the receiver waits for reordering,
-///   which is up to a round trip too (RFC 8985, section 6.2). So half of that is waited for: a receiver asks again a round trip later at the
-///   soonest. A NACK may be late, as one before it was lost, so what is longer than before raises it by an eighth at most (the gain of
-///   RFC 6298, section 2), and what is shorter counts at once.
+///   behind it was sent is a round trip over the path as it is now, with each queue on the way, and with what the receiver waits for reordering
+///   (up to a round trip too: RFC 8985, section 6.2). A NACK may be late, as one before it was lost, so what is longer than before raises
+///   it by an eighth at most (the gain of RFC 6298, section 2), and what is shorter counts at once. What it has beyond twice the least of
+///   the last ten to thirty seconds is a queue: jitter and reordering alone seldom have so much.
 /// - **What left together may fill a queue** before any NACK tells of it. A path that has room for the media alone takes as long for a
 ///   retransmission as lies between two packets of media, on the mean; until it would have taken all that left, an answer may take so much longer.
 ///
@@ -24,6 +29,8 @@ const PARTS: u64 = 4096;
 pub struct ResendInterval {
     /// How long a NACK comes after the packet behind the one that it names was sent.
     answer: Option<u64>,
+    /// By how much the least of those of late is below a minute.
+    idle: Lately,
     /// The mean gap between two packets of media, in parts.
     gap: u64,
     /// The moment at which the last one was sent.
@@ -39,6 +46,7 @@ impl ResendInterval {
     {
         ResendInterval {
             answer: None,
+            idle: Lately::new(),
             gap: 0,
             last: None,
             busy: 0,
@@ -70,11 +78,19 @@ impl ResendInterval {
             .saturating_add(self.gap);
     }
 
-    /// A NACK named a packet for the first time, so long after the one right behind it was sent.
-    pub fn hear(&mut self, answer: u64)
-        ensures { self.new ≡ heard_after self.old answer }
+    /// A NACK named a packet for the first time at the moment `now`, so long after the one right behind it was sent.
+    pub fn hear(&mut self, answer: u64, now: u64)
+        ensures { self.new ≡ heard_after self.old answer now }
     {
         self.answer = Some(answered_after(self.answer, answer));
+        self.idle.see(LONGEST.saturating_sub(answer), now);
+    }
+
+    /// The least of what answers took of late; a minute where none did.
+    fn least(&self, now: u64) -> u64
+        ensures { result ≡ least_at self.now now }
+    {
+        LONGEST.saturating_sub(self.idle.greatest(now))
     }
 
     /// How long after its last retransmission a packet is not retransmitted again at the moment `now`: `least`, or longer.
@@ -85,7 +101,8 @@ impl ResendInterval {
             return least;
         };
         let queued = self.busy.saturating_sub(now.saturating_mul(PARTS)) / PARTS;
-        least.max((answer / 2).saturating_add(queued))
+        let beyond = answer.saturating_sub(2 * self.least(now));
+        least.max(beyond.saturating_add(queued))
     }
 }
 

@@ -13,25 +13,40 @@ fn each_ten() -> ResendInterval {
 
 #[test]
 fn answers_that_took_longer(_rt: HostRuntime) -> Result<(), Fail> {
-    // How long an answer took, and the interval then, where it is ten at least: half of 50, of 57, which is an eighth longer and one, of 65
-    // and of 74, and of what is shorter at once.
+    // How long an answer took, and the interval then, where it is ten at least. 40, and then an eighth longer and one each time: 46, 52, 59, 67,
+    // 76, 86, 97, 110 and 124, of which what is above twice 40 counts; and what is shorter at once.
     let rows = [
-        (50, 25),
-        (200, 28),
-        (200, 32),
-        (200, 37),
-        (70, 35),
-        (3, 10),
-        // Four, by an eighth and one, and five.
-        (200, 10),
-        (200, 10),
+        (40, 10),
+        (300, 10),
+        (300, 10),
+        (300, 10),
+        (300, 10),
+        (300, 10),
+        (300, 10),
+        (300, 17),
+        (300, 30),
+        (300, 44),
+        (100, 20),
+        (45, 10),
+        // From 30 on twice that is 60: 34, 39, 44, 50, 57 and 65.
+        (30, 10),
+        (300, 10),
+        (300, 10),
+        (300, 10),
+        (300, 10),
+        (300, 10),
+        (300, 10),
+        // 74
+        (300, 14),
     ];
     let mut interval = each_ten();
     let mut are_right = interval.at(10, 990) == 10;
     for (took, told) in rows {
-        interval.hear(took);
+        interval.hear(took, 990);
         are_right = are_right && interval.at(10, 990) == told;
     }
+    // The least is forgotten after thirty seconds.
+    are_right = are_right && interval.at(10, 19989) == 14 && interval.at(10, 30990) == 10;
     if are_right {
         Ok(())
     } else {
@@ -42,17 +57,17 @@ fn answers_that_took_longer(_rt: HostRuntime) -> Result<(), Fail> {
 #[test]
 fn what_left_together(_rt: HostRuntime) -> Result<(), Fail> {
     let mut interval = each_ten();
-    interval.hear(40);
+    interval.hear(40, 1000);
     // Five at once take five gaps, and the next one is behind them.
     for _ in 0..5u8 {
         interval.resend(1000);
     }
-    let five = interval.at(10, 1000) == 70 && interval.at(10, 1020) == 50;
+    let five = interval.at(10, 1000) == 50 && interval.at(10, 1020) == 30;
     interval.resend(1020);
-    let six = interval.at(10, 1020) == 60 && interval.at(10, 1060) == 20;
+    let six = interval.at(10, 1020) == 40 && interval.at(10, 1060) == 10;
     // Later nothing is behind them any more.
     interval.resend(2000);
-    let later = interval.at(10, 2000) == 30 && interval.at(60, 2000) == 60;
+    let later = interval.at(5, 2000) == 10 && interval.at(60, 2000) == 60;
     if five && six && later {
         Ok(())
     } else {
@@ -68,12 +83,12 @@ fn a_pause_is_no_gap(_rt: HostRuntime) -> Result<(), Fail> {
     interval.send(5990);
     interval.resend(6000);
     let before = interval.at(10, 6000) == 10;
-    interval.hear(40);
-    let one = interval.at(10, 6000) == 31;
+    interval.hear(40, 6000);
+    let one = interval.at(10, 6000) == 11;
     for _ in 0..9u8 {
         interval.resend(6000);
     }
-    let ten = interval.at(10, 6000) == 134;
+    let ten = interval.at(10, 6000) == 114;
     if before && one && ten {
         Ok(())
     } else {

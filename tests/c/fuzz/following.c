@@ -1,7 +1,7 @@
 /* The model of a sender whose rule follows the path (docs/PROTOCOL.md, "The sender's history", 7): in sums that stop at 2^64 - 1. */
 #include "sender.h"
 
-enum { PARTS = 4096, PAUSE = 100 };
+enum { PARTS = 4096, PAUSE = 100, SPAN = 10000, MINUTE = 60000 };
 
 static uint64_t sum(uint64_t one, uint64_t other) { return one > UINT64_MAX - other ? UINT64_MAX : one + other; }
 
@@ -35,6 +35,15 @@ void follow_resend(struct sender *it) {
     path->busy = sum(path->busy > now ? path->busy : now, path->gap);
 }
 
+/* What is remembered of the last ten to thirty seconds turns, once ten have passed. */
+static void turn(struct path *path, uint64_t now) {
+    uint64_t span = above(now, path->since);
+    if (span < SPAN) return;
+    path->most_before = span < 2 * SPAN ? path->most : 0;
+    path->most = 0;
+    path->since = now;
+}
+
 /* The packet of this number was named last by NACKs of the session, before which it was neither named nor retransmitted. */
 void follow_hear(struct sender *it, uint64_t sequence) {
     struct path *path = &it->path;
@@ -44,12 +53,17 @@ void follow_hear(struct sender *it, uint64_t sequence) {
     most = sum(sum(path->answer, path->answer / 8), 1);
     path->answer = path->has_answer && took > most ? most : took;
     path->has_answer = true;
+    turn(path, it->now);
+    if (path->most < above(MINUTE, took)) path->most = above(MINUTE, took);
 }
 
 uint64_t min_resend(const struct sender *it) {
+    struct path then = it->path;
     const struct path *path = &it->path;
-    uint64_t span;
+    uint64_t span, least;
     if (!path->is_followed || !path->has_answer) return it->config.min_resend;
-    span = sum(path->answer / 2, above(path->busy, times(it->now, PARTS)) / PARTS);
+    turn(&then, it->now);
+    least = MINUTE - (then.most > then.most_before ? then.most : then.most_before);
+    span = sum(above(path->answer, 2 * least), above(path->busy, times(it->now, PARTS)) / PARTS);
     return span > it->config.min_resend ? span : it->config.min_resend;
 }

@@ -17,11 +17,12 @@ struct kept {
     uint8_t datagram[GOZDRIT_MAX_DATAGRAM];
 };
 
-/* What is measured of the path, where the rule follows it: how long an answer takes, the mean gap between packets and when the last one
- * was sent, and until when retransmissions are being taken; the gap and that in 4096 parts of a millisecond. */
+/* What is measured of the path, where the rule follows it: how long an answer takes; by how much the least of late is below a minute, since
+ * a moment and in the span before; the mean gap between packets and when the last one was sent, and until when retransmissions
+ * are being taken, the gap and that in 4096 parts of a millisecond. */
 struct path {
     bool is_followed, has_answer, has_sent;
-    uint64_t answer, gap, last, busy;
+    uint64_t answer, most, most_before, since, gap, last, busy;
 };
 
 struct sender {
