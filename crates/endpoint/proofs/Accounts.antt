@@ -2,7 +2,7 @@
 use Rattle.std.proofs.Common.{◌≡◌, ℕ, zero, suc, ◌+◌, ◌-◌, ◌%◌, ◌<◌, ◌≤◌, ◌^◌, ◌&&◌, Bool, true, false, nat_lt, List, [], ◌∷◌, length, Option, Some, None, Result, Ok, Err, refl, sym, ap, subst, ◌∙◌, inl, inr, arith, if◌then◌else◌}
 use Rattle.std.specs.Prelude.{IsSome, IsSomeAnd}
 use Rattle.std.specs.List.{sum_by}
-use Rattle.std.specs.Option.{ForSome, option_map, unwrap_or}
+use Rattle.std.specs.Option.{ForSome, option_map}
 use Rattle.std.proofs.lemmas.Bool.Decides.{nat_tests}
 use Rattle.std.proofs.lemmas.List.Sums.{sum_by-cons}
 use Rattle.std.proofs.lemmas.Option.{none-some, same_Some}
@@ -121,12 +121,12 @@ takes_so (Some s) (Some j) None taken passed passed' slots slots' at moved above
 takes_so (Some s) (Some j) (Some k) taken passed passed' slots slots' at moved above so = (omega (arith, at.0, moved, so), (above k refl).0)
 
 -- a stream that goes on behind a jump
-between : (d : ℕ) → IsSome (skipped_by d) → unwrap_or (skipped_by d) 0 + 1 ≡ d
-between d some = by (nat_lt 0 d && nat_lt d 32768) refl some
+between : (d : ℕ) → 0 < skipped_by d → skipped_by d + 1 ≡ d
+between d some = by (nat_lt d 32768) some
   where
-    by : (b : Bool) → (nat_lt 0 d && nat_lt d 32768) ≡ b → IsSome (if b then Some (d - 1) else None) → unwrap_or (if b then Some (d - 1) else None) 0 + 1 ≡ d
-    by false so some = absurd cc
-    by true so some = grind (arith, nat_tests, so)
+    by : (b : Bool) → 0 < (if b then d - 1 else 0) → (if b then d - 1 else 0) + 1 ≡ d
+    by false some = absurd (omega (arith, some))
+    by true some = omega (arith, some)
 
 overrun_within : (old : Option ℕ) (k : ℕ) (taken : Taken) → Moved old taken (Some k) → taken.overrun ≤ k
 overrun_within None k taken moved = omega (arith, moved.1)
@@ -137,12 +137,12 @@ lands : (s k slots k' overrun passed passed' skipped : ℕ) → k % 65536 ≡ (s
 lands s k slots k' overrun passed passed' skipped at above within so is = omega arith
 
 jumps_so : (start cursor before cursor' : Option ℕ) (taken : Taken) (passed passed' slots slots' : ℕ) → IsAt start cursor passed slots → Moved before taken cursor' → Above cursor' slots'
-    → let skipped : Option ℕ = skipped_at (option_map (λ k. k + slots - 1) cursor) cursor' taken.overrun in
-    IsSome skipped → passed' ≡ taken.overrun + slots + unwrap_or skipped 0 + passed → IsAt start cursor' passed' slots'
-jumps_so None None before cursor' taken passed passed' slots slots' at moved above some so = absurd cc
+    → let skipped : ℕ = skipped_at (option_map (λ k. k + slots - 1) cursor) cursor' taken.overrun in
+    0 < skipped → passed' ≡ taken.overrun + slots + skipped + passed → IsAt start cursor' passed' slots'
+jumps_so None None before cursor' taken passed passed' slots slots' at moved above some so = absurd (omega (arith, some))
 jumps_so None (Some k) before cursor' taken passed passed' slots slots' at moved above some so = absurd at
 jumps_so (Some s) None before cursor' taken passed passed' slots slots' at moved above some so = absurd at
-jumps_so (Some s) (Some k) before None taken passed passed' slots slots' at moved above some so = absurd cc
+jumps_so (Some s) (Some k) before None taken passed passed' slots slots' at moved above some so = absurd (omega (arith, some))
 jumps_so (Some s) (Some k) before (Some k') taken passed passed' slots slots' at moved above some so =
     (lands s k slots k' taken.overrun passed passed' _ at.0 at.1 (overrun_within before k' taken moved) (between (ahead (k + slots - 1) ((k' - taken.overrun) % 65536)) some) so, (above k' refl).0)
 
@@ -193,8 +193,8 @@ module _ (start : Option ℕ) (before : List Event) (octets : List ℕ) (now : �
   restart_sum : (total overrun kept slots skipped n : ℕ) → total ≡ (0 + 0 + overrun + kept + skipped) + n → kept ≡ slots → total ≡ overrun + slots + skipped + n
   restart_sum total overrun kept slots skipped n is same = omega arith
 
-  has_cursor : (cursor other : Option ℕ) (slots overrun : ℕ) → IsSome (skipped_at (option_map (λ k. k + slots - 1) cursor) other overrun) → IsSome cursor
-  has_cursor None other slots overrun some = absurd cc
+  has_cursor : (cursor other : Option ℕ) (slots overrun : ℕ) → 0 < skipped_at (option_map (λ k. k + slots - 1) cursor) other overrun → IsSome cursor
+  has_cursor None other slots overrun some = absurd (omega (arith, some))
   has_cursor (Some k) other slots overrun some = refl
 
   counted : (more : Bool) (old : Ends) (spare mid : Receiving) (run : Run) (seq : ℕ) (taken : Taken) (plain : List ℕ) (answer : Result Heard ReceiveFault) (new : Ends)

@@ -1,12 +1,12 @@
 -- A stream whose numbers go on, and how many of them became what, told by an endpoint's answers alone.
-use Rattle.std.specs.Prelude.{ℕ, ◌+◌, List, [], ◌∷◌, Option, Some, None, IsSome, Ok}
+use Rattle.std.specs.Prelude.{ℕ, ◌+◌, ◌<◌, List, [], ◌∷◌, Option, Some, None, Ok}
 use Rattle.endpoint.specs.declared.heard.Heard.TheVariants.{Media, Repair, Restarted}
 use Rattle.endpoint.specs.Events.{Event, heard, begun_at, restarted_by_call}
 use Rattle.endpoint.specs.Tally.{abandoned_in, gaps_in, overrun_in, played_in, skipped_in}
 
--- The numbers go on over this event: it is no restart by call, and none with which they are others.
+-- The numbers go on over this event: it is no restart by call, and none with which they are others, which has passed over nothing.
 abbrev pub GoesOn : Event → Type 0
-GoesOn (heard octets now (Ok (Restarted restart))) = IsSome restart.skipped
+GoesOn (heard octets now (Ok (Restarted restart))) = 0 < restart.skipped
 GoesOn restarted_by_call = ⊥
 GoesOn event = Unit {0}
 

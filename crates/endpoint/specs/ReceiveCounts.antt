@@ -1,6 +1,5 @@
 -- What a receiving endpoint counts for each answer that it gives.
 use Rattle.std.specs.Prelude.{◌≡◌, ℕ, List, length, Option, Some, None, Result, Ok, Err}
-use Rattle.std.specs.Option.{unwrap_or}
 use Rattle.arrayvec.specs.ArrayVec.{ArrayVec}
 use Rattle.rtpwire.specs.declared.fault.TooShort.{TooShort}
 use Rattle.places.specs.declared.nearness.PlaceFault.TheVariants.{Far}
@@ -23,7 +22,7 @@ count_heard (Ok (heard.Media taken)) c = record c { media = more c.media 1; over
 count_heard (Ok (heard.Repair taken)) c = record c { retransmissions = more c.retransmissions 1; overrun = more c.overrun taken.overrun }
 count_heard (Ok (heard.HeldBack held)) c = record c { held_back = more c.held_back 1 }
 count_heard (Ok (heard.Restarted r)) c =
-    record c { restarts = more c.restarts 1; overrun = more c.overrun r.taken.overrun; abandoned = more c.abandoned r.abandoned; skipped = more c.skipped (unwrap_or r.skipped 0) }
+    record c { restarts = more c.restarts 1; overrun = more c.overrun r.taken.overrun; abandoned = more c.abandoned r.abandoned; skipped = more c.skipped r.skipped }
 count_heard (Err (refused.Put Duplicate)) c = record c { duplicate = more c.duplicate 1 }
 count_heard (Err (refused.Put Late)) c = record c { late = more c.late 1 }
 count_heard (Err (refused.Place Far)) c = record c { far = more c.far 1 }

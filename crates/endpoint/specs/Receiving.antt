@@ -94,14 +94,14 @@ kept_in s = kept_at s.cursor s
 
 -- How many numbers lie between one and another that lies so far ahead of it, modulo 65536. From half a cycle on it lies behind, and
 -- nothing lies between.
-abbrev pub skipped_by : (distance : ℕ) → Option ℕ
-skipped_by distance = if nat_lt 0 distance && nat_lt distance 32768 then Some (distance - 1) else None
+abbrev pub skipped_by : (distance : ℕ) → ℕ
+skipped_by distance = if nat_lt distance 32768 then distance - 1 else 0
 
 -- How many packets a jump passed over (RFC 3550, appendix A.3, counts them as lost): from the highest place before it to the first one
 -- that the window behind it kept before its last packet, which dropped so many.
-abbrev pub skipped_at : (highest cursor : Option ℕ) → (overrun : ℕ) → Option ℕ
-skipped_at None cursor overrun = None
-skipped_at (Some h) None overrun = None
+abbrev pub skipped_at : (highest cursor : Option ℕ) → (overrun : ℕ) → ℕ
+skipped_at None cursor overrun = 0
+skipped_at (Some h) None overrun = 0
 skipped_at (Some h) (Some k) overrun = skipped_by (ahead h ((k - overrun) % 65536))
 
 -- a receiver that took nothing
@@ -111,7 +111,7 @@ fresh config capacity = record { config = config; span = empty_span capacity; le
 -- What becomes of a packet that the spare receiver was handed. Refused, it ends what was held back. Taken, it is held back with
 -- the others, or it is the last that was wanted: then the spare receiver, which has all of them, takes the place of the other.
 -- (The tests stand as functions of what they decide.)
-abbrev pub held_answer : Bool → Taken → (held abandoned : ℕ) → (skipped : Option ℕ) → Heard
+abbrev pub held_answer : Bool → Taken → (held abandoned skipped : ℕ) → Heard
 held_answer more taken held abandoned skipped =
     if more then heard.HeldBack held else heard.Restarted (record { taken = taken; held = held; abandoned = abandoned; skipped = skipped })
 

@@ -2,7 +2,6 @@
 -- counts, or the sum of what they say. A refusal is told by its number.
 use Rattle.std.specs.Prelude.{ℕ, ◌==◌, ◌||◌, Bool, List, Some, Ok, Err, if◌then◌else◌}
 use Rattle.std.specs.List.{sum_by}
-use Rattle.std.specs.Option.{unwrap_or}
 use Rattle.receiver.specs.declared.answer.Played.TheVariants.{Packet, Gap}
 use Rattle.receiver.specs.Fault.{receive_number}
 use Rattle.endpoint.specs.declared.heard.Heard.TheVariants.{Control, Media, Repair, HeldBack, Restarted}
@@ -56,7 +55,7 @@ abandoned_in (heard octets now (Ok (Restarted restart))) = restart.abandoned
 abandoned_in event = 0
 
 abbrev pub skipped_in : Event → ℕ
-skipped_in (heard octets now (Ok (Restarted restart))) = unwrap_or restart.skipped 0
+skipped_in (heard octets now (Ok (Restarted restart))) = restart.skipped
 skipped_in event = 0
 
 abbrev pub played_in : Event → ℕ

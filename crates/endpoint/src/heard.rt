@@ -23,9 +23,10 @@ pub struct Restart {
     pub taken: Taken,
     /// How many packets the stream restarted with, this one included.
     pub held: u32,
+    /// How many sequence numbers of the stream lie between the highest place before and the first one that is kept now: the packets that
+    /// the jump passed over. 0: none does, or that one lies half a cycle or more ahead, which is behind, and the numbers are others. (It is
+    /// no option, and stands beside `held`, since each answer to a datagram is as long as this.)
+    pub skipped: u32,
     /// How many places of the stream before were left that were neither played nor given up. They are gone.
     pub abandoned: u64,
-    /// How many sequence numbers of the stream lie between the highest place before and the first one that is kept now: the packets that
-    /// the jump passed over. None: that one lies half a cycle or more ahead, which is behind, and the numbers are others.
-    pub skipped: Option<u64>,
 }

@@ -206,29 +206,33 @@ fn count_held<W: Window>(
     Heard::Restarted(Restart {
         taken,
         held,
-        abandoned,
         skipped,
+        abandoned,
     })
 }
 
 /// How many numbers lie between the highest place of one receiver and the first one that another kept before its last packet, which
 /// dropped so many.
-fn skipped_over<W: Window>(before: &Receiver<W>, after: &Receiver<W>, overrun: u64) -> Option<u64>
+fn skipped_over<W: Window>(before: &Receiver<W>, after: &Receiver<W>, overrun: u64) -> u32
     ensures { result ≡ skipped_at (highest_of before.now.span) after.now.span.cursor overrun }
 {
-    let highest = before.window().highest()?;
-    let first = after.window().cursor()?.saturating_sub(overrun);
-    skipped_by(((first % 65536) as u16).wrapping_sub(highest.number()))
+    match (before.window().highest(), after.window().cursor()) {
+        (Some(highest), Some(cursor)) => {
+            let first = cursor.saturating_sub(overrun);
+            skipped_by(((first % 65536) as u16).wrapping_sub(highest.number()))
+        }
+        _ => 0,
+    }
 }
 
 /// How many numbers lie between one and another that lies so far ahead of it, modulo 65536.
-fn skipped_by(distance: u16) -> Option<u64>
+fn skipped_by(distance: u16) -> u32
     ensures { result ≡ skipped_by distance }
 {
-    if 0 < distance && distance < HALF_CYCLE {
-        Some(u64::from(distance) - 1)
+    if distance < HALF_CYCLE {
+        u32::from(distance.saturating_sub(1))
     } else {
-        None
+        0
     }
 }
 

@@ -99,7 +99,7 @@ impl ReceiveCounts {
                 add(&mut self.restarts, 1);
                 add(&mut self.overrun, restart.taken.overrun);
                 add(&mut self.abandoned, restart.abandoned);
-                add(&mut self.skipped, restart.skipped.unwrap_or(0));
+                add(&mut self.skipped, u64::from(restart.skipped));
             }
         }
     }

@@ -125,7 +125,7 @@ impl Counts {
                 add(&mut self.restarts, 1);
                 add(&mut self.overrun, restart.taken.overrun);
                 add(&mut self.abandoned, restart.abandoned);
-                add(&mut self.skipped, restart.skipped.unwrap_or(0));
+                add(&mut self.skipped, u64::from(restart.skipped));
             }
             Ok(Heard::Control | Heard::HeldBack(_)) => {}
             Err(_) => self.refuse(kind),

@@ -106,7 +106,7 @@ impl Journal {
                 self.count(now, b"restarted", restart.taken.place.value());
                 self.leave_behind(now, b"overrun", restart.taken.overrun);
                 self.leave_behind(now, b"abandoned", restart.abandoned);
-                self.leave_behind(now, b"skipped", restart.skipped.unwrap_or(0));
+                self.leave_behind(now, b"skipped", u64::from(restart.skipped));
             }
             Ok(Heard::Control) => {}
             Err(fault) => self.count(now, refused_as(kind), u64::from(fault.number())),

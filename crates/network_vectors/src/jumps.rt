@@ -7,7 +7,7 @@ use std::test::Fail;
 use stores::RingWindow;
 
 /// How many packets a restart says that its jump passed over. Nothing where there is no restart.
-fn skipped_by(heard: Result<Heard, ReceiveFault>) -> Option<Option<u64>> {
+fn skipped_by(heard: Result<Heard, ReceiveFault>) -> Option<u32> {
     match heard {
         Ok(Heard::Restarted(restart)) => Some(restart.skipped),
         _ => None,
@@ -20,7 +20,7 @@ fn jumped(
     from: u16,
     to: u16,
     many: u16,
-) -> Result<(Option<Option<u64>>, u64), Fail> {
+) -> Result<(Option<u32>, u64), Fail> {
     let made = ReceivingEndpoint::<RingWindow>::new(
         alloc,
         config(1000, 0, 20, 3)?,
@@ -41,7 +41,7 @@ fn jumped(
 
 /// The number that came last, the first one behind it, how many come in sequence from there on, how many packets the restart says that
 /// lie between, and how many are counted.
-type Row = (u16, u16, u16, Option<Option<u64>>, u64);
+type Row = (u16, u16, u16, Option<u32>, u64);
 
 /// Up to the bound of 3000 nothing restarts. From there on what lies between is told, up to half a cycle; and behind that nothing is, as
 /// the numbers are others.
@@ -50,15 +50,15 @@ fn what_a_jump_passes_over(rt: HostRuntime) -> Result<(), Fail> {
     const ROWS: &[Row] = &[
         (100, 3099, 1, None, 0),
         (100, 3100, 1, None, 0),
-        (100, 3100, 2, Some(Some(2999)), 2999),
-        (100, 12605, 2, Some(Some(12504)), 12504),
-        (0, 32767, 2, Some(Some(32766)), 32766),
+        (100, 3100, 2, Some(2999), 2999),
+        (100, 12605, 2, Some(12504), 12504),
+        (0, 32767, 2, Some(32766), 32766),
         (0, 32768, 2, None, 0),
-        (0, 32768, 256, Some(None), 0),
-        (60000, 1000, 2, Some(Some(6535)), 6535),
-        (60000, 27231, 2, Some(Some(32766)), 32766),
-        (60000, 27232, 256, Some(None), 0),
-        (20000, 10000, 256, Some(None), 0),
+        (0, 32768, 256, Some(0), 0),
+        (60000, 1000, 2, Some(6535), 6535),
+        (60000, 27231, 2, Some(32766), 32766),
+        (60000, 27232, 256, Some(0), 0),
+        (20000, 10000, 256, Some(0), 0),
     ];
     for (from, to, many, told, counted) in ROWS {
         assert_eq!(rt; jumped(rt.alloc(), *from, *to, *many)?, (*told, *counted));
@@ -71,7 +71,7 @@ fn what_a_jump_passes_over(rt: HostRuntime) -> Result<(), Fail> {
 fn told_of(
     alloc: Global,
     packets: &[(u16, u64)],
-) -> Result<(Option<Option<u64>>, u64, u64, u64), Fail> {
+) -> Result<(Option<u32>, u64, u64, u64), Fail> {
     let Ok(probation) = Probation::new(10, 5, 2, 6) else {
         return Err(Fail::from("a good probation"));
     };
@@ -105,7 +105,7 @@ fn what_comes_behind_the_first_one(rt: HostRuntime) -> Result<(), Fail> {
     ];
     assert_eq!(rt;
         told_of(rt.alloc(), PACKETS)?,
-        (Some(Some(19899)), 19899, 0, 2)
+        (Some(19899), 19899, 0, 2)
     );
     Ok(())
 }
@@ -125,7 +125,7 @@ fn what_is_dropped_while_it_is_held_back(rt: HostRuntime) -> Result<(), Fail> {
     ];
     assert_eq!(rt;
         told_of(rt.alloc(), PACKETS)?,
-        (Some(Some(4900)), 4900, 1, 1)
+        (Some(4900), 4900, 1, 1)
     );
     Ok(())
 }

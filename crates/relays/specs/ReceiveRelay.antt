@@ -1,6 +1,6 @@
 -- The relay behind a network that loses: what it does with what comes, and what it does of its own. Each case of what it notes has
 -- its equation, and what stands nowhere is never done.
-use Rattle.std.specs.Prelude.{◌≡◌, ℕ, ◌&&◌, max, min, Bool, true, false, List, Option, Some, None, Result, Ok}
+use Rattle.std.specs.Prelude.{◌≡◌, ℕ, zero, suc, ◌&&◌, max, min, Bool, true, false, List, Option, Some, None, Result, Ok}
 use Rattle.std.specs.declared.net.socket_addr.SocketAddr.{SocketAddr}
 use Rattle.arrayvec.specs.ArrayVec.{ArrayVec}
 use Rattle.rtpwire.specs.Rtp.{RtpSpells}
@@ -108,9 +108,9 @@ is_done s now = is_over s.bounds (more s.counts.played s.counts.gaps) s.last now
 
 -- Where a stream restarts behind, with other numbers, those of what is played go on. Ahead they keep their distance, and what the jump
 -- passed over is a hole, as is what the restart left behind.
-abbrev pub numbering_over : (skipped : Option ℕ) → Numbering → Numbering
-numbering_over None n = anew n
-numbering_over (Some many) n = n
+abbrev pub numbering_over : (skipped : ℕ) → Numbering → Numbering
+numbering_over zero n = anew n
+numbering_over (suc more) n = n
 
 abbrev pub numbering_after : Result Heard ReceiveFault → Numbering → Numbering
 numbering_after (Ok (heard.Restarted r)) n = numbering_over r.skipped n

@@ -1,5 +1,5 @@
 //! Laws of a pace, and of the player's numbers. These functions compute nothing: their contracts are the laws.
-ghost use Rattle.std.specs.Prelude.{◌≡◌, ◌+◌, ◌-◌, ◌*◌, ◌%◌, ◌^◌, ◌<◌, ◌≤◌, ℕ, List, Some, None, Ok, false, true, sum};
+ghost use Rattle.std.specs.Prelude.{◌≡◌, ◌+◌, ◌-◌, ◌*◌, ◌%◌, ◌^◌, ◌<◌, ◌≤◌, ℕ, List, Ok, false, true, sum};
 ghost use Rattle.endpoint.specs.declared.heard.Heard.TheVariants.{Restarted};
 ghost use Rattle.endpoint.specs.declared.heard.Restart.{Restart};
 ghost use Rattle.relays.specs.Numbering.{numbered, numbered_after};
@@ -29,9 +29,9 @@ pub fn bursts_leave_at_once()
 pub fn jumps_are_holes()
     // Where a stream jumps ahead, the number of the next packet lies as far ahead of that of the last one as its place does: by what was
     // left behind, given up, overrun or passed over between them, and one.
-    ensures ahead { (n : Numbering) (restart : Restart) (skipped last place hole : ℕ) → restart.skipped ≡ Some skipped → place % 65536 ≡ (last + 1 + hole) % 65536
+    ensures ahead { (n : Numbering) (restart : Restart) (last place hole : ℕ) → 0 < restart.skipped → place % 65536 ≡ (last + 1 + hole) % 65536
         → numbered (numbering_after (Ok (Restarted restart)) (numbered_after n last)) place ≡ (numbered n last + 1 + hole) % 65536 }
     // Where it restarts behind, it is the next one.
-    ensures behind { (n : Numbering) (restart : Restart) (last place : ℕ) → restart.skipped ≡ None
+    ensures behind { (n : Numbering) (restart : Restart) (last place : ℕ) → restart.skipped ≡ 0
         → numbered (numbering_after (Ok (Restarted restart)) (numbered_after n last)) place ≡ (numbered n last + 1) % 65536 }
 {}

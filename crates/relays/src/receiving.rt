@@ -382,7 +382,7 @@ fn renumber(numbering: &mut Numbering, answer: &Result<Heard, ReceiveFault>)
     ensures { numbering.new ≡ numbering_after answer.now numbering.old }
 {
     if let Ok(Heard::Restarted(restart)) = answer {
-        if restart.skipped.is_none() {
+        if restart.skipped == 0 {
             numbering.restart();
         }
     }
