@@ -393,6 +393,7 @@ typedef struct gozdrit_receive_counts {
     uint64_t gaps;            /* packets that were given up */
     uint64_t nacks;           /* that were made */
     uint64_t nacked;          /* packets that they named, each as often as it was */
+    uint64_t skipped;         /* since 2.1: packets that jumps of the stream passed over, up to 32766 at a time; lost for good */
 } gozdrit_receive_counts;
 
 /*
@@ -446,7 +447,7 @@ typedef struct gozdrit_packet {
 #define GOZDRIT_OUTCOME_INIT {sizeof(gozdrit_outcome), 0, 0, 0, 0, 0, 0, 0, 0}
 #define GOZDRIT_PLAYED_INIT {sizeof(gozdrit_played), 0, 0, {0, {0}, {0}, 0, 0, 0, 0, 0}, 0}
 #define GOZDRIT_TIMES_INIT {sizeof(gozdrit_times), 0, 0, 0, 0, 0}
-#define GOZDRIT_RECEIVE_COUNTS_INIT {sizeof(gozdrit_receive_counts), 0, 0, 0, 0, 0, 0, 0, 0, 0, 0, 0, 0, 0, 0, 0}
+#define GOZDRIT_RECEIVE_COUNTS_INIT {sizeof(gozdrit_receive_counts), 0, 0, 0, 0, 0, 0, 0, 0, 0, 0, 0, 0, 0, 0, 0, 0}
 #define GOZDRIT_PROBE_COUNTS_INIT {sizeof(gozdrit_probe_counts), 0, 0, 0, 0, 0}
 #define GOZDRIT_SEND_COUNTS_INIT {sizeof(gozdrit_send_counts), 0, 0, 0, 0, 0, 0, 0, 0, 0, 0, 0, 0, 0}
 

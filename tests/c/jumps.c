@@ -32,7 +32,7 @@ static void test_ahead(void) {
     HEARS_MEDIA(&r, 101, 5, HELD_BACK(1)); /* the numbers of before have jumped now */
     HEARS_MEDIA(&r, 100, 5, NOT_HEARD(GOZDRIT_LATE)); /* what was taken before begins nothing */
     CHECK(is_counted(&r, (gozdrit_receive_counts){.media = 2, .held_back = 3, .restarts = 1, .late = 1, .overrun = 2983,
-                                                  .abandoned = 16, .played = 3, .nacks = 1, .nacked = 1}));
+                                                  .abandoned = 16, .played = 3, .nacks = 1, .nacked = 1, .skipped = 2999}));
     ANSWERS(GOZDRIT_OK, gozdrit_receiver_free(&r));
 }
 
@@ -124,7 +124,8 @@ static void test_twice(void) {
     ANSWERS(GOZDRIT_OK, gozdrit_receiver_free(&r));
 }
 
-/* A run of more than the window keeps: its last packets are what is left of it, and its own losses are not counted. */
+/* A run of more than the window keeps: its last packets are what is left of it. What it dropped before is passed over with the jump: 101 to
+ * 5002. */
 static void test_long_run(void) {
     gozdrit_receiver_config config = CONFIG;
     config.min_sequential_ahead = 20;
@@ -135,7 +136,7 @@ static void test_long_run(void) {
                     .kind = GOZDRIT_RESTARTED, .sequence = 70555, .overrun = 1, .abandoned = 1, .held_back = 20});
     TELLS(&r, 70540, 70555, 0);
     CHECK(is_counted(&r, (gozdrit_receive_counts){.media = 1, .held_back = 19, .restarts = 1, .overrun = 1,
-                                                  .abandoned = 1}));
+                                                  .abandoned = 1, .skipped = 4902}));
     ANSWERS(GOZDRIT_OK, gozdrit_receiver_free(&r));
 }
 
@@ -216,7 +217,8 @@ static void test_counts(void) {
     HEARS_MEDIA(&r, 30001, 100, RESTARTED(95537, 2, 16));
     CHECK(is_counted(&r, (gozdrit_receive_counts){.media = 3, .retransmissions = 2, .held_back = 1, .restarts = 1,
                                                   .duplicate = 2, .late = 1, .too_far = 2, .refused = 1, .overrun = 22,
-                                                  .abandoned = 16, .played = 2, .gaps = 1, .nacks = 2, .nacked = 2}));
+                                                  .abandoned = 16, .played = 2, .gaps = 1, .nacks = 2, .nacked = 2,
+                                                  .skipped = 29859}));
     ANSWERS(GOZDRIT_OK, gozdrit_receiver_free(&r));
 }
 

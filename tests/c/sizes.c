@@ -65,6 +65,7 @@ typedef struct call {
     const char *name;
     int32_t (*make)(const beside *b, void *lent);
     size_t size;            /* of the struct */
+    size_t least;           /* what it had in version 2.0 */
     size_t front;           /* so many of its octets are of fields, and none lies between two */
     size_t last;            /* where the last octet of a field lies */
     const void *init;       /* what the macro of the struct makes */
@@ -133,8 +134,10 @@ static const gozdrit_probe_counts PROBE_COUNTS = GOZDRIT_PROBE_COUNTS_INIT;
 static const gozdrit_send_counts SEND_COUNTS = GOZDRIT_SEND_COUNTS_INIT;
 
 /* The octets of a struct: all of them are of fields, or those up to its last field, which has one octet. */
-#define WHOLE(type) sizeof(type), sizeof(type), sizeof(type) - 1
-#define UP_TO(type, field) sizeof(type), offsetof(type, field) + 1, offsetof(type, field)
+#define WHOLE(type) sizeof(type), sizeof(type), sizeof(type), sizeof(type) - 1
+#define UP_TO(type, field) sizeof(type), sizeof(type), offsetof(type, field) + 1, offsetof(type, field)
+/* It has grown since version 2.0, by this field and those behind it. */
+#define GROWN(type, field) sizeof(type), offsetof(type, field), sizeof(type), sizeof(type) - 1
 #define IN_HEADER(field) (offsetof(gozdrit_played, header) + offsetof(gozdrit_header, field))
 
 static const call CALLS[] = {
@@ -144,10 +147,11 @@ static const call CALLS[] = {
     {"gozdrit_feedback", call_feedback, UP_TO(gozdrit_outcome, refusal), &OUTCOME, false, {0, 0, 0}},
     {"gozdrit_sender_counts", call_sender_counts, WHOLE(gozdrit_send_counts), &SEND_COUNTS, false, {0, 0, 0}},
     {"gozdrit_receive", call_receive, UP_TO(gozdrit_received, refusal), &RECEIVED, false, {0, 0, 0}},
-    {"gozdrit_play", call_play, sizeof(gozdrit_played), IN_HEADER(marker) + 1, offsetof(gozdrit_played, kind), &PLAYED,
+    {"gozdrit_play", call_play, sizeof(gozdrit_played), sizeof(gozdrit_played), IN_HEADER(marker) + 1, offsetof(gozdrit_played, kind), &PLAYED,
      true, {GOZDRIT_OK, GOZDRIT_NO_ROOM, GOZDRIT_OK}},
     {"gozdrit_receiver_times", call_times, UP_TO(gozdrit_times, known), &TIMES, false, {0, 0, 0}},
-    {"gozdrit_receiver_counts", call_receiver_counts, WHOLE(gozdrit_receive_counts), &RECEIVE_COUNTS, false, {0, 0, 0}},
+    {"gozdrit_receiver_counts", call_receiver_counts, GROWN(gozdrit_receive_counts, skipped), &RECEIVE_COUNTS, false,
+     {0, 0, 0}},
     {"gozdrit_receiver_probe_counts", call_probe_counts, WHOLE(gozdrit_probe_counts), &PROBE_COUNTS, false, {0, 0, 0}},
 };
 enum { CALL_COUNT = sizeof CALLS / sizeof *CALLS };
@@ -216,6 +220,23 @@ static void answers_alike(const call *c, ends *plain, ends *tried, int step, siz
     free(larger);
 }
 
+/* The struct of an earlier header, from version 2.0 on, is filled with what it had there, and with no part of a field. */
+static void answers_earlier(const call *c, ends *plain, ends *tried, int step) {
+    const size_t from = sizeof from;
+    for (size_t size = c->least; size < c->size; size++) {
+        uint8_t *lent = patterned(c->size), *earlier = patterned(c->size), out[ROOM], also_out[ROOM];
+        const beside one = around(plain, step, out), other = around(tried, step, also_out);
+        set_size(lent, c->size);
+        set_size(earlier, size);
+        GIVES(c, GOZDRIT_OK, c->make(&one, lent));
+        GIVES(c, GOZDRIT_OK, c->make(&other, earlier));
+        HOLDS(c, size_of(earlier) == size && is_pattern(earlier + c->least, c->size - c->least));
+        HOLDS(c, memcmp(lent + from, earlier + from, c->least - from) == 0);
+        free(lent);
+        free(earlier);
+    }
+}
+
 /* Of two pairs of ends to which the same happens one is lent structs of this header alone, and the other one those of a
  * later header, and those that are too short before: these change nothing, and so the two stay alike. */
 static void test_call(const call *c, bool used, size_t behind) {
@@ -223,12 +244,13 @@ static void test_call(const call *c, bool used, size_t behind) {
     if (used) use(&plain), use(&tried);
     for (int step = 0; step < STEPS; step++) {
         for (int i = 0; i < SHORTS; i++) {
-            const size_t size = short_size(c->size, i);
+            const size_t size = short_size(c->least, i);
             refuses(c, &tried, step, size, c->size);
             refuses(c, &tried, step, size, at_least_size(size));
         }
         compare(c, &plain, &tried);
         answers_alike(c, &plain, &tried, step, behind);
+        answers_earlier(c, &plain, &tried, step);
         compare(c, &plain, &tried);
     }
     drop(&plain);
@@ -254,7 +276,7 @@ static void test_order(const call *c, int fault) {
     null.sender = NULL, null.receiver = NULL;
     empty.sender = missing.sender = &none.sender, empty.receiver = missing.receiver = &none.receiver;
     missing.out = NULL;
-    set_size(lent, c->size - 1);
+    set_size(lent, c->least - 1);
     before = boxed(lent, c->size);
     GIVES(c, GOZDRIT_NULL, c->make(&null, lent));
     GIVES(c, GOZDRIT_NULL, c->make(&empty, NULL));

@@ -19,8 +19,8 @@ use Rattle.gozdrit.specs.declared.heard.ReceivedFields.{ReceivedFields}
 use Rattle.gozdrit.specs.declared.heard.OutcomeFields.{OutcomeFields}
 use Rattle.gozdrit.specs.declared.packets.PacketFields.{PacketFields}
 use Rattle.gozdrit.specs.declared.sizes.TheConstants.{RECEIVER_CONFIG, SENDER_CONFIG}
-use Rattle.gozdrit.specs.Codes.{null_pointer}
-use Rattle.gozdrit.specs.Sizes.{Fills}
+use Rattle.gozdrit.specs.Codes.{null_pointer, ok}
+use Rattle.gozdrit.specs.Sizes.{Fills, told_behind}
 use Rattle.gozdrit.specs.Defaults.{usual_receiver, usual_sender}
 use Rattle.gozdrit.specs.Ends.{Receiver, Sender}
 use Rattle.gozdrit.specs.Freeing.{AnswersFree}
@@ -183,11 +183,17 @@ ReceiverTimesFor =
     Answers2 null_pointer (λ receiver times code receiver' times'.
     (receiver' ≡ receiver) × AnswersReceiverTimes receiver.inside times code receiver'.inside times')
 
+-- Behind the counts of version 2.0 a receiver tells how many packets jumps passed over. Nothing is told where the call refuses.
+abbrev pub TellsSkipped : Option (Handle Receiver) → ℤ → (rest rest' : List ℕ) → Type 0
+TellsSkipped None code rest rest' = rest' ≡ rest
+TellsSkipped (Some receiver) code rest rest' =
+    ((r : Receiver) → receiver.inside ≡ Some r → code ≡ ok → rest' ≡ told_behind r.endpoint.endpoint.counts.skipped rest) × ((code ≡ ok → ⊥) → rest' ≡ rest)
+
 -- `gozdrit_receiver_counts`
-abbrev pub ReceiverCountsFor : Option (Handle Receiver) → Option ReceiverCounts → ℤ → Option (Handle Receiver) → Option ReceiverCounts → Type 0
-ReceiverCountsFor =
-    Answers2 null_pointer (λ receiver counts code receiver' counts'.
-    (receiver' ≡ receiver) × AnswersReceiverCounts receiver.inside counts code receiver'.inside counts')
+abbrev pub ReceiverCountsFor : Option (Handle Receiver) → Option ReceiverCounts → List ℕ → ℤ → Option (Handle Receiver) → Option ReceiverCounts → List ℕ → Type 0
+ReceiverCountsFor receiver counts rest code receiver' counts' rest' =
+    TellsSkipped receiver code rest rest' × Answers2 null_pointer (λ receiver counts code receiver' counts'.
+    (receiver' ≡ receiver) × AnswersReceiverCounts receiver.inside counts code receiver'.inside counts') receiver counts code receiver' counts'
 
 -- `gozdrit_receiver_probe_counts`
 abbrev pub ProbeCountsFor : Option (Handle Receiver) → Option ProbeCounts → ℤ → Option (Handle Receiver) → Option ProbeCounts → Type 0

@@ -1,5 +1,6 @@
 //! What C may ask of an end, which stays as it is.
-ghost use Rattle.std.specs.Prelude.{◌≡◌};
+ghost use Rattle.std.specs.Prelude.{◌≡◌, Some};
+ghost use Rattle.gozdrit.specs.Ends.{Receiver};
 ghost use Rattle.gozdrit.specs.Reading.{AnswersMissing, AnswersSsrc, AnswersNext, AnswersHighest, AnswersTimeout, AnswersReceiverTimes, AnswersReceiverCounts, AnswersProbeCounts, AnswersSenderCounts};
 
 use crate::answers::{KnownSequence, KnownSsrc, KnownTimeout, KnownTimes};
@@ -103,6 +104,17 @@ pub(crate) fn receiver_counts(receiver: &mut ReceiverHandle, counts: &mut Receiv
     }
     *counts = ReceiverCounts::of(counts.size, receiver.lend().endpoint.endpoint().counts());
     OK
+}
+
+/// How many packets jumps passed over, of a receiver.
+pub(crate) fn skipped(receiver: &mut ReceiverHandle) -> u64
+    ensures told { (r : Receiver) → receiver.old.inside ≡ Some r → result ≡ r.endpoint.endpoint.counts.skipped }
+    ensures same { receiver.new ≡ receiver.old }
+{
+    if !receiver.is_held() {
+        return 0;
+    }
+    receiver.lend().endpoint.endpoint().counts().skipped
 }
 
 pub(crate) fn probe_counts(receiver: &mut ReceiverHandle, counts: &mut ProbeCounts) -> i32

@@ -4,7 +4,9 @@
 //! defined in `specs/Lent.antt`, and said for C in `include/gozdrit.h`, with its refusals.
 ghost use Rattle.std.specs.Prelude.{◌≡◌, ℕ, List, Option};
 ghost use Rattle.std.specs.Borrow.{sem, usize};
-ghost use Rattle.gozdrit.specs.Lying.{value_lies_at};
+ghost use Rattle.gozdrit.specs.Lying.{sized_lies_at, value_lies_at};
+ghost use Rattle.gozdrit.specs.Sizes.{HasRest};
+ghost use Rattle.gozdrit.specs.declared.sizes.TheConstants.{RECEIVE_COUNTS};
 ghost use Rattle.gozdrit.specs.Ends.{Receiver, ReceiverRow, Sender, SenderRow};
 ghost use Rattle.gozdrit.specs.declared.handle.Handle.{Handle};
 ghost use Rattle.gozdrit.specs.contracts.answers.KnownTimeout.{the_row as moment_row};
@@ -25,15 +27,18 @@ ghost use Rattle.gozdrit.specs.Lent.{MissingFor, SsrcFor, NextFor, HighestFor, T
 
 use crate::answers::{KnownSequence, KnownSsrc, KnownTimeout, KnownTimes};
 use crate::blocks::{ReceiverBlock, SenderBlock};
-use crate::code::NULL;
+use crate::code::{NULL, OK};
 use crate::counts::{ProbeCounts, ReceiverCounts, SenderCounts};
 use crate::lent::Lent;
 use crate::reading::{
     highest_sequence, missing, next_moment, next_sequence, probe_counts, receiver_counts,
-    receiver_times, rtx_source, sender_counts,
+    receiver_times, rtx_source, sender_counts, skipped,
 };
 use crate::receiving::ReceiverHandle;
+use crate::rest::tell_behind;
 use crate::sending::SenderHandle;
+use crate::sized::LentSized;
+use crate::sizes::RECEIVE_COUNTS;
 
 /// `Receiver::missing`: how many places are missing.
 #[unsafe(no_mangle)]
@@ -215,40 +220,47 @@ fn next_moment_lent(
     (code, receiver, timeout)
 }
 
-/// `ReceivingEndpoint::counts`.
+/// `ReceivingEndpoint::counts`. What version 2.0 did not have stands behind the fields that it had.
 #[unsafe(no_mangle)]
 pub unsafe extern "C" fn gozdrit_receiver_counts(
     receiver: *mut ReceiverBlock,
     counts: *mut ReceiverCounts,
 ) -> i32
-    ghost before: { Option (Handle Receiver) × Option ReceiverCounts }
-    requires* { sem 𝓛 (value_lies_at ReceiverRow receiver before.0)
-        ∗ sem 𝓛 (value_lies_at receiver_counts_row counts before.1) }
-    ensures* { ∃ₛ (λ (after : Option (Handle Receiver) × Option ReceiverCounts).
+    ghost before: { Option (Handle Receiver) × Option ReceiverCounts × List ℕ }
+    requires rest { HasRest (λ told. told.size) RECEIVE_COUNTS before.1 before.2 }
+    requires* lies { sem 𝓛 (value_lies_at ReceiverRow receiver before.0)
+        ∗ sem 𝓛 (sized_lies_at receiver_counts_row counts before.1 before.2) }
+    ensures* { ∃ₛ (λ (after : Option (Handle Receiver) × Option ReceiverCounts × List ℕ).
         sem 𝓛 (value_lies_at ReceiverRow receiver after.0)
-        ∗ sem 𝓛 (value_lies_at receiver_counts_row counts after.1)
-        ∗ ⌜ ReceiverCountsFor before.0 before.1 result after.0 after.1 ⌝) }
+        ∗ sem 𝓛 (sized_lies_at receiver_counts_row counts after.1 after.2)
+        ∗ ⌜ ReceiverCountsFor before.0 before.1 before.2 result after.0 after.1 after.2 ⌝) }
 {
     receiver_counts_lent(
         Lent {
             at: receiver as *mut ReceiverHandle,
         },
-        Lent { at: counts },
+        LentSized { at: counts },
     )
     .0
 }
 
 fn receiver_counts_lent(
     mut receiver: Lent<ReceiverHandle>,
-    mut counts: Lent<ReceiverCounts>,
-) -> (i32, Lent<ReceiverHandle>, Lent<ReceiverCounts>)
+    mut counts: LentSized<ReceiverCounts>,
+) -> (i32, Lent<ReceiverHandle>, LentSized<ReceiverCounts>)
+    requires { HasRest (λ told. told.size) RECEIVE_COUNTS counts.value counts.rest }
     ensures { ((result.1.at ≡ receiver.at) × (result.2.at ≡ counts.at))
-        × ReceiverCountsFor receiver.value counts.value result.0 result.1.value result.2.value }
+        × ReceiverCountsFor receiver.value counts.value counts.rest result.0 result.1.value result.2.value result.2.rest }
 {
     if receiver.is_null() || counts.is_null() {
         return (NULL, receiver, counts);
     }
+    let size = counts.get().size;
     let code = receiver_counts(receiver.get(), counts.get());
+    if code == OK {
+        let skipped = skipped(receiver.get());
+        tell_behind(&mut counts, size, RECEIVE_COUNTS, skipped);
+    }
     (code, receiver, counts)
 }
 

@@ -80,6 +80,8 @@ int32_t unless_bad_size(int32_t expected);
 size_t draw_size(size_t size, uint32_t many);
 /* Lends a struct of this size that the call fills: as many octets as it says. */
 void *lend_told(size_t size);
+/* The same where version 2.0 had `least` octets of the struct. */
+void *lend_grown(size_t least, size_t size);
 /* Tells that what the struct says is as it was, and so is what lies behind this size. */
 void check_told(int32_t answer, size_t size);
 /* Lends a configuration of this size, with what it says, and where that is more, octets behind it: blank or not. */

@@ -63,7 +63,7 @@ static void ask_highest(struct receiver *it) {
 static void ask_counts(struct receiver *it) {
     gozdrit_receive_counts *counts;
     begin_call(CALL_receiver_counts);
-    counts = lend_told(sizeof *counts);
+    counts = lend_grown(offsetof(gozdrit_receive_counts, skipped), sizeof *counts);
     if (!ends_sized_query(it, gozdrit_receiver_counts(lend_receiver(it, false), pointer(counts)), sizeof *counts)) return;
     same(it->counts.media, counts->media, "counts->media");
     same(it->counts.retransmissions, counts->retransmissions, "counts->retransmissions");
@@ -80,6 +80,7 @@ static void ask_counts(struct receiver *it) {
     same(it->counts.gaps, counts->gaps, "counts->gaps");
     same(it->counts.nacks, counts->nacks, "counts->nacks");
     same(it->counts.nacked, counts->nacked, "counts->nacked");
+    same(it->counts.skipped, counts->skipped, "counts->skipped");
 }
 
 /* Each late, double or refused datagram is of one kind; what is kept apart leaves the rest no larger. */

@@ -100,6 +100,8 @@ static bool is_enough(const struct receiver *it, uint64_t now) {
 /* The stream restarts with what was held back. */
 static void restart_stream(struct receiver *it, gozdrit_received *received) {
     struct window left = it->window;
+    unsigned ahead = (uint16_t)(it->spare.next - received->overrun - left.highest); /* of the first one that was kept */
+    if (ahead > 0 && ahead < 32768) it->counts.skipped += ahead - 1;
     if (left.next <= left.highest) received->abandoned = left.highest + 1 - left.next;
     it->window = it->spare;
     it->spare = left;

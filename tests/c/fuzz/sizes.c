@@ -39,6 +39,12 @@ void *lend_told(size_t size) {
     return lend_sized(AREA_TOLD, lent_of(says), says);
 }
 
+void *lend_grown(size_t least, size_t size) {
+    size_t says = draw_size(size, 25);
+    if (said == SAID_LESS && says >= least) says = least - 1; /* tests/c/sizes.c has the sizes between */
+    return lend_sized(AREA_TOLD, lent_of(says), says);
+}
+
 void check_told(int32_t answer, size_t size) {
     check_kept(AREA_TOLD, answer == GOZDRIT_OK ? size : 0);
     holds(memcmp(lay(AREA_TOLD), lies(AREA_TOLD), sizeof size) == 0, "the size that a struct says is as it was");
