@@ -86,7 +86,7 @@ extern "C" {
 /* ---- the version: that of this header, and that of the library that is linked */
 
 #define GOZDRIT_VERSION_MAJOR 2
-#define GOZDRIT_VERSION_MINOR 0
+#define GOZDRIT_VERSION_MINOR 1
 #define GOZDRIT_VERSION_PATCH 0
 #define GOZDRIT_VERSION (GOZDRIT_VERSION_MAJOR * 10000 + GOZDRIT_VERSION_MINOR * 100 + GOZDRIT_VERSION_PATCH)
 
