@@ -88,9 +88,9 @@ static void test_no_rule(void) {
     ANSWERS(GOZDRIT_OK, gozdrit_sender_free(&sender));
 }
 
-/* The second packet is sent 40 behind the first, so a path with room for the media alone takes as long for a retransmission.
- * Named 19 after its retransmission the first comes too soon, as that would be taken for 21 more, and 38 after it it does
- * not; by min_resend alone, which is 10, both are answered. */
+/* The second packet is sent 40 behind the first, so a path with room for the media alone takes as long for a retransmission, and
+ * an answer came 15 behind it. Named 27 after its retransmission the first comes too soon, as that would be taken for 13
+ * more, and 38 after it it does not; by min_resend alone, which is 10, both are answered. */
 static void test_waits_for_answers(uint8_t adaptive) {
     gozdrit_sender_config config = CONFIG;
     gozdrit_sender sender = {NULL, 0};
@@ -106,9 +106,9 @@ static void test_waits_for_answers(uint8_t adaptive) {
     at(&sender, 1060);
     names(&sender, 200, 0);
     repeats(&sender, 1060, 65736);
-    at(&sender, 1079);
+    at(&sender, 1087);
     names(&sender, 200, 0);
-    repeats(&sender, 1079, adaptive ? 0 : 65736);
+    repeats(&sender, 1087, adaptive ? 0 : 65736);
     at(&sender, 1098);
     names(&sender, 200, 0);
     repeats(&sender, 1098, 65736);

@@ -15,12 +15,7 @@ fn skipped_by(heard: Result<Heard, ReceiveFault>) -> Option<u32> {
 }
 
 /// What the last of so many packets in sequence says that come behind another one, and what is counted.
-fn jumped(
-    alloc: Global,
-    from: u16,
-    to: u16,
-    many: u16,
-) -> Result<(Option<u32>, u64), Fail> {
+fn jumped(alloc: Global, from: u16, to: u16, many: u16) -> Result<(Option<u32>, u64), Fail> {
     let made = ReceivingEndpoint::<RingWindow>::new(
         alloc,
         config(1000, 0, 20, 3)?,
@@ -68,10 +63,7 @@ fn what_a_jump_passes_over(rt: HostRuntime) -> Result<(), Fail> {
 
 /// What is told where these packets come, each at its moment, over a window of four places, where two packets after a silence of 200 and
 /// else six are believed; and what is overrun and abandoned then.
-fn told_of(
-    alloc: Global,
-    packets: &[(u16, u64)],
-) -> Result<(Option<u32>, u64, u64, u64), Fail> {
+fn told_of(alloc: Global, packets: &[(u16, u64)]) -> Result<(Option<u32>, u64, u64, u64), Fail> {
     let Ok(probation) = Probation::new(10, 5, 2, 6) else {
         return Err(Fail::from("a good probation"));
     };
@@ -103,10 +95,7 @@ fn what_comes_behind_the_first_one(rt: HostRuntime) -> Result<(), Fail> {
         (19999, 1060),
         (20002, 1200),
     ];
-    assert_eq!(rt;
-        told_of(rt.alloc(), PACKETS)?,
-        (Some(19899), 19899, 0, 2)
-    );
+    assert_eq!(rt; told_of(rt.alloc(), PACKETS)?, (Some(19899), 19899, 0, 2));
     Ok(())
 }
 
@@ -123,9 +112,6 @@ fn what_is_dropped_while_it_is_held_back(rt: HostRuntime) -> Result<(), Fail> {
         (5004, 1005),
         (5005, 1006),
     ];
-    assert_eq!(rt;
-        told_of(rt.alloc(), PACKETS)?,
-        (Some(4900), 4900, 1, 1)
-    );
+    assert_eq!(rt; told_of(rt.alloc(), PACKETS)?, (Some(4900), 4900, 1, 1));
     Ok(())
 }

@@ -289,7 +289,7 @@ fn how_long_an_answer_takes(rt: HostRuntime) -> Result<(), Fail> {
 }
 
 /// The rule that holds where one has 10 milliseconds. An answer took ten, and then eight times 500: 12, 14, 16, 19, 22, 25, 29 and 33 are told,
-/// of which what is above twice ten counts. A retransmission takes as long as lies between two packets, which is 30.
+/// of which what is above twice ten counts. A retransmission takes as long as lies between two packets, which is 30, and the answer behind it 33.
 #[test]
 fn a_rule_that_follows(rt: HostRuntime) -> Result<(), Fail> {
     let mut endpoint = timely(rt.alloc(), 0, None)?;
@@ -317,8 +317,8 @@ fn a_rule_that_follows(rt: HostRuntime) -> Result<(), Fail> {
         };
     follows.resend(530);
     fixed.resend(530);
-    let resent = follows.rule(rule, 530).min_resend == 43
-        && follows.rule(rule, 545).min_resend == 28
+    let resent = follows.rule(rule, 530).min_resend == 63
+        && follows.rule(rule, 545).min_resend == 48
         && follows.rule(rule, 560).min_resend == 13;
     assert!(rt; are_sent && without_queue && queued && resent && fixed.rule(rule, 530) == rule);
     Ok(())

@@ -277,27 +277,27 @@ fn what_does_not_fit_the_time_is_passed_over(rt: HostRuntime) -> Result<(), Fail
     Ok(())
 }
 
-/// The second packet leaves 40 behind the first, so a path with room for the media alone takes as long for a retransmission. The same NACK 19 after
-/// one comes too soon, as what left would be taken for 21 more, and 20 after it it does not; by the rule alone, which has 10, the first is
-/// answered.
+/// The second packet leaves 40 behind the first, so a path with room for the media alone takes as long for a retransmission, and an answer came
+/// 15 behind it. The same NACK 27 after a retransmission comes too soon, as that would be taken for 13 more, and 28 after it it does not; by
+/// the rule alone, which has 10, the first is answered.
 #[test]
 fn an_answer_on_its_way_is_waited_for(rt: HostRuntime) -> Result<(), Fail> {
     const COMES: &[Passing] = &[
         (5, Near, APPLICATION, FIRST),
         (45, Near, APPLICATION, SECOND),
         (60, Far, FAR, NACK),
-        (79, Far, FAR, NACK),
-        (80, Far, FAR, NACK),
+        (87, Far, FAR, NACK),
+        (88, Far, FAR, NACK),
         (90, Near, APPLICATION, SECOND),
     ];
     const LEAVES: &[(usize, Passing)] = &[
         (2, (60, Far, FAR, REPAIRED_FIRST)),
-        (3, (80, Far, FAR, REPAIRED_AGAIN)),
+        (3, (88, Far, FAR, REPAIRED_AGAIN)),
         (4, (90, Far, FAR, SENT_AGAIN)),
     ];
     const LEAVES_BY_RULE: &[(usize, Passing)] = &[
         (2, (60, Far, FAR, REPAIRED_FIRST)),
-        (3, (79, Far, FAR, REPAIRED_AGAIN)),
+        (3, (87, Far, FAR, REPAIRED_AGAIN)),
         (4, (90, Far, FAR, SENT_AGAIN)),
     ];
     let rule = ResendRule {

@@ -1,8 +1,9 @@
 -- How soon a packet may be retransmitted again: what answers and bursts make of it.
-use Rattle.std.proofs.Common.{◌≡◌, ◌<◌, ◌≤◌, ◌+◌, ◌-◌, ◌*◌, ◌/◌, ◌^◌, ℕ, zero, suc, min, List, [], ◌∷◌, Option, Some, None, IsSomeAnd, refl, sym, ap, subst, ◌∙◌, arith}
+use Rattle.std.proofs.Common.{◌≡◌, ◌<◌, ◌≤◌, ◌+◌, ◌-◌, ◌*◌, ◌/◌, ◌^◌, ℕ, Bool, true, false, nat_lt, zero, suc, min, max, if◌then◌else◌, List, [], ◌∷◌, Option, Some, None, IsSomeAnd, refl, sym, ap, subst, ◌∙◌, arith}
 use Rattle.std.proofs.Math.Nat.{suc-mul}
+use Rattle.std.proofs.lemmas.Bool.Decides.{nat_tests}
 use Rattle.timing.specs.Capped.{capped}
-use Rattle.timing.specs.ResendInterval.{answered_after, heard_after, answers_heard, interval_at, interval_with, least_at, queued_at, resent_at, resent_many, TakeAtLeast}
+use Rattle.timing.specs.ResendInterval.{answered_after, heard_after, answers_heard, interval_at, interval_with, least_at, queue_of, queued_at, resent_at, resent_many, TakeAtLeast}
 use Rattle.timing.specs.declared.resend_interval.ResendInterval.{ResendInterval}
 
 -- one more answer that took so long: what was known is raised by an eighth of what was known at first, or to that
@@ -37,22 +38,51 @@ doubled r before longer a b c d e f g h is fits slow =
     raised None low_is takes = takes
     raised (Some after) low_is takes = omega (arith, low_is, takes)
 
+-- what is still taken is waited for, and what an answer takes beyond twice the least
+long : (answer idle queued : ℕ) → answer < 2 ^ 64 → queued < 2 ^ 64 → (queued ≤ queue_of answer idle queued) × (answer ≤ 2 * idle + queue_of answer idle queued)
+long answer idle queued fits fits' = by (nat_lt 0 queued) refl
+  where
+    by : (b : Bool) → nat_lt 0 queued ≡ b → (queued ≤ (if b then capped (answer + queued) else answer - 2 * idle)) × (answer ≤ 2 * idle + (if b then capped (answer + queued) else answer - 2 * idle))
+    by true is = (omega (arith, fits, fits'), omega (arith, fits, fits'))
+    by false is = let none : queued ≡ 0 = grind (arith, nat_tests, is) in (omega (arith, none), omega arith)
+
+idle_of : (answer idle queued : ℕ) → queued ≡ 0 → queue_of answer idle queued ≡ answer - 2 * idle
+idle_of answer idle queued none = subst (λ q. queue_of answer idle q ≡ answer - 2 * idle) (sym none) refl
+
+taken_of : (answer idle queued : ℕ) → 0 < queued → queue_of answer idle queued ≡ capped (answer + queued)
+taken_of answer idle queued some = by (nat_lt 0 queued) refl
+  where
+    by : (b : Bool) → nat_lt 0 queued ≡ b → (if b then capped (answer + queued) else answer - 2 * idle) ≡ capped (answer + queued)
+    by true is = refl
+    by false is = absurd (grind (arith, nat_tests, is, some))
+
 pub least_is : (r : ResendInterval) (least now : ℕ) → least ≤ interval_at r least now
 least_is r least now = by r.answer
   where
     by : (answer : Option ℕ) → least ≤ interval_with answer (least_at r now) (queued_at r now) least
     by None = omega arith
-    by (Some after) = omega arith
+    by (Some after) = at_least (queue_of after (least_at r now) (queued_at r now))
+      where
+        at_least : (queue : ℕ) → least ≤ max least queue
+        at_least queue = omega arith
 
 pub free : (r : ResendInterval) (answer least now : ℕ) → r.answer ≡ Some answer → answer ≤ 2 * least_at r now → r.busy ≤ now * 4096 → now * 4096 < 2 ^ 64
     → interval_at r least now ≡ least
 free r answer least now is short taken fits =
     let none : queued_at r now ≡ 0 = omega (arith, taken, fits) in
-    subst (λ a. interval_with a (least_at r now) (queued_at r now) least ≡ least) (sym is) (omega (arith, short, none))
+    let idle = idle_of answer (least_at r now) (queued_at r now) none in
+    subst (λ a. interval_with a (least_at r now) (queued_at r now) least ≡ least) (sym is)
+    (subst (λ queue. max least queue ≡ least) (sym idle) (omega (arith, short)))
 
-pub beyond : (r : ResendInterval) (answer least now : ℕ) → r.answer ≡ Some answer → answer < 2 ^ 64 → answer ≤ 2 * least_at r now + interval_at r least now
-beyond r answer least now is fits =
-    subst (λ a. answer ≤ 2 * least_at r now + interval_with a (least_at r now) (queued_at r now) least) (sym is) (omega (arith, fits))
+pub beyond : (r : ResendInterval) (answer least now : ℕ) → r.answer ≡ Some answer → answer < 2 ^ 64 → r.busy < 2 ^ 64 → answer ≤ 2 * least_at r now + interval_at r least now
+beyond r answer least now is fits fits' =
+    let short : queued_at r now < 2 ^ 64 = omega (arith, fits') in
+    let both = (long answer (least_at r now) (queued_at r now) fits short).1 in
+    subst (λ a. answer ≤ 2 * least_at r now + interval_with a (least_at r now) (queued_at r now) least) (sym is)
+    (greater (least_at r now) (queue_of answer (least_at r now) (queued_at r now)) both)
+  where
+    greater : (idle queue : ℕ) → answer ≤ 2 * idle + queue → answer ≤ 2 * idle + max least queue
+    greater idle queue so = omega (arith, so)
 
 pub at_once : (r : ResendInterval) (took : ℕ) → answered_after r.answer took ≤ took
 at_once r took = by r.answer
@@ -89,16 +119,34 @@ adds (suc many) r now fits =
     let product = suc-mul many r.gap in
     one_adds many r (resent_many r now many) now fits (adds many r now (omega (arith, fits, product)))
 
-pub behind : (r : ResendInterval) (answer now many least : ℕ) → r.answer ≡ Some answer → now * 4096 + many * r.gap < 2 ^ 64
-    → many * r.gap / 4096 ≤ interval_at (resent_many r now many) least now
-behind r answer now many least is fits =
-    let added = adds many r now fits in
-    let after = resent_many r now many in
-    subst (λ a. many * r.gap / 4096 ≤ interval_with a (least_at after now) (queued_at after now) least) (sym (added.answer ∙ is)) (by many refl added.busy)
+-- so much is still taken behind packets that left at once
+taken : (r : ResendInterval) (now many : ℕ) → now * 4096 + many * r.gap < 2 ^ 64 → many * r.gap / 4096 ≤ queued_at (resent_many r now many) now
+taken r now many fits = by many refl (adds many r now fits).busy
   where
-    by : (n : ℕ) → many ≡ n → (0 < many → now * 4096 + many * r.gap ≤ (resent_many r now many).busy)
-        → many * r.gap / 4096 ≤ interval_with (Some answer) (least_at (resent_many r now many) now) (queued_at (resent_many r now many) now) least
+    by : (n : ℕ) → many ≡ n → (0 < many → now * 4096 + many * r.gap ≤ (resent_many r now many).busy) → many * r.gap / 4096 ≤ queued_at (resent_many r now many) now
     by zero none busy =
         let product : many * r.gap ≡ 0 = subst (λ n. n * r.gap ≡ 0) (sym none) (omega arith) in
         omega (arith, product)
     by (suc n) some busy = let b = busy (omega (arith, some)) in omega (arith, b, fits)
+
+pub behind : (r : ResendInterval) (answer now many least : ℕ) → r.answer ≡ Some answer → now * 4096 + many * r.gap < 2 ^ 64
+    → many * r.gap / 4096 ≤ interval_at (resent_many r now many) least now
+behind r answer now many least is fits =
+    let after = resent_many r now many in
+    let still = taken r now many fits in
+    subst (λ a. many * r.gap / 4096 ≤ interval_with a (least_at after now) (queued_at after now) least) (sym ((adds many r now fits).answer ∙ is))
+    (by (nat_lt 0 (queued_at after now)) refl still)
+  where
+    by : (b : Bool) → nat_lt 0 (queued_at (resent_many r now many) now) ≡ b → many * r.gap / 4096 ≤ queued_at (resent_many r now many) now
+        → many * r.gap / 4096 ≤ max least (if b then capped (answer + queued_at (resent_many r now many) now) else answer - 2 * least_at (resent_many r now many) now)
+    by true is' still = omega (arith, still, fits)
+    by false is' still = let none : queued_at (resent_many r now many) now ≡ 0 = grind (arith, nat_tests, is') in omega (arith, still, none)
+
+pub behind_answers : (r : ResendInterval) (answer now many least : ℕ) → r.answer ≡ Some answer → now * 4096 + many * r.gap < 2 ^ 64
+    → 4096 ≤ many * r.gap → answer + many * r.gap / 4096 < 2 ^ 64 → answer + many * r.gap / 4096 ≤ interval_at (resent_many r now many) least now
+behind_answers r answer now many least is fits some short =
+    let after = resent_many r now many in
+    let still = taken r now many fits in
+    let at = taken_of answer (least_at after now) (queued_at after now) (omega (arith, still, some)) in
+    subst (λ a. answer + many * r.gap / 4096 ≤ interval_with a (least_at after now) (queued_at after now) least) (sym ((adds many r now fits).answer ∙ is))
+    (subst (λ queue. answer + many * r.gap / 4096 ≤ max least queue) (sym at) (omega (arith, still, short)))

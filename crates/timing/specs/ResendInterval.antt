@@ -1,6 +1,6 @@
 -- How soon a sender may retransmit a packet again: not while the answer to its last retransmission waits in a queue. (The rule is this
 -- project's own.) Moments and spans are in milliseconds, and where it is said in 4096 parts of one.
-use Rattle.std.specs.Prelude.{ℕ, zero, suc, ◌≤◌, ◌+◌, ◌-◌, ◌*◌, ◌/◌, ◌==◌, List, [], ◌∷◌, max, min, Option, Some, None, if◌then◌else◌}
+use Rattle.std.specs.Prelude.{ℕ, zero, suc, ◌≤◌, ◌+◌, ◌-◌, ◌*◌, ◌/◌, ◌==◌, nat_lt, List, [], ◌∷◌, max, min, Option, Some, None, if◌then◌else◌}
 use Rattle.timing.specs.Capped.{capped}
 use Rattle.timing.specs.Lately.{greatest_at, seen_at, seen_none}
 use Rattle.timing.specs.declared.resend_interval.ResendInterval.{ResendInterval}
@@ -42,10 +42,13 @@ least_at r now = 60000 - greatest_at r.idle now
 abbrev pub queued_at : ResendInterval → (now : ℕ) → ℕ
 queued_at r now = (r.busy - capped (now * 4096)) / 4096
 
--- what an answer takes beyond twice the least, and for how long what was retransmitted would still be taken
+-- As long as what was retransmitted would still be taken, that, and what an answer takes; and else what an answer takes beyond twice the least.
+abbrev pub queue_of : (answer idle queued : ℕ) → ℕ
+queue_of answer idle queued = if nat_lt 0 queued then capped (answer + queued) else answer - 2 * idle
+
 abbrev pub interval_with : (answer : Option ℕ) → (idle queued least : ℕ) → ℕ
 interval_with None idle queued least = least
-interval_with (Some answer) idle queued least = max least (capped (answer - 2 * idle + queued))
+interval_with (Some answer) idle queued least = max least (queue_of answer idle queued)
 
 abbrev pub interval_at : ResendInterval → (least now : ℕ) → ℕ
 interval_at r least now = interval_with r.answer (least_at r now) (queued_at r now) least

@@ -22,7 +22,8 @@ const PARTS: u64 = 4096;
 ///   it by an eighth at most (the gain of RFC 6298, section 2), and what is shorter counts at once. What it has beyond twice the least of
 ///   the last ten to thirty seconds is a queue: jitter and reordering alone seldom have so much.
 /// - **What left together may fill a queue** before any NACK tells of it. A path that has room for the media alone takes as long for a
-///   retransmission as lies between two packets of media, on the mean; until it would have taken all that left, an answer may take so much longer.
+///   retransmission as lies between two packets of media, on the mean; until it would have taken all that left, an answer may take so much
+///   longer than answers do.
 ///
 /// Moments and spans are in milliseconds.
 #[derive(Clone, Copy, Debug, PartialEq, Eq)]
@@ -101,8 +102,11 @@ impl ResendInterval {
             return least;
         };
         let queued = self.busy.saturating_sub(now.saturating_mul(PARTS)) / PARTS;
-        let beyond = answer.saturating_sub(2 * self.least(now));
-        least.max(beyond.saturating_add(queued))
+        least.max(if queued > 0 {
+            answer.saturating_add(queued)
+        } else {
+            answer.saturating_sub(2 * self.least(now))
+        })
     }
 }
 

@@ -58,16 +58,18 @@ fn answers_that_took_longer(_rt: HostRuntime) -> Result<(), Fail> {
 fn what_left_together(_rt: HostRuntime) -> Result<(), Fail> {
     let mut interval = each_ten();
     interval.hear(40, 1000);
-    // Five at once take five gaps, and the next one is behind them.
+    // Five at once take five gaps, behind which an answer comes forty later; and the next one is behind them.
     for _ in 0..5u8 {
         interval.resend(1000);
     }
-    let five = interval.at(10, 1000) == 50 && interval.at(10, 1020) == 30;
+    let five = interval.at(10, 1000) == 90 && interval.at(10, 1020) == 70;
     interval.resend(1020);
-    let six = interval.at(10, 1020) == 40 && interval.at(10, 1060) == 10;
+    let six = interval.at(10, 1020) == 80
+        && interval.at(10, 1059) == 41
+        && interval.at(10, 1060) == 10;
     // Later nothing is behind them any more.
     interval.resend(2000);
-    let later = interval.at(5, 2000) == 10 && interval.at(60, 2000) == 60;
+    let later = interval.at(10, 2000) == 50 && interval.at(60, 2000) == 60;
     if five && six && later {
         Ok(())
     } else {
@@ -84,11 +86,11 @@ fn a_pause_is_no_gap(_rt: HostRuntime) -> Result<(), Fail> {
     interval.resend(6000);
     let before = interval.at(10, 6000) == 10;
     interval.hear(40, 6000);
-    let one = interval.at(10, 6000) == 11;
+    let one = interval.at(10, 6000) == 51;
     for _ in 0..9u8 {
         interval.resend(6000);
     }
-    let ten = interval.at(10, 6000) == 114;
+    let ten = interval.at(10, 6000) == 154;
     if before && one && ten {
         Ok(())
     } else {

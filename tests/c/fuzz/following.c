@@ -60,10 +60,11 @@ void follow_hear(struct sender *it, uint64_t sequence) {
 uint64_t min_resend(const struct sender *it) {
     struct path then = it->path;
     const struct path *path = &it->path;
-    uint64_t span, least;
+    uint64_t span, least, queued;
     if (!path->is_followed || !path->has_answer) return it->config.min_resend;
     turn(&then, it->now);
     least = MINUTE - (then.most > then.most_before ? then.most : then.most_before);
-    span = sum(above(path->answer, 2 * least), above(path->busy, times(it->now, PARTS)) / PARTS);
+    queued = above(path->busy, times(it->now, PARTS)) / PARTS;
+    span = queued > 0 ? sum(path->answer, queued) : above(path->answer, 2 * least);
     return span > it->config.min_resend ? span : it->config.min_resend;
 }
