@@ -4,19 +4,20 @@
  * @short_description: sends RTP packets that the far side may ask for again
  * @see_also: gozdritrecv, rtprtxsend
  *
- * Sends the RTP packets of one stream as the media of a session, keeps them, and retransmits those that generic NACKs
- * (RFC 4585) of the far side name, on an SSRC and with a payload type of their own (RFC 4588, SSRC multiplexing). Media
- * and retransmissions leave by the source pad.
+ * Sends RTP packets as they come, keeps them, and retransmits those that generic NACKs (RFC 4585) of the far side name, on an SSRC and
+ * with a payload type of their own (RFC 4588, SSRC multiplexing). Media and retransmissions leave by the source pad. Each SSRC that
+ * packets come with is a stream of its own, with a history and an SSRC of its retransmissions.
  *
- * A packet keeps its timestamp, marker, CSRC list, header extension, padding and payload. Its SSRC is
- * #GstGozdritSend:ssrc, or what it came with; its sequence numbers follow one another from the first packet's on. One that is
- * longer than the library takes goes out as well, and is not kept, nor are those before it any more; the first is told by a warning.
+ * A packet goes out as it came, also with its number: what was reordered, doubled or lost before the element is that behind it. With
+ * #GstGozdritSend:ssrc all packets are one stream of that SSRC, and with #GstGozdritSend:seqnum-offset its numbers begin there. One that is
+ * longer than the library takes goes out as well, and is not kept; the first is told by a warning.
  *
  * Where no packet comes for #GstGozdritSend:silence-delay, the last one is repeated once: else the far side would not notice
  * what it lacks of the end of a talk spurt, until the next one.
  *
- * `feedback_sink` takes the RTCP of the far side, whatever it is: what is no NACK of this session is passed over. Where an rtpsession
- * stands behind the source pad, its events `GstRTPRetransmissionRequest` are answered as well. At the end of the stream the last packet is repeated, and feedback is answered for #GstGozdritSend:eos-delay more.
+ * `feedback_sink` takes the RTCP of the far side, whatever it is: what is no NACK of these streams is passed over. Where an rtpsession
+ * stands behind the source pad, its events `GstRTPRetransmissionRequest` are answered as well. At the end of the stream the last packet is
+ * repeated, and feedback is answered for #GstGozdritSend:eos-delay more.
  *
  * ## Example pipeline
  * |[
@@ -126,15 +127,19 @@ static GstFlowReturn feedback_chain(GstPad *pad, GstObject *parent, GstBuffer *b
     return GST_FLOW_OK;
 }
 
-/* The SSRC of the retransmissions is another participant's too (RFC 3550, section 8.2): there is a new one, which the caps tell. */
+/* The SSRC of a stream's retransmissions is another participant's too (RFC 3550, section 8.2): there is a new one, which the caps tell where
+ * they are that stream's. */
 static gboolean avoid_collision(GstGozdritSend *self, guint32 ssrc) {
+    gint64 media;
     guint32 drawn;
-    if (!sending_collision(self, ssrc, &drawn)) return FALSE;
+    if (!sending_collision(self, ssrc, &media, &drawn)) return FALSE;
     GstCaps *caps = gst_pad_get_current_caps(self->src);
     if (!caps) return TRUE;
-    caps = gst_caps_make_writable(caps);
-    gst_caps_set_simple(caps, "rtx-ssrc", G_TYPE_UINT, drawn, NULL);
-    gst_pad_push_event(self->src, gst_event_new_caps(caps));
+    if (caps_number(caps, "ssrc", media) == media) {
+        caps = gst_caps_make_writable(caps);
+        gst_caps_set_simple(caps, "rtx-ssrc", G_TYPE_UINT, drawn, NULL);
+        gst_pad_push_event(self->src, gst_event_new_caps(caps));
+    }
     gst_caps_unref(caps);
     return TRUE;
 }
@@ -182,9 +187,9 @@ static void begin(GstGozdritSend *self) {
     g_mutex_lock(&self->lock);
     element_time_begin(&self->time, GST_ELEMENT(self));
     self->flushing = self->stopped = FALSE;
-    self->passed = self->strays = 0;
-    self->next = self->caps_ssrc = self->caps_first = -1;
+    self->passed = self->strays = self->media = self->reports = self->refused = 0;
     self->past = (gozdrit_send_counts)GOZDRIT_SEND_COUNTS_INIT;
+    self->requested = self->rtx_taken = FALSE;
     self->rtx_ssrc = self->settings.rtx_ssrc;
     if (self->rtx_ssrc == SSRC_UNSET) self->rtx_ssrc = draw_ssrc(self->settings.ssrc, self->settings.receiver_ssrc);
     g_mutex_unlock(&self->lock);
@@ -273,7 +278,8 @@ static void get_property(GObject *object, guint id, GValue *value, GParamSpec *s
 
 static void finalize(GObject *object) {
     GstGozdritSend *self = GST_GOZDRIT_SEND(object);
-    gozdrit_sender_free(&self->end);
+    sending_end(self);
+    g_ptr_array_unref(self->streams);
     element_time_end(&self->time);
     g_cond_clear(&self->silence_cond);
     g_mutex_clear(&self->lock);
@@ -290,18 +296,18 @@ static void install_uint(GObjectClass *class, guint id, const gchar *name, const
 
 static void install_properties(GObjectClass *class) {
     install_uint(class, PROP_SSRC, "ssrc",
-                 "The SSRC of the media (default == that of the caps or of the packets)", 0, G_MAXUINT32, SSRC_UNSET);
+                 "The SSRC of the media, of which there is one stream then (default == that of the packets)", 0, G_MAXUINT32, SSRC_UNSET);
     install_uint(class, PROP_RTX_SSRC, "rtx-ssrc",
-                 "The SSRC of the retransmissions (default == random)", 0, G_MAXUINT32, SSRC_UNSET);
+                 "The SSRC of the first stream's retransmissions (default == random)", 0, G_MAXUINT32, SSRC_UNSET);
     install_uint(class, PROP_RECEIVER_SSRC, "receiver-ssrc",
                  "The SSRC whose NACKs are heard (default == any)", 0, G_MAXUINT32, SSRC_UNSET);
     install_uint(class, PROP_RTX_TYPE, "rtx-payload-type",
                  "The payload type of the retransmissions, not 64 to 95", 0, 127, RTX_TYPE);
     g_object_class_install_property(
-        class, PROP_FIRST, g_param_spec_int("seqnum-offset", NULL, "The first packet's sequence number (-1 == that of the "
-                                            "caps or of the packet)", -1, G_MAXUINT16, -1, PROPERTY_FLAGS));
+        class, PROP_FIRST, g_param_spec_int("seqnum-offset", NULL, "The first packet's sequence number (-1 == the one that "
+                                            "it came with)", -1, G_MAXUINT16, -1, PROPERTY_FLAGS));
     install_uint(class, PROP_HISTORY, "max-size-packets",
-                 "How many packets are kept for retransmission", 1, GOZDRIT_MAX_STORE, 1024);
+                 "How many packets of a stream are kept for retransmission", 1, GOZDRIT_MAX_STORE, 1024);
     install_uint(class, PROP_REPEATS, "rtx-max-repeats",
                  "How often one packet is retransmitted at most", 1, 255, 8);
     install_uint(class, PROP_EOS_DELAY, "eos-delay",
@@ -347,6 +353,8 @@ static GstPad *add_pad(GstGozdritSend *self, GstStaticPadTemplate *template) {
 static void gst_gozdrit_send_init(GstGozdritSend *self) {
     g_mutex_init(&self->lock);
     g_cond_init(&self->silence_cond);
+    self->streams = g_ptr_array_new_with_free_func((GDestroyNotify)stream_free);
+    self->past = (gozdrit_send_counts)GOZDRIT_SEND_COUNTS_INIT;
     self->settings = (send_settings){.ssrc = SSRC_UNSET, .rtx_ssrc = SSRC_UNSET, .receiver_ssrc = SSRC_UNSET,
                                      .rtx_type = RTX_TYPE, .first = -1, .history = 1024, .repeats = 8, .eos_delay = 500,
                                      .silence_delay = 100};

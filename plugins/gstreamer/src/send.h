@@ -1,26 +1,11 @@
 /* gozdritsend, the sending element. send.c is the element: its pads, properties and states. sending.c is what it does
- * with packets and feedback, and silence.c what it does where no packet comes. */
+ * with packets and feedback, stream.c one stream's numbers and history, and silence.c what it does where no packet comes. */
 #ifndef GOZDRIT_GST_SEND_H
 #define GOZDRIT_GST_SEND_H
 
-#include "common.h"
+#include "stream.h"
 
 G_DECLARE_FINAL_TYPE(GstGozdritSend, gst_gozdrit_send, GST, GOZDRIT_SEND, GstElement)
-
-/* The properties, which a session takes as it begins. */
-typedef struct send_settings {
-    guint32 ssrc;          /* SSRC_UNSET: that of the caps or of the packets */
-    guint32 rtx_ssrc;      /* SSRC_UNSET: drawn */
-    guint32 receiver_ssrc; /* SSRC_UNSET: any reporter is heard */
-    guint rtx_type;
-    gint first; /* -1: that of the caps or of the first packet */
-    guint history;
-    guint repeats;
-    guint eos_delay;     /* milliseconds */
-    guint silence_delay; /* the same; 0: none */
-    guint min_interval;  /* the same, from one retransmission of a packet to the next; 0: none */
-    guint max_time;      /* the same, from a packet to its last retransmission; 0: any */
-} send_settings;
 
 struct _GstGozdritSend {
     GstElement parent;
@@ -30,16 +15,12 @@ struct _GstGozdritSend {
 
     GMutex lock; /* one call of the library at a time, and all that follows */
     send_settings settings;
-    gozdrit_sender end; /* holds one from the first packet on */
-    gozdrit_session session;
-    guint8 rtx_type; /* that the session's retransmissions go out with */
-    gboolean has_rule; /* the session was begun with one of the last two settings */
-    gozdrit_send_counts past; /* the counts of the sessions before */
-    guint32 source_ssrc; /* the SSRC that the packets come with */
-    guint32 rtx_ssrc;    /* of the retransmissions, from the caps or a collision on; the session may know them by another one */
-    gint64 next;         /* the number of the next packet, where a session follows another; else -1 */
-    gint64 caps_ssrc;    /* what the caps say, or -1 */
-    gint64 caps_first;
+    GPtrArray *streams;  /* send_stream, at most MOST_STREAMS of them */
+    send_stream *recent; /* that of the last packet or caps, or NULL */
+    guint32 rtx_ssrc;    /* of the first stream, which caps tell before it comes */
+    gboolean rtx_taken;  /* it has come */
+    gozdrit_send_counts past; /* the counts of the streams that are gone */
+    guint64 media, reports, refused; /* datagrams of feedback: RTP, RTCP without a NACK, and what no stream took */
     GstClockID waiting; /* for the tail to be repaired */
     gboolean flushing;  /* nothing is waited for */
     gboolean stopped;   /* the same, also behind a flush */
@@ -47,12 +28,15 @@ struct _GstGozdritSend {
     guint64 strays;     /* buffers that were no RTP packets */
 
     element_time time;
-    GstClockTime last; /* when the last packet came */
-    gboolean silent;   /* and was repeated, or is not to be */
+    gboolean requested; /* an event from downstream wants a retransmission, which the task sends */
     GCond silence_cond;
     GstClockID silence_id;
+    GstClockTime silence_until; /* what that waits for */
     gboolean silence_waits, silence_active; /* waits: the task waits for a packet */
 };
+
+/* So many streams have a history at most. That of which nothing came for the longest goes for another one. */
+enum { MOST_STREAMS = 64 };
 
 /* The caps of the packets that go out, from those that come in. */
 GstCaps *sending_caps(GstGozdritSend *self, const GstCaps *caps);
@@ -63,31 +47,32 @@ GstFlowReturn sending_packet(GstGozdritSend *self, GstBuffer *buffer, GstBuffer 
 /* Sends what a datagram of feedback asks for. */
 void sending_feedback(GstGozdritSend *self, GstBuffer *buffer);
 
-/* Sends a packet again that was asked for by its number. FALSE where it is another stream's. */
+/* A packet is asked for by its number: the task sends it. FALSE where it is another stream's. */
 gboolean sending_request(GstGozdritSend *self, guint32 ssrc, guint16 number);
 
-/* Draws another SSRC of the retransmissions. FALSE where they have not this one, or a property says which they have. */
-gboolean sending_collision(GstGozdritSend *self, guint32 ssrc, guint32 *drawn);
+/* Draws another SSRC of a stream's retransmissions, where they have this one and no property says so; else FALSE. The stream's
+ * SSRC becomes `media`, or -1 where it has not come yet. */
+gboolean sending_collision(GstGozdritSend *self, guint32 ssrc, gint64 *media, guint32 *drawn);
 
 /* Sends all that is to be retransmitted. */
 void sending_retransmissions(GstGozdritSend *self);
 
-/* Repeats the last packet, and answers until the time is over. */
+/* Repeats the last packets, and answers until the time is over. */
 void sending_tail(GstGozdritSend *self);
 
-/* What was counted so far, by this session and those before. */
+/* What was counted so far, by the streams that there are and those before. */
 GstStructure *sending_counts(GstGozdritSend *self);
 
-/* Ends the session, and keeps its counts. The lock is held. */
+/* Ends all streams, and keeps their counts. The lock is held. */
 void sending_end(GstGozdritSend *self);
 
 /* ---- silence.c. The lock is held, but for the pad's activation. */
 
-/* A packet was sent. */
-void silence_packet(GstGozdritSend *self);
+/* A stream's packet was sent. */
+void silence_packet(GstGozdritSend *self, send_stream *stream, GstClockTime now);
 /* No packet is to be repeated any more, until another one was sent. */
 void silence_end(GstGozdritSend *self);
-/* The delay or the clock is another. */
+/* The delay or the clock is another, or something is to be sent. */
 void silence_changed(GstGozdritSend *self);
 gboolean silence_activate(GstPad *pad, GstObject *parent, GstPadMode mode, gboolean active);
 

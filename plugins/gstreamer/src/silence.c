@@ -1,6 +1,6 @@
 /* What a sender does where no packet comes for a while: it repeats the last one once, so that the far side notices what it lacks
  * of the end of a talk spurt. The source pad's task waits for it: not for each packet, but from one silence's end that could be
- * to the next. */
+ * to the next. It also sends what events from downstream want. */
 #include "send.h"
 
 /* Wakes the task. The lock is held. */
@@ -9,28 +9,28 @@ static void wake(GstGozdritSend *self) {
     g_cond_signal(&self->silence_cond);
 }
 
-void silence_packet(GstGozdritSend *self) {
-    self->last = element_time_now(&self->time);
-    self->silent = FALSE;
+void silence_packet(GstGozdritSend *self, send_stream *stream, GstClockTime now) {
+    stream->last = now;
+    stream->is_silent = FALSE;
     if (self->silence_waits) g_cond_signal(&self->silence_cond);
 }
 
 void silence_end(GstGozdritSend *self) {
-    self->silent = TRUE;
+    for (guint i = 0; i < self->streams->len; i++) ((send_stream *)g_ptr_array_index(self->streams, i))->is_silent = TRUE;
     wake(self);
 }
 
 void silence_changed(GstGozdritSend *self) { wake(self); }
 
-/* Waits for the end of a silence that begins with the last packet, or for a packet. The lock is held. */
-static void wait_for_silence(GstGozdritSend *self, GstClockTime delay) {
-    if (self->silent || delay == 0) {
-        self->silence_waits = delay > 0;
+/* Waits until a silence that begins with a packet would be over, or, where there is none, for a packet. The lock is held. */
+static void wait_for_silence(GstGozdritSend *self, GstClockTime until) {
+    if (!GST_CLOCK_TIME_IS_VALID(until)) {
+        self->silence_waits = self->settings.silence_delay > 0;
         g_cond_wait(&self->silence_cond, &self->lock);
         self->silence_waits = FALSE;
         return;
     }
-    GstClockID id = self->silence_id = element_time_id(&self->time, self->last + delay);
+    GstClockID id = self->silence_id = element_time_id(&self->time, until);
     g_mutex_unlock(&self->lock);
     gst_clock_id_wait(id, NULL);
     g_mutex_lock(&self->lock);
@@ -38,17 +38,24 @@ static void wait_for_silence(GstGozdritSend *self, GstClockTime delay) {
     gst_clock_id_unref(id);
 }
 
-/* Whether the last packet is to be repeated now; else it waited. The lock is held. */
+/* Whether something is to be sent now: what was wanted, or a last packet again. Else it waited. The lock is held. */
 static gboolean is_due(GstGozdritSend *self) {
-    GstClockTime delay = self->settings.silence_delay * MILLISECOND;
-    guint32 queued = 0;
-    if (self->silent || delay == 0 || element_time_now(&self->time) < self->last + delay) {
-        wait_for_silence(self, delay);
-        return FALSE;
+    GstClockTime delay = self->settings.silence_delay * MILLISECOND, until = GST_CLOCK_TIME_NONE, now = 0;
+    guint32 queued, all = self->requested ? 1 : 0;
+    self->requested = FALSE;
+    for (guint i = 0; i < self->streams->len && delay > 0; i++) {
+        send_stream *stream = g_ptr_array_index(self->streams, i);
+        if (stream->is_silent) continue;
+        if (now == 0) now = element_time_now(&self->time);
+        if (now < stream->last + delay) {
+            until = MIN(until, stream->last + delay);
+            continue;
+        }
+        stream->is_silent = TRUE;
+        if (gst_pad_is_linked(self->feedback) && gozdrit_tail_loss_probe(&stream->end, &queued) == GOZDRIT_OK) all += queued;
     }
-    self->silent = TRUE;
-    if (self->end.held && gst_pad_is_linked(self->feedback)) gozdrit_tail_loss_probe(&self->end, &queued);
-    return queued > 0;
+    if (all == 0) wait_for_silence(self, until);
+    return all > 0;
 }
 
 static void silence_task(gpointer pad) {
@@ -65,8 +72,7 @@ gboolean silence_activate(GstPad *pad, GstObject *parent, GstPadMode mode, gbool
     if (mode != GST_PAD_MODE_PUSH) return FALSE;
     g_mutex_lock(&self->lock);
     self->silence_active = active;
-    self->silent = TRUE;
-    wake(self);
+    silence_end(self);
     g_mutex_unlock(&self->lock);
     return active ? gst_pad_start_task(pad, silence_task, pad, NULL) : gst_pad_stop_task(pad);
 }

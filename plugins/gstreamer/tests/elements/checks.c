@@ -180,6 +180,15 @@ sender make_sender(void) {
     return s;
 }
 
+sender make_history(guint packets) {
+    sender s = make_sender();
+    gst_element_set_state(s.element, GST_STATE_NULL);
+    g_object_set(s.element, "max-size-packets", packets, NULL);
+    gst_element_set_state(s.element, GST_STATE_PLAYING);
+    gst_harness_set_src_caps_str(s.media, CAPS);
+    return s;
+}
+
 void drop_sender(sender *s) {
     gst_harness_teardown(s->feedback);
     gst_harness_teardown(s->media);
@@ -204,6 +213,20 @@ gboolean repair_comes(sender *s, packet of) {
     return is;
 }
 
+gboolean request(sender *s, guint32 ssrc, guint16 number) {
+    GstStructure *told = gst_structure_new("GstRTPRetransmissionRequest", "seqnum", G_TYPE_UINT, (guint)number, "ssrc", G_TYPE_UINT, ssrc,
+                                           "payload-type", G_TYPE_UINT, TYPE, NULL);
+    return gst_harness_push_upstream_event(s->media, gst_event_new_custom(GST_EVENT_CUSTOM_UPSTREAM, told));
+}
+
+guint rtx_ssrc_of(GstHarness *h) {
+    GstCaps *caps = gst_pad_get_current_caps(h->sinkpad);
+    guint ssrc = 0;
+    gst_structure_get_uint(gst_caps_get_structure(caps, 0), "rtx-ssrc", &ssrc);
+    gst_caps_unref(caps);
+    return ssrc;
+}
+
 /* ---- all tests, or those that are named */
 
 int main(int count, char **words) {
@@ -211,6 +234,7 @@ int main(int count, char **words) {
         {"send", test_send},       {"feedback", test_feedback}, {"tail", test_tail},         {"receive", test_receive},
         {"times", test_times},     {"streams", test_streams},   {"restarts", test_restarts}, {"states", test_states},
         {"flushes", test_flushes}, {"caps", test_rtx_caps},      {"silence", test_silence}, {"storm", test_storm},
+        {"numbers", test_numbers}, {"histories", test_histories},
     };
     gst_init(NULL, NULL);
     for (guint i = 0; i < G_N_ELEMENTS(tests); i++) {

@@ -80,14 +80,23 @@ typedef struct sender {
     GstElement *element;
 } sender;
 sender make_sender(void);
+/* One that keeps so many packets. */
+sender make_history(guint packets);
 void drop_sender(sender *s);
 /* Sends the packets 0 to 4, and takes them. */
 void send_five(sender *s);
 /* A repair of that packet comes, without a time. Repairs have numbers of their own. */
 gboolean repair_comes(sender *s, packet of);
 
+/* Asks for a packet as an rtpsession behind the sender does. */
+gboolean request(sender *s, guint32 ssrc, guint16 number);
+/* What the caps that came say of the retransmissions. */
+guint rtx_ssrc_of(GstHarness *h);
+
 /* Each is a file. */
 void test_send(void);
+void test_numbers(void);
+void test_histories(void);
 void test_feedback(void);
 void test_tail(void);
 void test_silence(void);

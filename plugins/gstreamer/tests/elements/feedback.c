@@ -89,12 +89,6 @@ static void test_low_type(void) {
     gst_harness_teardown(media);
 }
 
-static gboolean request(sender *s, guint32 ssrc, guint16 number) {
-    GstStructure *told = gst_structure_new("GstRTPRetransmissionRequest", "seqnum", G_TYPE_UINT, (guint)number, "ssrc", G_TYPE_UINT, ssrc,
-                                           "payload-type", G_TYPE_UINT, TYPE, NULL);
-    return gst_harness_push_upstream_event(s->media, gst_event_new_custom(GST_EVENT_CUSTOM_UPSTREAM, told));
-}
-
 /* What an rtpsession behind the element tells of a NACK is answered like one; what it tells of other streams goes on upstream. */
 static void test_requests(void) {
     sender s = make_sender();
@@ -107,14 +101,6 @@ static void test_requests(void) {
     CHECK(gst_harness_upstream_events_in_queue(s.media) == 2 && is_silent(s.media));
     CHECK(count_of(s.element, "nacks") == 2 && count_of(s.element, "unknown") == 1);
     drop_sender(&s);
-}
-
-static guint rtx_ssrc_of(GstHarness *h) {
-    GstCaps *caps = gst_pad_get_current_caps(h->sinkpad);
-    guint ssrc = 0;
-    gst_structure_get_uint(gst_caps_get_structure(caps, 0), "rtx-ssrc", &ssrc);
-    gst_caps_unref(caps);
-    return ssrc;
 }
 
 /* Whether a collision of an SSRC is kept from upstream. */

@@ -1,4 +1,4 @@
-/* Both elements where everything happens at once: odd packets, losses, reordering, strangers, streams that end or begin anew, other caps and
+/* Both elements where everything happens at once: odd packets, losses, reordering before and behind the sender, strangers, streams that end or begin anew, other caps and
  * properties, flushes, changes of state, and the end, each at a drawn moment. What comes out has to be RTP. Who hangs is killed after a
  * while, and what sanitizers find ends the program. STORM is for how many seconds (else 2), and SEED draws. */
 #include "checks.h"
@@ -93,7 +93,10 @@ static void push_some(storm *s, packet *of, GRand *drawn) {
     if (draw < 5 || g_atomic_int_compare_and_exchange(&s->renewed, TRUE, FALSE)) begin_stream(s, of->ssrc, of->type);
     GstBufferList *list = draw < 50 ? gst_buffer_list_new() : NULL;
     for (gint i = 0; i < (list ? 5 : 1); i++, of->sequence++, of->pts += GST_MSECOND) {
-        GstBuffer *buffer = make_any(*of, drawn);
+        packet next = *of;
+        if (g_rand_int_range(drawn, 0, 10) == 0) next.sequence = (guint16)(next.sequence + g_rand_int_range(drawn, -9, 10));
+        if (g_rand_int_range(drawn, 0, 10) == 0) next.ssrc += (guint32)g_rand_int_range(drawn, 0, 100);
+        GstBuffer *buffer = make_any(next, drawn);
         if (list) gst_buffer_list_insert(list, -1, buffer);
         else gst_pad_push(s->source, buffer);
     }
