@@ -13,7 +13,8 @@
  * longer than the library takes goes out as well, and is not kept; the first is told by a warning.
  *
  * Where no packet comes for #GstGozdritSend:silence-delay, the last one is repeated once: else the far side would not notice
- * what it lacks of the end of a talk spurt, until the next one.
+ * what it lacks of the end of a talk spurt, until the next one. Packets that come slowly, as frames at five a second, are not repeated
+ * each time: a gap that ends before four times that delay is no silence, and the next one may be as long and a quarter more.
  *
  * `feedback_sink` takes the RTCP of the far side, whatever it is: what is no NACK of these streams is passed over. Where an rtpsession
  * stands behind the source pad, its events `GstRTPRetransmissionRequest` are answered as well. At the end of the stream the last packet is

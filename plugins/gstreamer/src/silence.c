@@ -9,10 +9,33 @@ static void wake(GstGozdritSend *self) {
     g_cond_signal(&self->silence_cond);
 }
 
+/* A gap that ends before it is so many times the delay is no silence, but how far apart the packets of a slow stream come: the next of its
+ * kind is no silence either, as long as there is one each second. */
+enum { SHORT = 4 };
+#define FORGETS (1000 * MILLISECOND)
+
+/* How long no packet of a stream comes until that is a silence. */
+static GstClockTime delay_of(const GstGozdritSend *self, const send_stream *stream) {
+    GstClockTime delay = self->settings.silence_delay * MILLISECOND;
+    return MAX(delay, MIN(stream->usual, SHORT * delay));
+}
+
+static void note_gap(send_stream *stream, GstClockTime now, GstClockTime delay) {
+    GstClockTime gap = now > stream->last ? now - stream->last : 0;
+    if (gap >= delay && gap < SHORT * delay) {
+        stream->usual = MAX(stream->usual, gap + gap / 4);
+        stream->paused = now;
+    } else if (gap >= delay || now > stream->paused + FORGETS) {
+        stream->usual = 0;
+    }
+}
+
 void silence_packet(GstGozdritSend *self, send_stream *stream, GstClockTime now) {
+    note_gap(stream, now, self->settings.silence_delay * MILLISECOND);
     stream->last = now;
     stream->is_silent = FALSE;
     if (self->silence_waits) g_cond_signal(&self->silence_cond);
+    else if (self->silence_id && now + delay_of(self, stream) < self->silence_until) wake(self);
 }
 
 void silence_end(GstGozdritSend *self) {
@@ -30,7 +53,7 @@ static void wait_for_silence(GstGozdritSend *self, GstClockTime until) {
         self->silence_waits = FALSE;
         return;
     }
-    GstClockID id = self->silence_id = element_time_id(&self->time, until);
+    GstClockID id = self->silence_id = element_time_id(&self->time, self->silence_until = until);
     g_mutex_unlock(&self->lock);
     gst_clock_id_wait(id, NULL);
     g_mutex_lock(&self->lock);
@@ -47,8 +70,9 @@ static gboolean is_due(GstGozdritSend *self) {
         send_stream *stream = g_ptr_array_index(self->streams, i);
         if (stream->is_silent) continue;
         if (now == 0) now = element_time_now(&self->time);
-        if (now < stream->last + delay) {
-            until = MIN(until, stream->last + delay);
+        GstClockTime end = stream->last + delay_of(self, stream);
+        if (now < end) {
+            until = MIN(until, end);
             continue;
         }
         stream->is_silent = TRUE;

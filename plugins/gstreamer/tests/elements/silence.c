@@ -78,6 +78,63 @@ static void test_never(void) {
     gst_harness_teardown(h);
 }
 
+/* Moves the clock to a moment, and waits until the task has done what is due by then. */
+static void passes_to(sender *s, GstClockTime at) {
+    GstTestClock *clock = gst_harness_get_testclock(s->media);
+    for (;;) {
+        for (guint i = 0; i < 200 && gst_test_clock_peek_id_count(clock) == 0; i++) g_usleep(1000); /* until the task has looked */
+        if (gst_test_clock_peek_id_count(clock) == 0 || gst_test_clock_get_next_entry_time(clock) > at) break;
+        gst_harness_crank_single_clock_wait(s->media);
+    }
+    if (gst_clock_get_time(GST_CLOCK(clock)) < at) gst_test_clock_set_time(clock, at);
+    gst_object_unref(clock);
+}
+
+/* Whether the last packet is repeated at that moment, and at none before. */
+static gboolean repeats_at(sender *s, GstClockTime at) {
+    guint64 before = count_of(s->element, "retransmissions");
+    passes_to(s, at - 1);
+    if (count_of(s->element, "retransmissions") != before) return FALSE;
+    passes_to(s, at);
+    for (guint i = 0; i < 1000 && count_of(s->element, "retransmissions") == before; i++) g_usleep(1000);
+    return count_of(s->element, "retransmissions") == before + 1;
+}
+
+/* Frames that come slowly, each some packets: how far apart they lie is learnt from the first one, and what is no silence is none. Where
+ * one comes, the last packet is repeated, a quarter of that later. */
+static void test_slow(guint64 apart, guint frames) {
+    sender s = make_silent(100);
+    guint16 number = 0;
+    for (guint i = 0; i < frames; i++) {
+        for (guint j = 0; j < 2; j++, number++) gst_harness_push(s.media, make_packet((packet){.sequence = number, .pts = MS(apart) * i}));
+        if (i + 1 < frames) passes_to(&s, MS(apart) * (i + 1));
+    }
+    CHECK(count_of(s.element, "sent") == number && count_of(s.element, "retransmissions") == 1);
+    CHECK(repeats_at(&s, MS(apart) * frames + MS(apart) / 4));
+    CHECK(count_of(s.element, "retransmissions") == 2 && waits_for_none(&s));
+    drop_sender(&s);
+}
+
+/* What was learnt of slow frames is forgotten where packets come fast for a second, or behind a silence. */
+static void test_forgets(void) {
+    sender s = make_silent(100);
+    gst_harness_push(s.media, make_packet((packet){.sequence = 0}));
+    CHECK(repeats_at(&s, MS(100)));
+    guint16 number = 1;
+    for (guint64 at = 200; at <= 1220; at += 20, number++) {
+        passes_to(&s, MS(at));
+        gst_harness_push(s.media, make_packet((packet){.sequence = number}));
+    }
+    CHECK(repeats_at(&s, MS(1220 + 100)));
+    passes_to(&s, MS(1500)); /* 280 ms: once more as above */
+    gst_harness_push(s.media, make_packet((packet){.sequence = number}));
+    CHECK(repeats_at(&s, MS(1500 + 350)));
+    passes_to(&s, MS(5000));
+    gst_harness_push(s.media, make_packet((packet){.sequence = number + 1u}));
+    CHECK(repeats_at(&s, MS(5000 + 100)));
+    drop_sender(&s);
+}
+
 static gpointer end_stream(gpointer harness) {
     gst_harness_push_event(harness, gst_event_new_eos());
     return NULL;
@@ -102,5 +159,8 @@ void test_silence(void) {
     test_once();
     test_flow();
     test_never();
+    test_slow(125, 32);
+    test_slow(200, 32);
+    test_forgets();
     test_end();
 }
