@@ -1,6 +1,7 @@
 #include "recv.h"
 
-/* A packet is played into the middle of a buffer, and its header is written in front of it. So the payload is copied once. */
+/* A packet goes out in the buffer that it came in. One that did not come in one of its own, as it was repaired, or that has padding, is
+ * played into the middle of a buffer, and its header is written in front of it: so the payload is copied once. */
 enum { FRONT = 12 + 4 * GOZDRIT_MAX_CSRCS + 4 + 4 * GOZDRIT_MAX_EXTENSION_WORDS };
 
 /* ---- what is ready */
@@ -71,17 +72,20 @@ void playing_event(GstGozdritRecv *self, GstEvent *event) {
 
 /* ---- packets */
 
+/* How a packet came, or NULL. */
+static arrival *arrival_of(GstGozdritRecv *self, const gozdrit_played *played) {
+    arrival *came = &self->arrivals[(guint16)played->sequence % ARRIVALS];
+    gboolean is_it = came->number == (guint16)played->sequence && came->timestamp == played->header.timestamp;
+    return came->buffer && is_it ? came : NULL;
+}
+
 /* The times of a packet: those that it came with, where these are what its timestamp says, and else what that says. All
  * packets with one timestamp have one time. */
-static void set_times(GstGozdritRecv *self, GstBuffer *out, const gozdrit_played *played) {
-    guint32 timestamp = played->header.timestamp;
-    arrival *came = &self->arrivals[(guint16)played->sequence % ARRIVALS];
-    gboolean known = came->known && came->timestamp == timestamp;
+static void set_times(GstGozdritRecv *self, GstBuffer *out, const arrival *came, guint32 timestamp) {
     GstClockTime own = rtp_times_of(&self->times, timestamp);
-    came->known = FALSE;
     if (GST_CLOCK_TIME_IS_VALID(self->last_pts) && self->last_timestamp == timestamp) {
         /* as the one before */
-    } else if (known && rtp_times_same(&self->times, came->pts, own)) {
+    } else if (came && !came->is_repair && rtp_times_same(&self->times, came->pts, own)) {
         self->last_pts = came->pts;
         self->last_dts = came->dts;
     } else {
@@ -91,13 +95,6 @@ static void set_times(GstGozdritRecv *self, GstBuffer *out, const gozdrit_played
     self->last_timestamp = timestamp;
     GST_BUFFER_PTS(out) = self->last_pts;
     GST_BUFFER_DTS(out) = self->last_dts;
-}
-
-/* The payload type with which a packet came. A retransmission tells none: it has that of the media. */
-static guint8 type_of(const GstGozdritRecv *self, const gozdrit_played *played) {
-    const arrival *came = &self->arrivals[(guint16)played->sequence % ARRIVALS];
-    gboolean known = came->known && came->timestamp == played->header.timestamp;
-    return known ? came->type : self->session.media_payload_type;
 }
 
 /* Whether a type is not the one that caps or a property say. */
@@ -119,27 +116,49 @@ static GstBuffer *finish_packet(GstGozdritRecv *self, const gozdrit_played *play
     return out;
 }
 
+/* Whether a packet came as it goes out: as media, and without padding. */
+static gboolean is_whole(const arrival *came) {
+    guint8 first = 0;
+    return !came->is_repair && came->is_taken && gst_buffer_extract(came->buffer, 0, &first, 1) == 1 && !(first & 32);
+}
+
+/* The buffer that a packet goes out in, which is the one that it came in, or has what is noted of it there. */
+static GstBuffer *make_packet(GstGozdritRecv *self, const gozdrit_played *played, arrival *came, guint8 type) {
+    if (came && is_whole(came)) return gst_buffer_make_writable(g_steal_pointer(&came->buffer));
+    GstBuffer *out = finish_packet(self, played, type);
+    GstBufferCopyFlags noted = GST_BUFFER_COPY_META;
+    if (came && !came->is_repair) noted |= GST_BUFFER_COPY_FLAGS | GST_BUFFER_COPY_TIMESTAMPS;
+    if (came) gst_buffer_copy_into(out, came->buffer, noted, 0, (gsize)-1);
+    return out;
+}
+
+static void set_flag(GstBuffer *buffer, GstBufferFlags flag, gboolean is_set) {
+    if (is_set) GST_BUFFER_FLAG_SET(buffer, flag);
+    else GST_BUFFER_FLAG_UNSET(buffer, flag);
+}
+
 static void play_packet(GstGozdritRecv *self, const gozdrit_played *played) {
     GstClockTime before = self->last_pts;
-    guint8 type = type_of(self, played);
+    arrival *came = arrival_of(self, played);
+    /* a retransmission tells no type: it has that of the media */
+    guint8 type = came && !came->is_repair ? came->type : self->session.media_payload_type;
     if (played->sequence > self->expected)
         count_lost(self, self->expected, (guint)MIN(played->sequence - self->expected, G_MAXUINT16));
     if (is_unwanted(self, type)) {
-        self->arrivals[(guint16)played->sequence % ARRIVALS].known = FALSE;
         if (self->unwanted++ == 0) self->untold = type;
         self->discont = TRUE;
         return;
     }
-    GstBuffer *out = finish_packet(self, played, type);
-    set_times(self, out, played);
+    GstBuffer *out = make_packet(self, played, came, type);
+    set_times(self, out, came, played->header.timestamp);
     if (self->lost > 0) {
         GstClockTime pts = self->last_pts;
         self->last_pts = before;
         tell_lost(self, pts);
         self->last_pts = pts;
     }
-    if (played->header.marker) GST_BUFFER_FLAG_SET(out, GST_BUFFER_FLAG_MARKER);
-    if (self->discont) GST_BUFFER_FLAG_SET(out, GST_BUFFER_FLAG_DISCONT);
+    set_flag(out, GST_BUFFER_FLAG_MARKER, played->header.marker);
+    set_flag(out, GST_BUFFER_FLAG_DISCONT, self->discont);
     self->discont = FALSE;
     push_ready(self, out);
 }
@@ -148,6 +167,28 @@ static void make_spare(GstGozdritRecv *self) {
     if (self->spare) return;
     self->spare = gst_buffer_new_allocate(NULL, FRONT + GOZDRIT_MAX_PAYLOAD, NULL);
     gst_buffer_map(self->spare, &self->map, GST_MAP_WRITE);
+}
+
+/* Forgets how the packets came from the one that was to go out next on, up to one: they went out, or never will. */
+static void forget_below(GstGozdritRecv *self, guint64 end) {
+    guint64 least = end > ARRIVALS ? end - ARRIVALS : 0;
+    for (guint64 i = MAX(self->expected, least); i < end; i++) {
+        arrival *came = &self->arrivals[(guint16)i % ARRIVALS];
+        if (came->number == (guint16)i) gst_clear_buffer(&came->buffer);
+    }
+}
+
+void playing_forget(GstGozdritRecv *self) {
+    gozdrit_sequence next = {0}, highest = {0};
+    if (self->end.held) {
+        gozdrit_next_sequence(&self->end, &next);
+        gozdrit_highest_sequence(&self->end, &highest);
+    }
+    for (guint i = 0; i < ARRIVALS; i++) {
+        arrival *came = &self->arrivals[i];
+        guint16 ahead = (guint16)(came->number - (guint16)next.sequence);
+        if (!next.known || !highest.known || ahead >= highest.sequence + 1 - next.sequence) gst_clear_buffer(&came->buffer);
+    }
 }
 
 /* Sends the events on that wait for packets below this one. What the window dropped of these is told before the event that came
@@ -175,6 +216,7 @@ void playing_all(GstGozdritRecv *self, guint64 now) {
         release_below(self, played.sequence);
         if (played.kind == GOZDRIT_GAP) count_lost(self, played.sequence, 1);
         else if (played.kind == GOZDRIT_PACKET) play_packet(self, &played);
+        forget_below(self, played.sequence + 1);
         self->expected = played.sequence + 1;
         release(self, played.sequence);
     }

@@ -149,6 +149,7 @@ void receiving_end(GstGozdritRecv *self) {
     playing_release(self);
     count_all(self, &self->past, &self->past_probes);
     gozdrit_receiver_free(&self->end);
+    playing_forget(self);
     rtp_times_begin(&self->times, self->times.clock_rate);
 }
 
@@ -157,6 +158,7 @@ void receiving_flush(GstGozdritRecv *self) {
     if (self->end.held) gozdrit_reset(&self->end);
     rtp_times_begin(&self->times, self->times.clock_rate);
     playing_clear(self);
+    playing_forget(self);
     playing_begin_stream(self);
 }
 
@@ -174,21 +176,34 @@ static GstClockTime time_of(GstGozdritRecv *self, GstBuffer *buffer) {
     return gst_segment_position_from_running_time(&self->segment, GST_FORMAT_TIME, now);
 }
 
-/* Notes the times of a media packet that was taken, or held back. */
+/* Notes how a media packet came that was taken, or held back. */
 static void note_arrival(GstGozdritRecv *self, GstBuffer *buffer, const guint8 *octets, gboolean believed) {
     arrival *noted = &self->arrivals[PACKET_SEQUENCE(octets) % ARRIVALS];
+    gst_buffer_replace(&noted->buffer, buffer);
     noted->pts = time_of(self, buffer);
     noted->dts = GST_BUFFER_DTS(buffer);
     noted->timestamp = PACKET_TIMESTAMP(octets);
+    noted->number = PACKET_SEQUENCE(octets);
     noted->type = PACKET_TYPE(octets);
-    noted->known = TRUE;
+    noted->is_repair = FALSE;
+    noted->is_taken = believed;
     if (believed) rtp_times_arrived(&self->times, noted->timestamp, noted->pts);
+}
+
+/* Notes the buffer of a packet's retransmission. When that came says nothing of the packet's time, and it has another type. */
+static void note_repair(GstGozdritRecv *self, GstBuffer *buffer, const guint8 *octets, guint64 sequence) {
+    arrival *noted = &self->arrivals[(guint16)sequence % ARRIVALS];
+    gst_buffer_replace(&noted->buffer, buffer);
+    noted->timestamp = PACKET_TIMESTAMP(octets);
+    noted->number = (guint16)sequence;
+    noted->is_repair = TRUE;
 }
 
 /* The stream goes on elsewhere: what came with the old numbers goes out before it. */
 static void restarted(GstGozdritRecv *self, GstBuffer *buffer, const guint8 *octets) {
     playing_release(self);
     playing_begin_stream(self);
+    playing_forget(self);
     rtp_times_begin(&self->times, self->times.clock_rate);
     note_arrival(self, buffer, octets, TRUE);
 }
@@ -252,6 +267,7 @@ static void take(GstGozdritRecv *self, GstBuffer *buffer, const guint8 *octets, 
     switch (received.kind) {
     case GOZDRIT_MEDIA: note_arrival(self, buffer, octets, TRUE); break;
     case GOZDRIT_HELD_BACK: note_arrival(self, buffer, octets, FALSE); break;
+    case GOZDRIT_RETRANSMISSION: note_repair(self, buffer, octets, received.sequence); break;
     case GOZDRIT_RESTARTED: restarted(self, buffer, octets); break;
     case GOZDRIT_REFUSED:
         GST_LOG_OBJECT(self, "not taken: %s", gozdrit_refusal_name(received.refusal));
@@ -262,14 +278,9 @@ static void take(GstGozdritRecv *self, GstBuffer *buffer, const guint8 *octets, 
     }
 }
 
-void receiving_packet(GstGozdritRecv *self, GstBuffer *buffer, const guint8 *octets, gsize length) {
-    guint64 now = receiving_now(self);
-    if (!self->end.held && !begin(self, octets, length)) {
-        self->strays++;
-        return;
-    }
-    take(self, buffer, octets, length, now);
-    playing_all(self, now);
+void receiving_packet(GstGozdritRecv *self, GstBuffer *buffer, const guint8 *octets, gsize length, guint64 now) {
+    if (self->end.held || begin(self, octets, length)) take(self, buffer, octets, length, now);
+    else self->strays++;
 }
 
 /* ---- times */

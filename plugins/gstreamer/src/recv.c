@@ -77,9 +77,12 @@ static GstFlowReturn chain(GstPad *pad, GstObject *parent, GstBuffer *buffer) {
     g_mutex_lock(&self->lock);
     GstFlowReturn flow = self->flow;
     if (flow == GST_FLOW_OK && gst_buffer_map(buffer, &map, GST_MAP_READ)) {
+        guint64 now = receiving_now(self);
         length = map.size;
-        receiving_packet(self, buffer, map.data, map.size);
+        receiving_packet(self, buffer, map.data, map.size, now);
         gst_buffer_unmap(buffer, &map);
+        gst_clear_buffer(&buffer); /* what goes out at once is then nobody's but its own, and is written to */
+        playing_all(self, now);
         feedback_schedule(self);
         refused = self->refused;
         other = self->untold;
@@ -87,7 +90,7 @@ static GstFlowReturn chain(GstPad *pad, GstObject *parent, GstBuffer *buffer) {
         self->untold = -1;
     }
     g_mutex_unlock(&self->lock);
-    gst_buffer_unref(buffer);
+    gst_clear_buffer(&buffer);
     if (other >= 0)
         GST_ELEMENT_WARNING(self, STREAM, WRONG_TYPE, ("A packet of another payload type is dropped, as others may be."),
                             ("its type is %d, and that of the caps or of payload-type is not", other));
@@ -392,6 +395,7 @@ static void finalize(GObject *object) {
     playing_clear(self);
     element_time_end(&self->time);
     gst_queue_array_free(self->ready);
+    playing_forget(self);
     g_free(self->arrivals);
     g_cond_clear(&self->timer_cond);
     g_cond_clear(&self->ready_cond);

@@ -34,12 +34,16 @@ typedef struct recv_caps {
     gint64 nack; /* 0: NACKs are not wanted */
 } recv_caps;
 
-/* The times and the payload type with which a media packet came. A packet with another timestamp is not the one. */
+/* How a packet came: its buffer, and of a media packet the times and the payload type. A packet with another number or timestamp is not the
+ * one. */
 typedef struct arrival {
+    GstBuffer *buffer; /* NULL: none is known */
     GstClockTime pts, dts;
     guint32 timestamp;
+    guint16 number;
     guint8 type;
-    gboolean known;
+    gboolean is_repair; /* the buffer is that of its retransmission */
+    gboolean is_taken;  /* the library took what is in the buffer, and held nothing back of it */
 } arrival;
 
 /* Both the window and what is held back after a jump have a place: twice the largest window. */
@@ -122,7 +126,8 @@ guint64 receiving_now(GstGozdritRecv *self);
 gboolean receiving_is_rtx(const GstCaps *caps);
 /* FALSE where the caps are those of the retransmissions, and not what goes out. */
 gboolean receiving_caps(GstGozdritRecv *self, const GstCaps *caps);
-void receiving_packet(GstGozdritRecv *self, GstBuffer *buffer, const guint8 *octets, gsize length);
+/* Takes a packet; what can be played then is still to be. */
+void receiving_packet(GstGozdritRecv *self, GstBuffer *buffer, const guint8 *octets, gsize length, guint64 now);
 /* Gives up what is missing, plays all else, and ends the session. */
 void receiving_end(GstGozdritRecv *self);
 /* Forgets what is held, and where the packets' times lie. */
@@ -139,6 +144,8 @@ void playing_event(GstGozdritRecv *self, GstEvent *event);
 void playing_release(GstGozdritRecv *self);
 void playing_begin_stream(GstGozdritRecv *self);
 void playing_clear(GstGozdritRecv *self);
+/* Forgets how packets came that are not still to go out. */
+void playing_forget(GstGozdritRecv *self);
 void playing_task(gpointer pad);
 
 /* ---- feedback.c */

@@ -101,6 +101,7 @@ void test_feedback(void);
 void test_tail(void);
 void test_silence(void);
 void test_receive(void);
+void test_metas(void);
 void test_times(void);
 void test_streams(void);
 void test_flushes(void);
