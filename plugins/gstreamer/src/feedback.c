@@ -1,5 +1,7 @@
 #include "recv.h"
 
+#include "keyunits.h"
+
 /* ---- waking the timer. The lock is held. */
 
 void feedback_wake(GstGozdritRecv *self) {
@@ -52,6 +54,30 @@ static GstBuffer *next_nack(GstGozdritRecv *self, guint64 now) {
     return gst_buffer_new_memdup(octets, length);
 }
 
+gboolean feedback_key_unit(GstGozdritRecv *self, const GstEvent *event) {
+    gboolean is_linked = gst_pad_is_linked(self->feedback), is_full = FALSE;
+    g_mutex_lock(&self->lock);
+    gboolean is_ours = is_linked && self->end.held && key_request_parse(event, self->session.media_ssrc, &is_full);
+    if (is_ours) {
+        self->key_full = is_full || (self->key_wanted && self->key_full);
+        self->key_wanted = TRUE;
+        feedback_wake(self);
+    }
+    g_mutex_unlock(&self->lock);
+    return is_ours;
+}
+
+/* The request for a key frame that is wanted, or NULL. The lock is held. */
+static GstBuffer *next_key_request(GstGozdritRecv *self) {
+    key_request request = {self->session.receiver_ssrc, self->session.media_ssrc, self->key_full, self->key_number};
+    if (!self->key_wanted) return NULL;
+    self->key_wanted = FALSE;
+    if (!self->end.held) return NULL;
+    self->key_number = (guint8)(self->key_number + request.is_full);
+    self->key_requests++;
+    return key_request_write(&request);
+}
+
 void feedback_end(GstGozdritRecv *self) {
     self->ended = TRUE;
     feedback_wake(self);
@@ -87,10 +113,10 @@ static void wait_for_timeout(GstGozdritRecv *self, guint64 now) {
 }
 
 /* What a turn of the task found to do. */
-typedef enum turn { TURN_AGAIN, TURN_BEGIN, TURN_NACK, TURN_END, TURN_STOP } turn;
+typedef enum turn { TURN_AGAIN, TURN_BEGIN, TURN_ASK, TURN_END, TURN_STOP } turn;
 
 /* One turn: what is due now, and else it waits. The lock is held. */
-static turn take_turn(GstGozdritRecv *self, GstBuffer **nack) {
+static turn take_turn(GstGozdritRecv *self, GstBuffer **asks) {
     guint64 now = receiving_now(self);
     if (!self->timer_active) return TURN_STOP;
     if (self->feedback_stage == FEEDBACK_TO_BEGIN) {
@@ -102,21 +128,22 @@ static turn take_turn(GstGozdritRecv *self, GstBuffer **nack) {
         self->feedback_stage = FEEDBACK_HAS_ENDED;
         return TURN_END;
     }
-    if (!self->ended) *nack = next_nack(self, now);
-    if (*nack) return TURN_NACK;
+    if (!self->ended) *asks = next_key_request(self);
+    if (!self->ended && !*asks) *asks = next_nack(self, now);
+    if (*asks) return TURN_ASK;
     wait_for_timeout(self, now);
     return TURN_AGAIN;
 }
 
 void feedback_task(gpointer pad) {
     GstGozdritRecv *self = GST_GOZDRIT_RECV(GST_OBJECT_PARENT(pad));
-    GstBuffer *nack = NULL;
+    GstBuffer *asks = NULL;
     g_mutex_lock(&self->lock);
-    turn found = take_turn(self, &nack);
+    turn found = take_turn(self, &asks);
     g_mutex_unlock(&self->lock);
     switch (found) {
     case TURN_BEGIN: begin_stream(self); break;
-    case TURN_NACK: gst_pad_push(self->feedback, nack); break; /* who gets none is asked again */
+    case TURN_ASK: gst_pad_push(self->feedback, asks); break; /* who gets none is asked again */
     case TURN_END: gst_pad_push_event(self->feedback, gst_event_new_eos()); break;
     case TURN_STOP: gst_pad_pause_task(self->feedback); break;
     case TURN_AGAIN: break;

@@ -337,6 +337,7 @@ GstStructure *receiving_counts(GstGozdritRecv *self) {
     ADD_COUNT(told, "strays", self->strays);
     ADD_COUNT(told, "other-types", self->unwanted);
     ADD_COUNT(told, "sessions", self->sessions);
+    ADD_COUNT(told, "key-requests", self->key_requests);
     ADD_COUNT(told, "rtx-round-trip", times_of(self).round_trip * MILLISECOND);
     return told;
 }

@@ -16,6 +16,8 @@
  * it, tell both types, and go no further; they count behind caps of the media and before its first packet, as a funnel before
  * the element has them. Where the caps say `rtcp-fb-nack=false`, nothing is asked for.
  *
+ * An event `GstForceKeyUnit` that comes from downstream leaves by `feedback_src` as a PLI, or as a FIR where all headers are wanted.
+ *
  * ## Example pipeline
  * |[
  * gst-launch-1.0 udpsrc port=6004 caps=application/x-rtp,media=video,clock-rate=90000,encoding-name=VP8,payload=96
@@ -253,6 +255,13 @@ static gboolean src_query(GstPad *pad, GstObject *parent, GstQuery *query) {
     return TRUE;
 }
 
+/* A key frame that downstream wants is asked for by a datagram where feedback_src is linked, and else by whoever is upstream. */
+static gboolean src_event(GstPad *pad, GstObject *parent, GstEvent *event) {
+    if (!feedback_key_unit(GST_GOZDRIT_RECV(parent), event)) return gst_pad_event_default(pad, parent, event);
+    gst_event_unref(event);
+    return TRUE;
+}
+
 /* Feedback is sent at once. */
 static gboolean feedback_query(GstPad *pad, GstObject *parent, GstQuery *query) {
     if (GST_QUERY_TYPE(query) != GST_QUERY_LATENCY) return gst_pad_query_default(pad, parent, query);
@@ -279,7 +288,8 @@ static void begin(GstGozdritRecv *self) {
     self->caps = (recv_caps){-1, -1, -1, -1, -1, -1, -1};
     self->past = (gozdrit_receive_counts)GOZDRIT_RECEIVE_COUNTS_INIT;
     self->past_probes = (gozdrit_probe_counts)GOZDRIT_PROBE_COUNTS_INIT;
-    self->sessions = self->strays = self->unwanted = 0;
+    self->sessions = self->strays = self->unwanted = self->key_requests = 0;
+    self->key_wanted = FALSE;
     self->untold = -1;
     self->refused = GOZDRIT_OK;
     self->warned = FALSE;
@@ -475,6 +485,7 @@ static void init_pads(GstGozdritRecv *self) {
     gst_pad_set_chain_function(self->sink, chain);
     gst_pad_set_event_function(self->sink, sink_event);
     gst_pad_set_query_function(self->sink, sink_query);
+    gst_pad_set_event_function(self->src, src_event);
     gst_pad_set_query_function(self->src, src_query);
     gst_pad_set_query_function(self->feedback, feedback_query);
     gst_pad_set_activatemode_function(self->src, activate_src);

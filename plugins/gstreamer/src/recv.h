@@ -117,6 +117,9 @@ struct _GstGozdritRecv {
     guint64 timer_until; /* what it waits for: 0 where it does not, and G_MAXUINT64 where only for a call */
     gboolean feedback_open, timer_active; /* as the source pad's two */
     feedback_stage feedback_stage;
+    gboolean key_wanted, key_full; /* a key frame is to be asked for, with all headers */
+    guint8 key_number;             /* the next such request's */
+    guint64 key_requests;          /* that were made */
 };
 
 /* ---- receiving.c. The lock is held in all of these. */
@@ -156,6 +159,8 @@ void feedback_wake(GstGozdritRecv *self);
 /* The end of the media went out, or what begins a stream behind it. The lock is held. */
 void feedback_end(GstGozdritRecv *self);
 void feedback_go_on(GstGozdritRecv *self);
+/* Asks for a key frame. FALSE where there is no session or nobody to ask. */
+gboolean feedback_key_unit(GstGozdritRecv *self, const GstEvent *event);
 void feedback_task(gpointer pad);
 
 #endif

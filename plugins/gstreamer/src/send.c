@@ -17,7 +17,8 @@
  * each time: a gap that ends before four times that delay is no silence, and the next one may be as long and a quarter more.
  *
  * `feedback_sink` takes the RTCP of the far side, whatever it is: what is no NACK of these streams is passed over. Where an rtpsession
- * stands behind the source pad, its events `GstRTPRetransmissionRequest` are answered as well. At the end of the stream the last packet is
+ * stands behind the source pad, its events `GstRTPRetransmissionRequest` are answered as well. PLI and FIR for one of the streams go
+ * upstream as events `GstForceKeyUnit`. At the end of the stream the last packet is
  * repeated, and feedback is answered for #GstGozdritSend:eos-delay more.
  *
  * ## Example pipeline
@@ -188,7 +189,7 @@ static void begin(GstGozdritSend *self) {
     g_mutex_lock(&self->lock);
     element_time_begin(&self->time, GST_ELEMENT(self));
     self->flushing = self->stopped = FALSE;
-    self->passed = self->strays = self->media = self->reports = self->refused = 0;
+    self->passed = self->strays = self->media = self->reports = self->refused = self->key_requests = 0;
     self->past = (gozdrit_send_counts)GOZDRIT_SEND_COUNTS_INIT;
     self->requested = self->rtx_taken = FALSE;
     self->rtx_ssrc = self->settings.rtx_ssrc;

@@ -26,6 +26,7 @@ struct _GstGozdritSend {
     gboolean stopped;   /* the same, also behind a flush */
     guint64 passed;     /* packets that were too long to be kept, and went out */
     guint64 strays;     /* buffers that were no RTP packets */
+    guint64 key_requests; /* that went upstream */
 
     element_time time;
     gboolean requested; /* an event from downstream wants a retransmission, which the task sends */

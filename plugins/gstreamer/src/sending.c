@@ -1,5 +1,7 @@
 #include "send.h"
 
+#include "keyunits.h"
+
 #include <gst/rtp/rtp.h>
 
 /* ---- streams */
@@ -255,23 +257,41 @@ static guint32 hear(GstGozdritSend *self, const guint8 *octets, gsize length) {
     return queued;
 }
 
-void sending_feedback(GstGozdritSend *self, GstBuffer *buffer) {
-    GstMapInfo map;
-    if (!gst_buffer_map(buffer, &map, GST_MAP_READ)) return;
-    g_mutex_lock(&self->lock);
-    guint32 queued = hear(self, map.data, map.size);
-    g_mutex_unlock(&self->lock);
-    gst_buffer_unmap(buffer, &map);
-    if (queued > 0) sending_retransmissions(self);
-}
-
 /* The stream whose packets go out with an SSRC, or NULL. */
 static send_stream *find_sent(const GstGozdritSend *self, guint32 ssrc) {
     for (guint i = 0; i < self->streams->len; i++) {
         send_stream *stream = g_ptr_array_index(self->streams, i);
-        if (stream->end.held && stream->media_ssrc == ssrc) return stream;
+        if (stream->is_numbered && stream->media_ssrc == ssrc) return stream;
     }
     return NULL;
+}
+
+/* Whether a request for a key frame goes upstream: with the SSRC that its stream has there. A FIR that is repeated does not. */
+static gboolean wants_key(GstGozdritSend *self, key_request *request) {
+    send_stream *stream = find_sent(self, request->media);
+    gboolean is_heard = self->settings.receiver_ssrc == SSRC_UNSET || self->settings.receiver_ssrc == request->from;
+    gint64 full = (gint64)request->from << 8 | request->number;
+    if (!stream || !is_heard || (request->is_full && stream->full_request == full)) return FALSE;
+    if (request->is_full) stream->full_request = full;
+    request->media = stream->ssrc;
+    self->key_requests++;
+    return TRUE;
+}
+
+void sending_feedback(GstGozdritSend *self, GstBuffer *buffer) {
+    key_request requests[MOST_REQUESTS];
+    GstMapInfo map;
+    if (!gst_buffer_map(buffer, &map, GST_MAP_READ)) return;
+    guint count = key_requests_read(map.data, map.size, requests);
+    gboolean is_wanted[MOST_REQUESTS];
+    g_mutex_lock(&self->lock);
+    guint32 queued = hear(self, map.data, map.size);
+    for (guint i = 0; i < count; i++) is_wanted[i] = wants_key(self, &requests[i]);
+    g_mutex_unlock(&self->lock);
+    gst_buffer_unmap(buffer, &map);
+    if (queued > 0) sending_retransmissions(self);
+    for (guint i = 0; i < count; i++)
+        if (is_wanted[i]) gst_pad_push_event(self->sink, key_request_event(&requests[i]));
 }
 
 /* A NACK of one number (RFC 4585, section 6.2.1) says the same, and obeys the same rules. Who pushes an event upstream may hold what those
@@ -281,7 +301,7 @@ gboolean sending_request(GstGozdritSend *self, guint32 ssrc, guint16 number) {
     gozdrit_outcome outcome = GOZDRIT_OUTCOME_INIT;
     g_mutex_lock(&self->lock);
     send_stream *stream = find_sent(self, ssrc);
-    if (stream) {
+    if (stream && stream->end.held) {
         GST_WRITE_UINT32_BE(nack + 4, stream->receiver_ssrc);
         GST_WRITE_UINT32_BE(nack + 8, ssrc);
         GST_WRITE_UINT16_BE(nack + 12, number);
@@ -371,7 +391,7 @@ GstStructure *sending_counts(GstGozdritSend *self) {
     now.media = self->media;
     now.reports = self->reports;
     now.refused = self->refused;
-    guint64 passed = self->passed, strays = self->strays;
+    guint64 passed = self->passed, strays = self->strays, key_requests = self->key_requests;
     g_mutex_unlock(&self->lock);
     ADD_COUNT(told, "strays", strays);
     ADD_COUNT(told, "passed", passed);
@@ -388,5 +408,6 @@ GstStructure *sending_counts(GstGozdritSend *self) {
     ADD_COUNT(told, "refused", now.refused);
     ADD_COUNT(told, "early", now.early);
     ADD_COUNT(told, "expired", now.expired);
+    ADD_COUNT(told, "key-requests", key_requests);
     return told;
 }

@@ -69,6 +69,8 @@ typedef struct send_stream {
     gozdrit_send_counts past; /* the counts of the histories before */
     gozdrit_send_counts made; /* what is to be added to the library's counts, modulo 2^64 */
 
+    gint64 full_request; /* the last request for a key frame with all headers, by who asked and its number, or -1 */
+
     GstClockTime last;   /* when the last packet came */
     GstClockTime usual;  /* for so long no packet came where this was no silence, or 0 */
     GstClockTime paused; /* when that was last */

@@ -163,7 +163,63 @@ static void test_clock(void) {
     gst_object_unref(clock);
 }
 
+/* Times of 2^63 and more, which no stream has, are none to a receiver: they move those of the packets behind them by nothing. */
+static void test_huge(void) {
+    static const GstClockTime huge[] = {G_GUINT64_CONSTANT(1) << 63, G_MAXUINT64 - 1, (G_GUINT64_CONSTANT(1) << 62) + 1};
+    for (guint i = 0; i < G_N_ELEMENTS(huge); i++) {
+        receiver r = make_receiver(CAPS);
+        send_at(&r, 0, 0, MS(1000));
+        send_at(&r, 1, MS(20), huge[i]);
+        send_at(&r, 2, MS(40), MS(1040));
+        CHECK(next_pts(&r) == MS(1000));
+        CHECK(next_pts(&r) == MS(1020));
+        CHECK(next_pts(&r) == MS(1040));
+        drop_receiver(&r);
+    }
+}
+
+static gint criticals, halted;
+
+static void count_criticals(const gchar *domain, GLogLevelFlags level, const gchar *text, gpointer data) {
+    if (level & G_LOG_LEVEL_CRITICAL) g_atomic_int_inc(&criticals);
+    g_log_default_handler(domain, level, text, data);
+}
+
+/* Clocks that come and go, of which the last reference is the element's. */
+static gpointer change_clocks(gpointer element) {
+    while (!g_atomic_int_get(&halted)) {
+        GstClock *clock = gst_test_clock_new();
+        gst_element_set_clock(element, clock);
+        gst_object_unref(clock);
+    }
+    return NULL;
+}
+
+/* Packets without a time, which came now, while the clock changes and goes. */
+static void test_clocks(void) {
+    GstElement *element = gst_element_factory_make("gozdritrecv", NULL);
+    GstHarness *h = gst_harness_new_with_element(element, "sink", "src");
+    GLogFunc before = g_log_set_default_handler(count_criticals, NULL);
+    gst_harness_set_src_caps_str(h, CAPS);
+    g_atomic_int_set(&halted, FALSE);
+    GThread *thread = g_thread_new("clocks", change_clocks, element);
+    for (guint16 i = 0; i < 20000; i++) {
+        GstBuffer *buffer = make_packet((packet){.sequence = i});
+        GST_BUFFER_PTS(buffer) = GST_BUFFER_DTS(buffer) = GST_CLOCK_TIME_NONE;
+        gst_harness_push(h, buffer);
+        for (GstBuffer *out; (out = gst_harness_try_pull(h)); gst_buffer_unref(out)) continue;
+    }
+    g_atomic_int_set(&halted, TRUE);
+    g_thread_join(thread);
+    CHECK(g_atomic_int_get(&criticals) == 0);
+    g_log_set_default_handler(before, NULL);
+    gst_harness_teardown(h);
+    gst_object_unref(element);
+}
+
 void test_times(void) {
+    test_huge();
+    test_clocks();
     test_jitter();
     test_skew();
     test_jump();
