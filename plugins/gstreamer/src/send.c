@@ -6,7 +6,9 @@
  *
  * Sends RTP packets as they come, keeps them, and retransmits those that generic NACKs (RFC 4585) of the far side name, on an SSRC and
  * with a payload type of their own (RFC 4588, SSRC multiplexing). Media and retransmissions leave by the source pad. Each SSRC that
- * packets come with is a stream of its own, with a history and an SSRC of its retransmissions.
+ * packets come with is a stream of its own, with a history and an SSRC of its retransmissions. What rtprtxsend has of properties and
+ * caps is here too, and means the same: so it stands in rtprtxsend's place, as the auxiliary sender of an rtpbin. Packets that are
+ * retransmissions already go through.
  *
  * A packet goes out as it came, also with its number: what was reordered, doubled or lost before the element is that behind it. With
  * #GstGozdritSend:ssrc all packets are one stream of that SSRC, and with #GstGozdritSend:seqnum-offset its numbers begin there. One that is
@@ -41,6 +43,11 @@ enum {
     PROP_SILENCE_DELAY,
     PROP_MIN_INTERVAL,
     PROP_MAX_TIME,
+    PROP_TYPE_MAP,
+    PROP_SSRC_MAP,
+    PROP_RATE_MAP,
+    PROP_REQUESTS,
+    PROP_PACKETS,
     PROP_STATS
 };
 
@@ -194,7 +201,12 @@ static void begin(GstGozdritSend *self) {
     self->requested = self->rtx_taken = FALSE;
     self->rtx_ssrc = self->settings.rtx_ssrc;
     if (self->rtx_ssrc == SSRC_UNSET) self->rtx_ssrc = draw_ssrc(self->settings.ssrc, self->settings.receiver_ssrc);
+    self->rtx_first = (guint16)g_random_int();
+    guint history = self->settings.history;
     g_mutex_unlock(&self->lock);
+    if (history == 0 || history > GOZDRIT_MAX_STORE)
+        GST_ELEMENT_WARNING(self, LIBRARY, SETTINGS, ("No more than %d packets of a stream are kept.", GOZDRIT_MAX_STORE),
+                            ("max-size-packets is %u, and that is the most that the library keeps", history));
 }
 
 /* Nothing is waited for any more. */
@@ -250,6 +262,12 @@ static void set_property(GObject *object, guint id, const GValue *value, GParamS
     case PROP_SILENCE_DELAY: settings->silence_delay = g_value_get_uint(value); break;
     case PROP_MIN_INTERVAL: settings->min_interval = g_value_get_uint(value); break;
     case PROP_MAX_TIME: settings->max_time = g_value_get_uint(value); break;
+    case PROP_TYPE_MAP: type_map_set(&self->types, g_value_get_boxed(value)); break;
+    case PROP_RATE_MAP: type_map_set(&self->rates, g_value_get_boxed(value)); break;
+    case PROP_SSRC_MAP:
+        g_clear_pointer(&self->ssrcs, gst_structure_free);
+        self->ssrcs = g_value_dup_boxed(value);
+        break;
     default: G_OBJECT_WARN_INVALID_PROPERTY_ID(object, id, spec);
     }
     if (id == PROP_SILENCE_DELAY) silence_changed(self);
@@ -260,8 +278,15 @@ static void get_property(GObject *object, guint id, GValue *value, GParamSpec *s
     GstGozdritSend *self = GST_GOZDRIT_SEND(object);
     g_mutex_lock(&self->lock);
     send_settings settings = self->settings;
+    gozdrit_send_counts sums = sending_sums(self);
+    if (id == PROP_TYPE_MAP) g_value_set_boxed(value, self->types.given);
+    if (id == PROP_RATE_MAP) g_value_set_boxed(value, self->rates.given);
     g_mutex_unlock(&self->lock);
     switch (id) {
+    case PROP_TYPE_MAP:
+    case PROP_RATE_MAP: break;
+    case PROP_REQUESTS: g_value_set_uint(value, (guint)MIN(sums.nacked, G_MAXUINT)); break;
+    case PROP_PACKETS: g_value_set_uint(value, (guint)MIN(sums.retransmissions, G_MAXUINT)); break;
     case PROP_SSRC: g_value_set_uint(value, settings.ssrc); break;
     case PROP_RTX_SSRC: g_value_set_uint(value, settings.rtx_ssrc); break;
     case PROP_RECEIVER_SSRC: g_value_set_uint(value, settings.receiver_ssrc); break;
@@ -282,6 +307,9 @@ static void finalize(GObject *object) {
     GstGozdritSend *self = GST_GOZDRIT_SEND(object);
     sending_end(self);
     g_ptr_array_unref(self->streams);
+    type_map_set(&self->types, NULL);
+    type_map_set(&self->rates, NULL);
+    g_clear_pointer(&self->ssrcs, gst_structure_free);
     element_time_end(&self->time);
     g_cond_clear(&self->silence_cond);
     g_mutex_clear(&self->lock);
@@ -296,6 +324,16 @@ static void install_uint(GObjectClass *class, guint id, const gchar *name, const
         class, id, g_param_spec_uint(name, NULL, blurb, least, most, otherwise, PROPERTY_FLAGS));
 }
 
+static void install_map(GObjectClass *class, guint id, const gchar *name, const gchar *blurb, GParamFlags access) {
+    g_object_class_install_property(
+        class, id, g_param_spec_boxed(name, NULL, blurb, GST_TYPE_STRUCTURE, access | (GParamFlags)G_PARAM_STATIC_STRINGS));
+}
+
+static void install_count(GObjectClass *class, guint id, const gchar *name, const gchar *blurb) {
+    g_object_class_install_property(
+        class, id, g_param_spec_uint(name, NULL, blurb, 0, G_MAXUINT, 0, (GParamFlags)(G_PARAM_READABLE | G_PARAM_STATIC_STRINGS)));
+}
+
 static void install_properties(GObjectClass *class) {
     install_uint(class, PROP_SSRC, "ssrc",
                  "The SSRC of the media, of which there is one stream then (default == that of the packets)", 0, G_MAXUINT32, SSRC_UNSET);
@@ -304,12 +342,12 @@ static void install_properties(GObjectClass *class) {
     install_uint(class, PROP_RECEIVER_SSRC, "receiver-ssrc",
                  "The SSRC whose NACKs are heard (default == any)", 0, G_MAXUINT32, SSRC_UNSET);
     install_uint(class, PROP_RTX_TYPE, "rtx-payload-type",
-                 "The payload type of the retransmissions, not 64 to 95", 0, 127, RTX_TYPE);
+                 "The payload type of the retransmissions, where there is no payload-type-map; not 64 to 95", 0, 127, RTX_TYPE);
     g_object_class_install_property(
         class, PROP_FIRST, g_param_spec_int("seqnum-offset", NULL, "The first packet's sequence number (-1 == the one that "
                                             "it came with)", -1, G_MAXUINT16, -1, PROPERTY_FLAGS));
     install_uint(class, PROP_HISTORY, "max-size-packets",
-                 "How many packets of a stream are kept for retransmission", 1, GOZDRIT_MAX_STORE, 1024);
+                 "How many packets of a stream are kept for retransmission (0, and more than 8192 == 8192)", 0, G_MAXINT16, 1024);
     install_uint(class, PROP_REPEATS, "rtx-max-repeats",
                  "How often one packet is retransmitted at most", 1, 255, 8);
     install_uint(class, PROP_EOS_DELAY, "eos-delay",
@@ -321,8 +359,15 @@ static void install_properties(GObjectClass *class) {
                  "How long after its last retransmission a packet is not retransmitted again, in ms: about a round trip (0 == as "
                  "soon as it is asked for)", 0, G_MAXUINT, 0);
     install_uint(class, PROP_MAX_TIME, "max-size-time",
-                 "How long after it was sent a packet is retransmitted, in ms: about the latency of the other end (0 == as long as "
-                 "it is kept)", 0, G_MAXUINT, 0);
+                 "How long after it was sent, and by its timestamp before the newest one, a packet is retransmitted, in ms: about the "
+                 "latency of the other end (0 == as long as it is kept)", 0, G_MAXUINT, 0);
+    install_map(class, PROP_TYPE_MAP, "payload-type-map", "The payload types of packets that are kept, and of their retransmissions "
+                "(default == all, and rtx-payload-type)", G_PARAM_READWRITE);
+    install_map(class, PROP_SSRC_MAP, "ssrc-map", "SSRCs of media, and of their retransmissions (default == random)", G_PARAM_WRITABLE);
+    install_map(class, PROP_RATE_MAP, "clock-rate-map", "The clock rates of payload types, for max-size-time (default == that of the "
+                "caps)", G_PARAM_READWRITE);
+    install_count(class, PROP_REQUESTS, "num-rtx-requests", "How many packets were asked for, each as often as it was");
+    install_count(class, PROP_PACKETS, "num-rtx-packets", "How many retransmissions were sent");
     g_object_class_install_property(
         class, PROP_STATS, g_param_spec_boxed("stats", NULL, "What was counted since the element began: the library's counts",
                                               GST_TYPE_STRUCTURE, (GParamFlags)(G_PARAM_READABLE | G_PARAM_STATIC_STRINGS)));
@@ -356,6 +401,8 @@ static void gst_gozdrit_send_init(GstGozdritSend *self) {
     g_mutex_init(&self->lock);
     g_cond_init(&self->silence_cond);
     self->streams = g_ptr_array_new_with_free_func((GDestroyNotify)stream_free);
+    type_map_set(&self->types, NULL);
+    type_map_set(&self->rates, NULL);
     self->past = (gozdrit_send_counts)GOZDRIT_SEND_COUNTS_INIT;
     self->settings = (send_settings){.ssrc = SSRC_UNSET, .rtx_ssrc = SSRC_UNSET, .receiver_ssrc = SSRC_UNSET,
                                      .rtx_type = RTX_TYPE, .first = -1, .history = 1024, .repeats = 8, .eos_delay = 500,

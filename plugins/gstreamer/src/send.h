@@ -3,6 +3,7 @@
 #ifndef GOZDRIT_GST_SEND_H
 #define GOZDRIT_GST_SEND_H
 
+#include "maps.h"
 #include "stream.h"
 
 G_DECLARE_FINAL_TYPE(GstGozdritSend, gst_gozdrit_send, GST, GOZDRIT_SEND, GstElement)
@@ -15,9 +16,13 @@ struct _GstGozdritSend {
 
     GMutex lock; /* one call of the library at a time, and all that follows */
     send_settings settings;
+    type_map types;      /* of the retransmissions: what it has none for is not kept */
+    type_map rates;      /* of the timestamps */
+    GstStructure *ssrcs; /* of the retransmissions, or NULL */
     GPtrArray *streams;  /* send_stream, at most MOST_STREAMS of them */
     send_stream *recent; /* that of the last packet or caps, or NULL */
-    guint32 rtx_ssrc;    /* of the first stream, which caps tell before it comes */
+    guint32 rtx_ssrc;    /* of the first stream, which caps tell before it comes, and */
+    guint16 rtx_first;   /* its first number */
     gboolean rtx_taken;  /* it has come */
     gozdrit_send_counts past; /* the counts of the streams that are gone */
     guint64 media, reports, refused; /* datagrams of feedback: RTP, RTCP without a NACK, and what no stream took */
@@ -61,7 +66,10 @@ void sending_retransmissions(GstGozdritSend *self);
 /* Repeats the last packets, and answers until the time is over. */
 void sending_tail(GstGozdritSend *self);
 
-/* What was counted so far, by the streams that there are and those before. */
+/* The streams' counts, of those that there are and those before. The lock is held. */
+gozdrit_send_counts sending_sums(const GstGozdritSend *self);
+
+/* The same, and what the element counted, for its property. */
 GstStructure *sending_counts(GstGozdritSend *self);
 
 /* Ends all streams, and keeps their counts. The lock is held. */

@@ -9,6 +9,7 @@
 /* Whether an SSRC is a stream's, of media or of retransmissions, or that of the one receiver. */
 static gboolean is_taken(const GstGozdritSend *self, guint32 ssrc) {
     if (ssrc == self->settings.receiver_ssrc || ssrc == self->settings.ssrc || ssrc == self->rtx_ssrc) return TRUE;
+    if (map_leads_to(self->ssrcs, ssrc)) return TRUE;
     for (guint i = 0; i < self->streams->len; i++) {
         const send_stream *stream = g_ptr_array_index(self->streams, i);
         if (ssrc == stream->ssrc || ssrc == stream->media_ssrc || ssrc == stream->rtx_ssrc) return TRUE;
@@ -58,11 +59,14 @@ static void make_room(GstGozdritSend *self) {
     drop_stream(self, oldest);
 }
 
-/* The retransmissions' SSRC of a stream: that of the property or the caps is the first one's. */
+/* The retransmissions' SSRC of a stream: that of the map, or, where it is the first one, what the property or the caps said, or a drawn
+ * one. */
 static void set_rtx_ssrc(GstGozdritSend *self, send_stream *stream) {
-    stream->is_given = !self->rtx_taken && self->settings.rtx_ssrc != SSRC_UNSET;
-    stream->rtx_ssrc = self->rtx_ssrc;
-    if (self->rtx_taken || (!stream->is_given && stream->rtx_ssrc == stream->media_ssrc)) stream->rtx_ssrc = draw_rtx(self, stream->media_ssrc);
+    gint64 mapped = map_find(self->ssrcs, stream->media_ssrc);
+    stream->is_given = mapped >= 0 || (!self->rtx_taken && self->settings.rtx_ssrc != SSRC_UNSET);
+    stream->rtx_ssrc = mapped >= 0 ? (guint32)mapped : self->rtx_ssrc;
+    if (!stream->is_given && (self->rtx_taken || stream->rtx_ssrc == stream->media_ssrc)) stream->rtx_ssrc = draw_rtx(self, stream->media_ssrc);
+    if (!self->rtx_taken) stream->rtx_first = stream->rtx_next = self->rtx_first;
     self->rtx_taken = TRUE;
 }
 
@@ -92,6 +96,12 @@ void sending_end(GstGozdritSend *self) {
 
 /* ---- caps */
 
+/* The type of the retransmissions of packets of this one, or -1 where they are not kept. */
+static gint64 rtx_type_of(const GstGozdritSend *self, gint64 type) {
+    if (!self->types.given) return self->settings.rtx_type;
+    return type >= 0 && type < 128 ? self->types.of[type] : -1;
+}
+
 /* What is known of a stream before it comes is told: its number, where it has not begun, and its retransmissions. The type of these has
  * two names: this project's, and that of rtprtxsend. */
 GstCaps *sending_caps(GstGozdritSend *self, const GstCaps *caps) {
@@ -99,11 +109,16 @@ GstCaps *sending_caps(GstGozdritSend *self, const GstCaps *caps) {
     g_mutex_lock(&self->lock);
     const send_settings *settings = &self->settings;
     gint64 ssrc = caps_number(caps, "ssrc", -1), first = caps_number(caps, "seqnum-offset", -1);
+    gint64 rtx_type = rtx_type_of(self, caps_number(caps, "payload", -1));
     send_stream *stream = ssrc >= 0 ? stream_of(self, (guint32)ssrc) : self->recent;
     gint64 media = settings->ssrc != SSRC_UNSET ? (gint64)settings->ssrc : ssrc;
+    if (stream) stream->clock_rate = caps_number(caps, "clock-rate", -1);
     if (settings->first >= 0) first = settings->first;
-    gst_caps_set_simple(out, "rtcp-fb-nack", G_TYPE_BOOLEAN, TRUE, "rtx-payload-type", G_TYPE_INT, (gint)settings->rtx_type, "rtx-payload",
-                        G_TYPE_INT, (gint)settings->rtx_type, "rtx-ssrc", G_TYPE_UINT, stream ? stream->rtx_ssrc : self->rtx_ssrc, NULL);
+    gst_caps_set_simple(out, "rtx-ssrc", G_TYPE_UINT, stream ? stream->rtx_ssrc : self->rtx_ssrc, "rtx-seqnum-offset", G_TYPE_UINT,
+                        (guint)(stream ? stream->rtx_first : self->rtx_first), NULL);
+    if (rtx_type >= 0)
+        gst_caps_set_simple(out, "rtcp-fb-nack", G_TYPE_BOOLEAN, TRUE, "rtx-payload-type", G_TYPE_INT, (gint)rtx_type, "rtx-payload",
+                            G_TYPE_INT, (gint)rtx_type, NULL);
     if (media >= 0) gst_caps_set_simple(out, "ssrc", G_TYPE_UINT, (guint)media, NULL);
     if (first >= 0 && !(stream && stream->is_numbered)) gst_caps_set_simple(out, "seqnum-base", G_TYPE_UINT, (guint)first, NULL);
     g_mutex_unlock(&self->lock);
@@ -130,30 +145,40 @@ static gboolean is_short(GstRTPBuffer *rtp) {
     return words <= GOZDRIT_MAX_EXTENSION_WORDS && gst_rtp_buffer_get_payload_len(rtp) <= GOZDRIT_MAX_PAYLOAD;
 }
 
-/* The type of the retransmissions of packets of this one, or a refusal where they can have none. */
-static gint32 find_rtx_type(const GstGozdritSend *self, guint8 type, guint8 *rtx_type) {
-    *rtx_type = (guint8)self->settings.rtx_type;
-    return type == *rtx_type || (type >= 64 && type < 96) ? GOZDRIT_BAD_PAYLOAD_TYPE : GOZDRIT_OK;
+/* Whether packets of a type can have retransmissions of that one. */
+static gint32 check_types(const GstGozdritSend *self, guint8 type, gint64 rtx_type) {
+    gboolean is_rtcp = !self->types.given && type >= 64 && type < 96; /* on one port with RTCP (RFC 5761, section 4) */
+    return type == rtx_type || is_rtcp || rtx_type > 127 ? GOZDRIT_BAD_PAYLOAD_TYPE : GOZDRIT_OK;
+}
+
+/* The stream of a packet. One that is not kept begins none, unless a property says what all packets go out with. */
+static send_stream *stream_for(GstGozdritSend *self, guint32 ssrc, gboolean is_kept) {
+    const send_settings *settings = &self->settings;
+    if (!is_kept && settings->ssrc == SSRC_UNSET && settings->first < 0) return find_stream(self, ssrc);
+    return stream_of(self, ssrc);
 }
 
 /* A packet of its stream. The lock is held. */
 static taken take_packet(GstGozdritSend *self, GstBuffer *buffer, GstRTPBuffer *rtp) {
     guint32 ssrc = gst_rtp_buffer_get_ssrc(rtp);
     guint16 own = gst_rtp_buffer_get_seq(rtp);
-    stream_packet packet = {.buffer = buffer, .rtp = rtp, .kept = is_short(rtp)};
-    taken done = {.answer = find_rtx_type(self, gst_rtp_buffer_get_payload_type(rtp), &packet.rtx_type)};
-    if (done.answer != GOZDRIT_OK) return done;
+    guint8 type = gst_rtp_buffer_get_payload_type(rtp);
+    gint64 rtx_type = rtx_type_of(self, type);
+    taken done = {.answer = check_types(self, type, rtx_type), .ssrc = ssrc, .number = own};
+    stream_packet packet = {.buffer = buffer, .rtp = rtp, .rtx_type = (guint8)rtx_type, .is_kept = rtx_type >= 0 && is_short(rtp)};
+    send_stream *stream = done.answer == GOZDRIT_OK ? stream_for(self, ssrc, rtx_type >= 0) : NULL;
+    if (!stream) return done;
     GstClockTime now = element_time_now(&self->time);
-    send_stream *stream = stream_of(self, ssrc);
     if (!stream->is_numbered) stream->media_ssrc = media_of(self, ssrc);
+    if (self->rates.of[type] > 0) stream->clock_rate = self->rates.of[type];
     packet.number = stream_number(stream, ssrc, own, self->settings.first);
     done.answer = stream_take(stream, &self->settings, &packet, now / MILLISECOND);
-    if (packet.kept) silence_packet(self, stream, now);
+    if (packet.is_kept) silence_packet(self, stream, now);
     else stream->is_silent = TRUE;
     done.ssrc = stream->media_ssrc;
     done.number = packet.number;
     done.is_other = done.ssrc != ssrc || done.number != own;
-    done.too_long = !packet.kept && self->passed++ == 0;
+    done.too_long = rtx_type >= 0 && !packet.is_kept && self->passed++ == 0;
     return done;
 }
 
@@ -203,6 +228,10 @@ static void tell_too_long(GstGozdritSend *self, guint length) {
 GstFlowReturn sending_packet(GstGozdritSend *self, GstBuffer *buffer, GstBuffer **out) {
     GstRTPBuffer rtp = GST_RTP_BUFFER_INIT;
     *out = NULL;
+    if (GST_BUFFER_FLAG_IS_SET(buffer, GST_RTP_BUFFER_FLAG_RETRANSMISSION)) { /* of another sender before this one */
+        *out = buffer;
+        return GST_FLOW_OK;
+    }
     if (!gst_rtp_buffer_map(buffer, GST_MAP_READ, &rtp)) return drop_stray(self, buffer);
     guint length = gst_rtp_buffer_get_payload_len(&rtp);
     g_mutex_lock(&self->lock);
@@ -383,11 +412,16 @@ void sending_tail(GstGozdritSend *self) {
 
 /* ---- counts */
 
+gozdrit_send_counts sending_sums(const GstGozdritSend *self) {
+    gozdrit_send_counts sums = self->past;
+    for (guint i = 0; i < self->streams->len; i++) stream_add_counts(g_ptr_array_index(self->streams, i), &sums);
+    return sums;
+}
+
 GstStructure *sending_counts(GstGozdritSend *self) {
     GstStructure *told = gst_structure_new_empty("application/x-gozdrit-send-counts");
     g_mutex_lock(&self->lock);
-    gozdrit_send_counts now = self->past;
-    for (guint i = 0; i < self->streams->len; i++) stream_add_counts(g_ptr_array_index(self->streams, i), &now);
+    gozdrit_send_counts now = sending_sums(self);
     now.media = self->media;
     now.reports = self->reports;
     now.refused = self->refused;

@@ -7,7 +7,7 @@ send_stream *stream_new(guint32 ssrc, guint32 media_ssrc) {
     send_stream *stream = g_new0(send_stream, 1);
     stream->ssrc = ssrc;
     stream->media_ssrc = media_ssrc;
-    stream->rtx_next = (guint16)g_random_int();
+    stream->rtx_first = stream->rtx_next = (guint16)g_random_int();
     stream->clock_rate = stream->full_request = -1;
     stream->is_silent = TRUE;
     stream->past = stream->made = (gozdrit_send_counts)GOZDRIT_SEND_COUNTS_INIT;
@@ -59,7 +59,8 @@ static gint32 begin(send_stream *stream, const send_settings *settings, guint16 
     config.session = (gozdrit_session){.media_ssrc = stream->media_ssrc, .rtx_ssrc = stream->rtx_ssrc, .media_payload_type = LIBRARY_TYPE,
                                        .rtx_payload_type = LIBRARY_RTX_TYPE, .receiver_ssrc = settings->receiver_ssrc};
     if (config.any_reporter) config.session.receiver_ssrc = draw_ssrc(stream->media_ssrc, stream->rtx_ssrc);
-    config.history = settings->history;
+    gboolean is_most = settings->history == 0 || settings->history > GOZDRIT_MAX_STORE;
+    config.history = is_most ? GOZDRIT_MAX_STORE : settings->history;
     config.max_retransmissions = (guint8)settings->repeats;
     config.min_resend = settings->min_interval;
     config.deadline = settings->max_time;
@@ -144,7 +145,7 @@ static gint32 take_ahead(send_stream *stream, const stream_packet *packet, guint
     gint32 number = GOZDRIT_OK;
     gst_clear_buffer(&stream->jumped);
     for (; blanks > 0 && number == GOZDRIT_OK; blanks--) number = leave_blank(stream);
-    if (number == GOZDRIT_OK) number = packet->kept ? keep(stream, packet) : leave_blank(stream);
+    if (number == GOZDRIT_OK) number = packet->is_kept ? keep(stream, packet) : leave_blank(stream);
     return number;
 }
 
@@ -154,7 +155,7 @@ static gint32 take_jumped(send_stream *stream, const send_settings *settings, co
     GstRTPBuffer rtp = GST_RTP_BUFFER_INIT;
     gboolean goes_on = stream->jumped && stream->behind_jumped == packet->number;
     gint32 number = GOZDRIT_OK;
-    if (!packet->kept) return GOZDRIT_OK;
+    if (!packet->is_kept) return GOZDRIT_OK;
     if (!goes_on) {
         gst_buffer_replace(&stream->jumped, packet->buffer);
         stream->jumped_rtx_type = packet->rtx_type;
@@ -181,13 +182,13 @@ static gint32 take_near(send_stream *stream, const send_settings *settings, cons
     if (at->sequence != sequence) return take_jumped(stream, settings, packet); /* before the first one */
     gboolean came = !at->blank || at->late;
     if (came && at->timestamp != gst_rtp_buffer_get_timestamp(packet->rtp)) return take_jumped(stream, settings, packet);
-    if (!came && packet->kept) keep_late(stream, at, packet);
+    if (!came && packet->is_kept) keep_late(stream, at, packet);
     return GOZDRIT_OK;
 }
 
 gint32 stream_take(send_stream *stream, const send_settings *settings, const stream_packet *packet, guint64 now) {
     gint32 number = GOZDRIT_OK;
-    if (!stream->end.held && packet->kept) number = begin(stream, settings, packet->number);
+    if (!stream->end.held && packet->is_kept) number = begin(stream, settings, packet->number);
     stream->after = (guint16)(packet->number + 1);
     if (number != GOZDRIT_OK || !stream->end.held) return number;
     tell_time(stream, now);

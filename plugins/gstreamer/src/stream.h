@@ -15,9 +15,9 @@ typedef struct send_settings {
     guint32 ssrc;          /* SSRC_UNSET: that of the packets */
     guint32 rtx_ssrc;      /* SSRC_UNSET: drawn; else that of the first stream */
     guint32 receiver_ssrc; /* SSRC_UNSET: any reporter is heard */
-    guint rtx_type;
+    guint rtx_type; /* where there is no map of types */
     gint first; /* -1: the first packet's own number */
-    guint history;
+    guint history; /* 0, or more than the library keeps: as many as that */
     guint repeats;
     guint eos_delay;     /* milliseconds */
     guint silence_delay; /* the same; 0: none */
@@ -40,7 +40,7 @@ typedef struct stream_packet {
     GstRTPBuffer *rtp; /* of the buffer */
     guint16 number;    /* that it goes out with */
     guint8 rtx_type;
-    gboolean kept; /* it is to be kept, and the library can */
+    gboolean is_kept; /* it is to be kept, and the library can */
 } stream_packet;
 
 typedef struct send_stream {
@@ -48,8 +48,9 @@ typedef struct send_stream {
     guint32 media_ssrc; /* go out */
     guint32 rtx_ssrc;
     gboolean is_given; /* a property says the one before: it is drawn for no collision */
-    guint16 rtx_next;  /* the next retransmission's number */
-    gint64 clock_rate; /* of the caps, or -1 */
+    guint16 rtx_first; /* the first retransmission's number, and */
+    guint16 rtx_next;  /* the next one's */
+    gint64 clock_rate; /* of the caps or the map, or -1 */
 
     gboolean is_numbered; /* a packet came, and: */
     guint16 shift;        /* from its number to that which it goes out with */

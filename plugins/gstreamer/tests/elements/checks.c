@@ -234,7 +234,8 @@ int main(int count, char **words) {
         {"send", test_send},       {"feedback", test_feedback}, {"tail", test_tail},         {"receive", test_receive},
         {"times", test_times},     {"streams", test_streams},   {"restarts", test_restarts}, {"states", test_states},
         {"flushes", test_flushes}, {"caps", test_rtx_caps},      {"silence", test_silence}, {"storm", test_storm},
-        {"numbers", test_numbers}, {"metas", test_metas}, {"keyunits", test_key_units}, {"histories", test_histories},
+        {"numbers", test_numbers}, {"metas", test_metas}, {"keyunits", test_key_units},
+        {"dropin", test_drop_in}, {"histories", test_histories},
     };
     gst_init(NULL, NULL);
     for (guint i = 0; i < G_N_ELEMENTS(tests); i++) {
