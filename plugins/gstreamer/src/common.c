@@ -24,6 +24,16 @@ gint64 caps_number(const GstCaps *caps, const gchar *field, gint64 otherwise) {
     return text && g_ascii_isdigit(*text) ? (gint64)g_ascii_strtoull(text, NULL, 10) : otherwise;
 }
 
+void install_map(GObjectClass *class, guint id, const gchar *name, const gchar *blurb, GParamFlags access) {
+    g_object_class_install_property(
+        class, id, g_param_spec_boxed(name, NULL, blurb, GST_TYPE_STRUCTURE, access | (GParamFlags)G_PARAM_STATIC_STRINGS));
+}
+
+void install_count(GObjectClass *class, guint id, const gchar *name, const gchar *blurb) {
+    g_object_class_install_property(
+        class, id, g_param_spec_uint(name, NULL, blurb, 0, G_MAXUINT, 0, (GParamFlags)(G_PARAM_READABLE | G_PARAM_STATIC_STRINGS)));
+}
+
 void add_counts(gpointer sum, gconstpointer more, gsize size) {
     for (gsize i = 1; i < size / sizeof(guint64); i++) ((guint64 *)sum)[i] += ((const guint64 *)more)[i];
 }

@@ -51,6 +51,10 @@ GstClockID element_time_id(const element_time *time, GstClockTime when);
 /* An installed GStreamer property: blurbs tell unit and default. */
 #define PROPERTY_FLAGS ((GParamFlags)(G_PARAM_READWRITE | G_PARAM_STATIC_STRINGS))
 
+/* A map of numbers, and a count that can only be read. */
+void install_map(GObjectClass *class, guint id, const gchar *name, const gchar *blurb, GParamFlags access);
+void install_count(GObjectClass *class, guint id, const gchar *name, const gchar *blurb);
+
 /* Adds up two structs of the library's counts, of so many octets: each is its size, and behind that 64 bits a count. */
 void add_counts(gpointer sum, gconstpointer more, gsize size);
 

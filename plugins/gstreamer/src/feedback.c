@@ -113,7 +113,7 @@ static void wait_for_timeout(GstGozdritRecv *self, guint64 now) {
 }
 
 /* What a turn of the task found to do. */
-typedef enum turn { TURN_AGAIN, TURN_BEGIN, TURN_ASK, TURN_END, TURN_STOP } turn;
+typedef enum turn { TURN_AGAIN, TURN_BEGIN, TURN_ASK, TURN_SEND, TURN_END, TURN_STOP } turn;
 
 /* One turn: what is due now, and else it waits. The lock is held. */
 static turn take_turn(GstGozdritRecv *self, GstBuffer **asks) {
@@ -129,8 +129,9 @@ static turn take_turn(GstGozdritRecv *self, GstBuffer **asks) {
         return TURN_END;
     }
     if (!self->ended) *asks = next_key_request(self);
-    if (!self->ended && !*asks) *asks = next_nack(self, now);
-    if (*asks) return TURN_ASK;
+    if (*asks) return TURN_SEND;
+    if (!self->ended) *asks = next_nack(self, now);
+    if (*asks) return auxiliary_is(self) ? TURN_ASK : TURN_SEND;
     wait_for_timeout(self, now);
     return TURN_AGAIN;
 }
@@ -143,7 +144,8 @@ void feedback_task(gpointer pad) {
     g_mutex_unlock(&self->lock);
     switch (found) {
     case TURN_BEGIN: begin_stream(self); break;
-    case TURN_ASK: gst_pad_push(self->feedback, asks); break; /* who gets none is asked again */
+    case TURN_ASK: auxiliary_ask(self, asks); break;
+    case TURN_SEND: gst_pad_push(self->feedback, asks); break; /* who gets none is asked again */
     case TURN_END: gst_pad_push_event(self->feedback, gst_event_new_eos()); break;
     case TURN_STOP: gst_pad_pause_task(self->feedback); break;
     case TURN_AGAIN: break;

@@ -24,5 +24,10 @@ gboolean map_leads_to(const GstStructure *map, guint32 number) {
 void type_map_set(type_map *map, const GstStructure *given) {
     g_clear_pointer(&map->given, gst_structure_free);
     map->given = given ? gst_structure_copy(given) : NULL;
-    for (guint type = 0; type < G_N_ELEMENTS(map->of); type++) map->of[type] = map_find(map->given, type);
+    for (guint type = 0; type < 128; type++) {
+        map->of[type] = map_find(map->given, type);
+        map->from[type] = -1;
+    }
+    for (guint type = 0; type < 128; type++)
+        if (map->of[type] >= 0 && map->of[type] < 128) map->from[map->of[type]] = type;
 }

@@ -14,6 +14,7 @@ gboolean map_leads_to(const GstStructure *map, guint32 number);
 typedef struct type_map {
     GstStructure *given; /* NULL: there is none */
     gint64 of[128];      /* -1: nothing */
+    gint64 from[128];    /* the type that leads to one, or -1 */
 } type_map;
 
 void type_map_set(type_map *map, const GstStructure *given);

@@ -16,6 +16,16 @@ static void push_ready(GstGozdritRecv *self, gpointer item) {
     if (self->src_waits) g_cond_signal(&self->ready_cond);
 }
 
+/* Packets that are not the stream's have no window: where downstream stands still, they are dropped. */
+void playing_pass(GstGozdritRecv *self, GstBuffer *buffer) {
+    if (self->ready_packets >= GOZDRIT_MAX_STORE) {
+        self->dropped++;
+        return;
+    }
+    self->passed++;
+    push_ready(self, gst_buffer_ref(buffer));
+}
+
 /* What was lost is told with times between those of the packets around it. */
 static void tell_lost(GstGozdritRecv *self, GstClockTime next) {
     GstClockTime from = GST_CLOCK_TIME_IS_VALID(self->last_pts) ? self->last_pts : next, step = 0;
@@ -100,7 +110,7 @@ static void set_times(GstGozdritRecv *self, GstBuffer *out, const arrival *came,
 /* Whether a type is not the one that caps or a property say. */
 static gboolean is_unwanted(const GstGozdritRecv *self, guint8 type) {
     gint64 wanted = self->settings.type >= 0 ? self->settings.type : self->caps.type;
-    return wanted >= 0 && type != wanted;
+    return wanted >= 0 && type != wanted && !auxiliary_is(self);
 }
 
 /* Writes the header in front of the payload, and takes the buffer. */
@@ -140,8 +150,7 @@ static void set_flag(GstBuffer *buffer, GstBufferFlags flag, gboolean is_set) {
 static void play_packet(GstGozdritRecv *self, const gozdrit_played *played) {
     GstClockTime before = self->last_pts;
     arrival *came = arrival_of(self, played);
-    /* a retransmission tells no type: it has that of the media */
-    guint8 type = came && !came->is_repair ? came->type : self->session.media_payload_type;
+    guint8 type = came ? came->type : self->session.media_payload_type;
     if (played->sequence > self->expected)
         count_lost(self, self->expected, (guint)MIN(played->sequence - self->expected, G_MAXUINT16));
     if (is_unwanted(self, type)) {

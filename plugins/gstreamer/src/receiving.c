@@ -76,27 +76,41 @@ static gboolean is_free_ssrc(const GstGozdritRecv *self) {
     return self->settings.ssrc == SSRC_UNSET && self->caps.ssrc < 0;
 }
 
-static guint8 rtx_type_of(const GstGozdritRecv *self) {
-    gint64 type = self->settings.rtx_type >= 0 ? self->settings.rtx_type : self->caps.rtx_type;
-    return type >= 0 ? (guint8)type : RTX_TYPE;
+/* The type of the retransmissions of media of a type. */
+static guint8 rtx_type_of(const GstGozdritRecv *self, guint8 media) {
+    gint64 type = self->settings.rtx_type >= 0 ? self->settings.rtx_type : self->types.of[media];
+    if (type < 0) type = self->caps.rtx_type;
+    return type >= 0 && type < 128 ? (guint8)type : RTX_TYPE;
+}
+
+gboolean receiving_is_rtx_type(const GstGozdritRecv *self, guint8 type) {
+    return type == self->rtx_type || self->types.from[type] >= 0;
+}
+
+/* The SSRC of the retransmissions of media of an SSRC, as a property or the caps say it; or -1. */
+static gint64 rtx_ssrc_of(const GstGozdritRecv *self, guint32 media) {
+    gint64 mapped = map_find(self->ssrcs, media);
+    if (self->settings.rtx_ssrc != SSRC_UNSET) return self->settings.rtx_ssrc;
+    return mapped >= 0 ? mapped : self->caps.rtx_ssrc;
 }
 
 /* Whether an SSRC is said to be another stream's: no media begins with it. */
 static gboolean is_taken_ssrc(const GstGozdritRecv *self, guint32 ssrc) {
     gint64 rtx = self->settings.rtx_ssrc != SSRC_UNSET ? (gint64)self->settings.rtx_ssrc : self->caps.rtx_ssrc;
-    return ssrc == rtx || (self->settings.receiver_ssrc != SSRC_UNSET && ssrc == self->settings.receiver_ssrc);
+    gboolean is_ours = self->settings.receiver_ssrc != SSRC_UNSET && ssrc == self->settings.receiver_ssrc;
+    return ssrc == rtx || is_ours || map_leads_to(self->ssrcs, ssrc);
 }
 
 /* A session of what properties and caps say, and, where they say nothing, of the packet that begins it. */
 static void configure(GstGozdritRecv *self, guint8 type, guint32 ssrc, gozdrit_receiver_config *config) {
     const recv_settings *settings = &self->settings;
     gozdrit_session *session = &config->session;
-    gint64 rtx = settings->rtx_ssrc != SSRC_UNSET ? (gint64)settings->rtx_ssrc : self->caps.rtx_ssrc;
+    gint64 rtx = rtx_ssrc_of(self, ssrc);
     gozdrit_receiver_defaults(config, sizeof *config);
     session->media_ssrc = ssrc;
     session->media_payload_type = type;
     session->any_media_payload_type = 1;
-    session->rtx_payload_type = library_rtx_type(rtx_type_of(self), type);
+    session->rtx_payload_type = library_rtx_type(rtx_type_of(self, type), type);
     config->learn_rtx_ssrc = rtx < 0;
     session->receiver_ssrc = settings->receiver_ssrc;
     if (session->receiver_ssrc == SSRC_UNSET) session->receiver_ssrc = draw_ssrc(ssrc, (guint32)rtx);
@@ -114,6 +128,7 @@ static gboolean begin(GstGozdritRecv *self, const guint8 *octets, gsize length) 
     gozdrit_receiver_config config;
     if (length < 12 || octets[0] >> 6 != 2) return FALSE;
     if (type >= 0 ? type != PACKET_TYPE(octets) : PACKET_TYPE(octets) >= 64 && PACKET_TYPE(octets) < 96) return FALSE;
+    if (self->types.given && self->types.of[PACKET_TYPE(octets)] < 0) return FALSE; /* it has no retransmissions */
     configure(self, PACKET_TYPE(octets), ssrc >= 0 ? (guint32)ssrc : PACKET_SSRC(octets), &config);
     if (ssrc >= 0 ? ssrc != PACKET_SSRC(octets) : is_taken_ssrc(self, PACKET_SSRC(octets))) return FALSE;
     /* a repair came first */
@@ -121,7 +136,7 @@ static gboolean begin(GstGozdritRecv *self, const guint8 *octets, gsize length) 
     self->refused = gozdrit_receiver_new(&config, &self->end);
     if (self->refused != GOZDRIT_OK) return FALSE;
     self->session = config.session;
-    self->rtx_type = rtx_type_of(self);
+    self->rtx_type = rtx_type_of(self, PACKET_TYPE(octets));
     self->sessions++;
     if (self->caps.first >= 0) gozdrit_begin(&self->end, (guint16)self->caps.first);
     self->caps.first = -1; /* is the first stream's alone */
@@ -149,6 +164,7 @@ void receiving_end(GstGozdritRecv *self) {
     playing_release(self);
     count_all(self, &self->past, &self->past_probes);
     gozdrit_receiver_free(&self->end);
+    g_clear_pointer(&self->asked, g_free);
     playing_forget(self);
     rtp_times_begin(&self->times, self->times.clock_rate);
 }
@@ -190,12 +206,19 @@ static void note_arrival(GstGozdritRecv *self, GstBuffer *buffer, const guint8 *
     if (believed) rtp_times_arrived(&self->times, noted->timestamp, noted->pts);
 }
 
-/* Notes the buffer of a packet's retransmission. When that came says nothing of the packet's time, and it has another type. */
+/* The type of the media that retransmissions of a type are of: what a map says, or that of the first packet. */
+static guint8 type_behind(const GstGozdritRecv *self, guint8 rtx_type) {
+    gint64 mapped = self->types.from[rtx_type];
+    return mapped >= 0 ? (guint8)mapped : self->session.media_payload_type;
+}
+
+/* Notes the buffer of a packet's repair: when that came says nothing of the packet's time. */
 static void note_repair(GstGozdritRecv *self, GstBuffer *buffer, const guint8 *octets, guint64 sequence) {
     arrival *noted = &self->arrivals[(guint16)sequence % ARRIVALS];
     gst_buffer_replace(&noted->buffer, buffer);
     noted->timestamp = PACKET_TIMESTAMP(octets);
     noted->number = (guint16)sequence;
+    noted->type = PACKET_SSRC(octets) == self->session.media_ssrc ? PACKET_TYPE(octets) : type_behind(self, PACKET_TYPE(octets));
     noted->is_repair = TRUE;
 }
 
@@ -225,6 +248,7 @@ static void take_other(GstGozdritRecv *self, GstBuffer *buffer, const guint8 *oc
     GstMapInfo map;
     if (!other->buffer || other->ssrc != PACKET_SSRC(octets) || other->next != PACKET_SEQUENCE(octets)) {
         gst_buffer_replace(&other->buffer, buffer);
+        other->is_known = TRUE;
         other->ssrc = PACKET_SSRC(octets);
         other->next = (guint16)(PACKET_SEQUENCE(octets) + 1);
         return;
@@ -244,42 +268,77 @@ static void take_other(GstGozdritRecv *self, GstBuffer *buffer, const guint8 *oc
  * knows them by, each of the two stands for the other one. */
 static guint8 library_type(const GstGozdritRecv *self, const guint8 *octets) {
     guint8 type = PACKET_TYPE(octets), known = self->session.rtx_payload_type;
-    if (type == self->rtx_type) return known;
+    if (receiving_is_rtx_type(self, type)) return known;
     if (PACKET_SSRC(octets) == self->session.media_ssrc && (type < 64 || type >= 96)) return self->session.media_payload_type;
     return type == known ? self->rtx_type : type;
 }
 
+/* A packet as the library is to have it, where that is not as it came, and then it is to be freed; or NULL. */
+static guint8 *rewritten(GstGozdritRecv *self, GstBuffer *buffer, const guint8 *octets, gsize *length) {
+    guint8 *copy = NULL;
+    if (*length < 12) return NULL;
+    if (auxiliary_is_repair(self, buffer, octets, *length)) {
+        copy = auxiliary_wrap(self, octets, *length);
+        if (copy) *length += 2;
+    } else if (library_type(self, octets) != PACKET_TYPE(octets)) {
+        copy = g_malloc(*length);
+        memcpy(copy, octets, *length);
+        copy[1] = (guint8)((octets[1] & 128) | library_type(self, octets));
+    }
+    return copy;
+}
+
 /* Hands a packet to the library. */
-static gint32 receive(GstGozdritRecv *self, const guint8 *octets, gsize length, guint64 now, gozdrit_received *received) {
-    guint8 type = length < 12 ? 0 : library_type(self, octets);
-    if (length < 12 || type == PACKET_TYPE(octets)) return gozdrit_receive(&self->end, octets, length, now, received);
-    guint8 *copy = g_malloc(length);
-    memcpy(copy, octets, length);
-    copy[1] = (guint8)((octets[1] & 128) | type);
-    gint32 number = gozdrit_receive(&self->end, copy, length, now, received);
-    g_free(copy);
+static gint32 receive(GstGozdritRecv *self, GstBuffer *buffer, const guint8 *octets, gsize length, guint64 now, gozdrit_received *received) {
+    guint8 *other = rewritten(self, buffer, octets, &length);
+    const guint8 *handed = other ? other : octets;
+    if (length >= 12 && PACKET_TYPE(handed) == self->session.rtx_payload_type) self->rtx_came++;
+    gint32 number = gozdrit_receive(&self->end, handed, length, now, received);
+    g_free(other);
     return number;
+}
+
+/* Whether the library knows nothing of a packet's stream. */
+static gboolean is_unknown(const GstGozdritRecv *self, const guint8 *octets, gsize length, guint8 refusal) {
+    return length >= 12 && (refusal == GOZDRIT_UNKNOWN_SSRC || refusal == GOZDRIT_UNKNOWN_PAYLOAD_TYPE) &&
+           PACKET_SSRC(octets) != self->session.media_ssrc && !is_taken_ssrc(self, PACKET_SSRC(octets));
+}
+
+/* Where nobody takes feedback, packets of other streams go through. One of them takes the place of the stream where that is gone. */
+static void pass_other(GstGozdritRecv *self, GstBuffer *buffer, const guint8 *octets, gsize length, guint64 now) {
+    if (is_free_ssrc(self) && !receiving_is_rtx_type(self, PACKET_TYPE(octets)) && auxiliary_takes_over(self, octets, now)) {
+        receiving_end(self);
+        if (begin(self, octets, length)) take(self, buffer, octets, length, now);
+    } else {
+        playing_pass(self, buffer);
+    }
+}
+
+static void refuse(GstGozdritRecv *self, GstBuffer *buffer, const guint8 *octets, gsize length, guint64 now, guint8 refusal) {
+    GST_LOG_OBJECT(self, "not taken: %s", gozdrit_refusal_name(refusal));
+    if (refusal == GOZDRIT_TOO_LONG) self->refused = GOZDRIT_TOO_LONG;
+    if (auxiliary_is(self) && is_unknown(self, octets, length, refusal)) pass_other(self, buffer, octets, length, now);
+    else if (is_other_stream(self, octets, refusal)) take_other(self, buffer, octets, length, now);
 }
 
 static void take(GstGozdritRecv *self, GstBuffer *buffer, const guint8 *octets, gsize length, guint64 now) {
     gozdrit_received received = GOZDRIT_RECEIVED_INIT;
-    if (receive(self, octets, length, now, &received) != GOZDRIT_OK) return;
+    if (receive(self, buffer, octets, length, now, &received) != GOZDRIT_OK) return;
+    if (received.kind != GOZDRIT_REFUSED && received.kind != GOZDRIT_RTCP) self->last_media = now;
     switch (received.kind) {
     case GOZDRIT_MEDIA: note_arrival(self, buffer, octets, TRUE); break;
     case GOZDRIT_HELD_BACK: note_arrival(self, buffer, octets, FALSE); break;
     case GOZDRIT_RETRANSMISSION: note_repair(self, buffer, octets, received.sequence); break;
     case GOZDRIT_RESTARTED: restarted(self, buffer, octets); break;
-    case GOZDRIT_REFUSED:
-        GST_LOG_OBJECT(self, "not taken: %s", gozdrit_refusal_name(received.refusal));
-        if (received.refusal == GOZDRIT_TOO_LONG) self->refused = GOZDRIT_TOO_LONG;
-        if (is_other_stream(self, octets, received.refusal)) take_other(self, buffer, octets, length, now);
-        break;
+    case GOZDRIT_REFUSED: refuse(self, buffer, octets, length, now, received.refusal); break;
     default: break;
     }
 }
 
 void receiving_packet(GstGozdritRecv *self, GstBuffer *buffer, const guint8 *octets, gsize length, guint64 now) {
-    if (self->end.held || begin(self, octets, length)) take(self, buffer, octets, length, now);
+    gboolean is_made = GST_BUFFER_FLAG_IS_SET(buffer, GST_RTP_BUFFER_FLAG_RETRANSMISSION); /* no stream begins with a repair */
+    if (self->end.held || (!is_made && begin(self, octets, length))) take(self, buffer, octets, length, now);
+    else if (auxiliary_is(self) && length >= 12 && octets[0] >> 6 == 2) playing_pass(self, buffer);
     else self->strays++;
 }
 
@@ -312,6 +371,13 @@ void receiving_set_times(GstGozdritRecv *self) {
 
 /* ---- counts */
 
+gozdrit_receive_counts receiving_sums(const GstGozdritRecv *self) {
+    gozdrit_receive_counts counts;
+    gozdrit_probe_counts probes;
+    count_all(self, &counts, &probes);
+    return counts;
+}
+
 GstStructure *receiving_counts(GstGozdritRecv *self) {
     GstStructure *told = gst_structure_new_empty("application/x-gozdrit-receive-counts");
     gozdrit_receive_counts counts;
@@ -336,6 +402,8 @@ GstStructure *receiving_counts(GstGozdritRecv *self) {
     ADD_COUNT(told, "nacked", counts.nacked);
     ADD_COUNT(told, "strays", self->strays);
     ADD_COUNT(told, "other-types", self->unwanted);
+    ADD_COUNT(told, "passed", self->passed);
+    ADD_COUNT(told, "dropped", self->dropped);
     ADD_COUNT(told, "sessions", self->sessions);
     ADD_COUNT(told, "key-requests", self->key_requests);
     ADD_COUNT(told, "rtx-round-trip", times_of(self).round_trip * MILLISECOND);

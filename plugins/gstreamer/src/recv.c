@@ -18,6 +18,10 @@
  *
  * An event `GstForceKeyUnit` that comes from downstream leaves by `feedback_src` as a PLI, or as a FIR where all headers are wanted.
  *
+ * Where `feedback_src` is not linked, the element is one between others, as the auxiliary receiver of an rtpbin: it asks by events
+ * `GstRTPRetransmissionRequest` that go upstream, packets of other streams and types go through, and media that are flagged as
+ * retransmissions are repairs.
+ *
  * ## Example pipeline
  * |[
  * gst-launch-1.0 udpsrc port=6004 caps=application/x-rtp,media=video,clock-rate=90000,encoding-name=VP8,payload=96
@@ -39,6 +43,11 @@ enum {
     PROP_TYPE,
     PROP_RTX_TYPE,
     PROP_DO_LOST,
+    PROP_TYPE_MAP,
+    PROP_SSRC_MAP,
+    PROP_REQUESTS,
+    PROP_PACKETS,
+    PROP_TAKEN,
     PROP_STATS
 };
 
@@ -255,9 +264,11 @@ static gboolean src_query(GstPad *pad, GstObject *parent, GstQuery *query) {
     return TRUE;
 }
 
-/* A key frame that downstream wants is asked for by a datagram where feedback_src is linked, and else by whoever is upstream. */
+/* A key frame that downstream wants is asked for by a datagram where feedback_src is linked, and else by whoever is upstream. What a jitter
+ * buffer behind this element asks for of its stream was asked for here, and given up. */
 static gboolean src_event(GstPad *pad, GstObject *parent, GstEvent *event) {
-    if (!feedback_key_unit(GST_GOZDRIT_RECV(parent), event)) return gst_pad_event_default(pad, parent, event);
+    GstGozdritRecv *self = GST_GOZDRIT_RECV(parent);
+    if (!feedback_key_unit(self, event) && !auxiliary_request(self, event)) return gst_pad_event_default(pad, parent, event);
     gst_event_unref(event);
     return TRUE;
 }
@@ -288,7 +299,8 @@ static void begin(GstGozdritRecv *self) {
     self->caps = (recv_caps){-1, -1, -1, -1, -1, -1, -1};
     self->past = (gozdrit_receive_counts)GOZDRIT_RECEIVE_COUNTS_INIT;
     self->past_probes = (gozdrit_probe_counts)GOZDRIT_PROBE_COUNTS_INIT;
-    self->sessions = self->strays = self->unwanted = self->key_requests = 0;
+    self->sessions = self->strays = self->unwanted = self->key_requests = self->passed = self->dropped = self->rtx_came = 0;
+    self->other = (candidate){0};
     self->key_wanted = FALSE;
     self->untold = -1;
     self->refused = GOZDRIT_OK;
@@ -368,6 +380,11 @@ static void set_property(GObject *object, guint id, const GValue *value, GParamS
     case PROP_TYPE: settings->type = g_value_get_int(value); break;
     case PROP_RTX_TYPE: settings->rtx_type = g_value_get_int(value); break;
     case PROP_DO_LOST: settings->do_lost = g_value_get_boolean(value); break;
+    case PROP_TYPE_MAP: type_map_set(&self->types, g_value_get_boxed(value)); break;
+    case PROP_SSRC_MAP:
+        g_clear_pointer(&self->ssrcs, gst_structure_free);
+        self->ssrcs = g_value_dup_boxed(value);
+        break;
     default: G_OBJECT_WARN_INVALID_PROPERTY_ID(object, id, spec);
     }
     receiving_set_times(self);
@@ -392,6 +409,10 @@ static void get_property(GObject *object, guint id, GValue *value, GParamSpec *s
     case PROP_TYPE: g_value_set_int(value, settings->type); break;
     case PROP_RTX_TYPE: g_value_set_int(value, settings->rtx_type); break;
     case PROP_DO_LOST: g_value_set_boolean(value, settings->do_lost); break;
+    case PROP_TYPE_MAP: g_value_set_boxed(value, self->types.given); break;
+    case PROP_REQUESTS: g_value_set_uint(value, (guint)MIN(receiving_sums(self).nacked, G_MAXUINT)); break;
+    case PROP_PACKETS: g_value_set_uint(value, (guint)MIN(self->rtx_came, G_MAXUINT)); break;
+    case PROP_TAKEN: g_value_set_uint(value, (guint)MIN(receiving_sums(self).retransmissions, G_MAXUINT)); break;
     case PROP_STATS: g_value_take_boxed(value, receiving_counts(self)); break;
     default: G_OBJECT_WARN_INVALID_PROPERTY_ID(object, id, spec);
     }
@@ -406,6 +427,9 @@ static void finalize(GObject *object) {
     element_time_end(&self->time);
     gst_queue_array_free(self->ready);
     playing_forget(self);
+    type_map_set(&self->types, NULL);
+    g_clear_pointer(&self->ssrcs, gst_structure_free);
+    g_free(self->asked);
     g_free(self->arrivals);
     g_cond_clear(&self->timer_cond);
     g_cond_clear(&self->ready_cond);
@@ -446,6 +470,12 @@ static void install_properties(GObjectClass *class) {
                 -1, 127);
     install_int(class, PROP_RTX_TYPE, "rtx-payload-type", "The payload type of the retransmissions (-1 == that of the caps, or 97)",
                 -1, 127);
+    install_map(class, PROP_TYPE_MAP, "payload-type-map", "The payload types of media, and of their retransmissions: with it, no stream of "
+                "other types begins (default == all, and rtx-payload-type)", G_PARAM_READWRITE);
+    install_map(class, PROP_SSRC_MAP, "ssrc-map", "SSRCs of media, and of their retransmissions (default == learnt)", G_PARAM_WRITABLE);
+    install_count(class, PROP_REQUESTS, "num-rtx-requests", "How many packets were asked for, each as often as it was");
+    install_count(class, PROP_PACKETS, "num-rtx-packets", "How many retransmissions came");
+    install_count(class, PROP_TAKEN, "num-rtx-assoc-packets", "How many of these were taken");
     g_object_class_install_property(
         class, PROP_DO_LOST, g_param_spec_boolean("do-lost", NULL, "Send an event GstRTPPacketLost downstream for each packet that "
                                                   "is lost for good", FALSE, PROPERTY_FLAGS));
@@ -504,5 +534,6 @@ static void gst_gozdrit_recv_init(GstGozdritRecv *self) {
     g_queue_init(&self->held);
     self->ready = gst_queue_array_new(64);
     self->arrivals = g_new0(arrival, ARRIVALS);
+    type_map_set(&self->types, NULL);
     init_pads(self);
 }

@@ -1,5 +1,6 @@
 /* gozdritrecv, the receiving element. recv.c is the element: its pads, properties and states. receiving.c takes packets into
- * the session, playing.c makes of what the session plays what goes out, and feedback.c has the timer.
+ * the session, playing.c makes of what the session plays what goes out, feedback.c has the timer, and auxiliary.c what is otherwise where
+ * nobody takes feedback.
  *
  * Three threads run in it. The one that packets come by takes them, and never waits. The source pad's task pushes what
  * was played, and waits for what is behind it. The feedback pad's task waits for the session's next timeout, and asks. */
@@ -7,6 +8,7 @@
 #define GOZDRIT_GST_RECV_H
 
 #include "common.h"
+#include "maps.h"
 #include "times.h"
 
 #include <gst/base/base.h>
@@ -55,9 +57,13 @@ typedef struct held_event {
     guint64 behind;
 } held_event;
 
+/* When a packet was asked for by an event. */
+typedef struct asked asked;
+
 /* The packet with which a stream of another SSRC may begin. */
 typedef struct candidate {
-    GstBuffer *buffer;
+    GstBuffer *buffer; /* NULL where it went out */
+    gboolean is_known;
     guint32 ssrc;
     guint16 next;
 } candidate;
@@ -74,6 +80,8 @@ struct _GstGozdritRecv {
     GMutex starting; /* one start of a task at a time, and whether its pad is open; taken before the lock */
     GMutex lock;     /* one call of the library at a time, and all that follows */
     recv_settings settings;
+    type_map types;      /* of the retransmissions, by those of the media */
+    GstStructure *ssrcs; /* the same of SSRCs, or NULL */
     recv_caps caps;
     element_time time;
     GstSegment segment;
@@ -90,6 +98,11 @@ struct _GstGozdritRecv {
     gint32 refused;  /* an answer of the library that is to be told without the lock, or 0 */
     gboolean warned; /* a packet that was too long was told */
     candidate other;
+    guint64 last_media; /* when the last packet of the stream came, in milliseconds */
+    guint64 passed;     /* packets of other streams that went through */
+    guint64 dropped;    /* the same, of which too many were ready */
+    guint64 rtx_came;   /* retransmissions, taken or not */
+    asked *asked;       /* GOZDRIT_MAX_STORE of them, or NULL where none was needed */
 
     rtp_times times;
     arrival *arrivals; /* ARRIVALS of them, by the sequence number */
@@ -131,6 +144,8 @@ gboolean receiving_is_rtx(const GstCaps *caps);
 gboolean receiving_caps(GstGozdritRecv *self, const GstCaps *caps);
 /* Takes a packet; what can be played then is still to be. */
 void receiving_packet(GstGozdritRecv *self, GstBuffer *buffer, const guint8 *octets, gsize length, guint64 now);
+/* Whether packets of a type are retransmissions. */
+gboolean receiving_is_rtx_type(const GstGozdritRecv *self, guint8 type);
 /* Gives up what is missing, plays all else, and ends the session. */
 void receiving_end(GstGozdritRecv *self);
 /* Forgets what is held, and where the packets' times lie. */
@@ -138,6 +153,8 @@ void receiving_flush(GstGozdritRecv *self);
 void receiving_set_times(GstGozdritRecv *self);
 /* The least time between two asks, in milliseconds. */
 guint64 receiving_step(const GstGozdritRecv *self);
+/* The library's counts, of all sessions; and these with the element's own. */
+gozdrit_receive_counts receiving_sums(const GstGozdritRecv *self);
 GstStructure *receiving_counts(GstGozdritRecv *self);
 
 /* ---- playing.c. The lock is held in all but the task. */
@@ -145,6 +162,8 @@ GstStructure *receiving_counts(GstGozdritRecv *self);
 void playing_all(GstGozdritRecv *self, guint64 now);
 void playing_event(GstGozdritRecv *self, GstEvent *event);
 void playing_release(GstGozdritRecv *self);
+/* A packet goes out as it came, behind what is ready. */
+void playing_pass(GstGozdritRecv *self, GstBuffer *buffer);
 void playing_begin_stream(GstGozdritRecv *self);
 void playing_clear(GstGozdritRecv *self);
 /* Forgets how packets came that are not still to go out. */
@@ -162,5 +181,21 @@ void feedback_go_on(GstGozdritRecv *self);
 /* Asks for a key frame. FALSE where there is no session or nobody to ask. */
 gboolean feedback_key_unit(GstGozdritRecv *self, const GstEvent *event);
 void feedback_task(gpointer pad);
+
+/* ---- auxiliary.c */
+
+/* Whether nobody takes feedback. */
+gboolean auxiliary_is(const GstGozdritRecv *self);
+/* Whether a packet of another stream, which follows another one of it, takes the place of the stream, which is gone. The lock is held, as in
+ * the next two. */
+gboolean auxiliary_takes_over(GstGozdritRecv *self, const guint8 *octets, guint64 now);
+/* Whether a packet of the media was repaired upstream. */
+gboolean auxiliary_is_repair(const GstGozdritRecv *self, GstBuffer *buffer, const guint8 *octets, gsize length);
+/* The retransmission that such a packet was made of, which has two octets more and is to be freed, or NULL where it is no packet. */
+guint8 *auxiliary_wrap(GstGozdritRecv *self, const guint8 *octets, gsize length);
+/* Asks upstream for what a NACK names, of which it takes the reference. */
+void auxiliary_ask(GstGozdritRecv *self, GstBuffer *nack);
+/* Whether an event from downstream asks for a packet of the stream, which is asked for here. */
+gboolean auxiliary_request(GstGozdritRecv *self, const GstEvent *event);
 
 #endif

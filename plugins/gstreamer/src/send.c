@@ -324,16 +324,6 @@ static void install_uint(GObjectClass *class, guint id, const gchar *name, const
         class, id, g_param_spec_uint(name, NULL, blurb, least, most, otherwise, PROPERTY_FLAGS));
 }
 
-static void install_map(GObjectClass *class, guint id, const gchar *name, const gchar *blurb, GParamFlags access) {
-    g_object_class_install_property(
-        class, id, g_param_spec_boxed(name, NULL, blurb, GST_TYPE_STRUCTURE, access | (GParamFlags)G_PARAM_STATIC_STRINGS));
-}
-
-static void install_count(GObjectClass *class, guint id, const gchar *name, const gchar *blurb) {
-    g_object_class_install_property(
-        class, id, g_param_spec_uint(name, NULL, blurb, 0, G_MAXUINT, 0, (GParamFlags)(G_PARAM_READABLE | G_PARAM_STATIC_STRINGS)));
-}
-
 static void install_properties(GObjectClass *class) {
     install_uint(class, PROP_SSRC, "ssrc",
                  "The SSRC of the media, of which there is one stream then (default == that of the packets)", 0, G_MAXUINT32, SSRC_UNSET);

@@ -104,6 +104,7 @@ void test_key_units(void);
 void test_silence(void);
 void test_receive(void);
 void test_metas(void);
+void test_auxiliary(void);
 void test_times(void);
 void test_streams(void);
 void test_flushes(void);

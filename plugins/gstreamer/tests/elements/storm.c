@@ -167,7 +167,7 @@ static void make_pads(storm *s) {
     gst_pad_set_event_function(s->back[0], go_back_event);
     link_pads(s->source, pads[0]);
     link_pads(s->back[1], pads[1]);
-    link_pads(pads[2], s->back[0]);
+    if (g_rand_boolean(s->drawn)) link_pads(pads[2], s->back[0]); /* else what is asked for goes upstream by events */
     gst_pad_add_probe(pads[3], GST_PAD_PROBE_TYPE_BUFFER, pass_path, s, NULL);
     gst_pad_set_active(s->source, TRUE);
     for (gint i = 0; i < 2; i++) gst_pad_set_active(s->back[i], TRUE);

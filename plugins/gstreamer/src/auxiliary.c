@@ -1,0 +1,109 @@
+/* What a receiver does where nobody takes its feedback: it stands between others, as rtpbin's auxiliary receiver between an rtpsession and a
+ * jitter buffer. It asks by events that go upstream, which an rtpsession makes NACKs of, and what is not its stream goes through. */
+#include "recv.h"
+
+#include <gst/rtp/rtp.h>
+#include <string.h>
+
+gboolean auxiliary_is(const GstGozdritRecv *self) { return !gst_pad_is_linked(self->feedback); }
+
+/* ---- other streams. The lock is held. */
+
+/* So long nothing of the stream came, in milliseconds, when another one takes its place. */
+enum { GONE = 5000 };
+
+gboolean auxiliary_takes_over(GstGozdritRecv *self, const guint8 *octets, guint64 now) {
+    candidate *other = &self->other;
+    gboolean follows = other->is_known && other->ssrc == PACKET_SSRC(octets) && other->next == PACKET_SEQUENCE(octets);
+    gst_clear_buffer(&other->buffer);
+    *other = (candidate){.is_known = TRUE, .ssrc = PACKET_SSRC(octets), .next = (guint16)(PACKET_SEQUENCE(octets) + 1)};
+    return follows && now >= self->last_media + GONE;
+}
+
+/* ---- repairs that another element made media of again. The lock is held. */
+
+gboolean auxiliary_is_repair(const GstGozdritRecv *self, GstBuffer *buffer, const guint8 *octets, gsize length) {
+    return GST_BUFFER_FLAG_IS_SET(buffer, GST_RTP_BUFFER_FLAG_RETRANSMISSION) && self->end.held && length >= 12 &&
+           PACKET_SSRC(octets) == self->session.media_ssrc && !receiving_is_rtx_type(self, PACKET_TYPE(octets));
+}
+
+/* How long a packet's header is; 0 where it does not fit. */
+static gsize head_of(const guint8 *octets, gsize length) {
+    gsize head = 12 + 4 * (gsize)(octets[0] & 15);
+    if (octets[0] & 16) head += head + 4 <= length ? 4 + 4 * (gsize)GST_READ_UINT16_BE(octets + head + 2) : length;
+    return head <= length ? head : 0;
+}
+
+guint8 *auxiliary_wrap(GstGozdritRecv *self, const guint8 *octets, gsize length) {
+    gsize head = head_of(octets, length);
+    gozdrit_ssrc learnt = {.ssrc = self->session.rtx_ssrc};
+    if (head == 0) return NULL;
+    gozdrit_rtx_ssrc(&self->end, &learnt);
+    guint8 *wrapped = g_malloc(length + 2);
+    memcpy(wrapped, octets, head);
+    memcpy(wrapped + head, octets + 2, 2); /* the number of the packet: RFC 4588, section 4 */
+    memcpy(wrapped + head + 2, octets + head, length - head);
+    wrapped[1] = (guint8)((octets[1] & 128) | self->session.rtx_payload_type);
+    GST_WRITE_UINT32_BE(wrapped + 8, learnt.ssrc);
+    return wrapped;
+}
+
+/* ---- asking by events */
+
+/* When a packet was asked for first, and how often; by the lowest bits of its number. */
+struct asked {
+    guint64 first; /* milliseconds */
+    guint16 number;
+    guint8 count; /* 0: never */
+};
+
+/* The event by which a packet is asked for, with the fields that rtpjitterbuffer gives it. The lock is held. */
+static GstEvent *make_request(GstGozdritRecv *self, guint16 number, guint64 now) {
+    gozdrit_times times = GOZDRIT_TIMES_INIT;
+    if (!self->asked) self->asked = g_new0(asked, GOZDRIT_MAX_STORE);
+    asked *at = &self->asked[number % GOZDRIT_MAX_STORE];
+    if (at->count == 0 || at->number != number || now > at->first + self->settings.latency) *at = (asked){.first = now, .number = number};
+    gozdrit_receiver_times(&self->end, &times);
+    guint64 delay = times.reorder_delay + (now > at->first ? now - at->first : 0), retry = at->count;
+    at->count = (guint8)MIN(at->count + 1, 255);
+    return gst_event_new_custom(
+        GST_EVENT_CUSTOM_UPSTREAM,
+        gst_structure_new("GstRTPRetransmissionRequest", "seqnum", G_TYPE_UINT, (guint)number, "ssrc", G_TYPE_UINT, self->session.media_ssrc,
+                          "payload-type", G_TYPE_UINT, (guint)self->session.media_payload_type, "delay", G_TYPE_UINT,
+                          (guint)MIN(delay, G_MAXUINT), "retry", G_TYPE_UINT, (guint)retry, "frequency", G_TYPE_UINT,
+                          (guint)MIN(times.nack_interval, G_MAXUINT), "period", G_TYPE_UINT, self->settings.latency, "deadline", G_TYPE_UINT,
+                          self->settings.latency, "avg-rtt", G_TYPE_UINT, (guint)MIN(times.known ? times.round_trip : times.nack_interval, G_MAXUINT), NULL));
+}
+
+/* The numbers of a pair: the first, and those of the bits behind it (RFC 4585, section 6.2.1). */
+static guint requests_of(GstGozdritRecv *self, const guint8 *pair, guint64 now, GstEvent **requests) {
+    guint16 first = GST_READ_UINT16_BE(pair), more = GST_READ_UINT16_BE(pair + 2);
+    guint count = 0;
+    requests[count++] = make_request(self, first, now);
+    for (guint i = 0; i < 16; i++)
+        if (more >> i & 1) requests[count++] = make_request(self, (guint16)(first + i + 1), now);
+    return count;
+}
+
+void auxiliary_ask(GstGozdritRecv *self, GstBuffer *nack) {
+    guint8 octets[GOZDRIT_MAX_NACK_DATAGRAM];
+    GstEvent *requests[GOZDRIT_MAX_NACKED];
+    gsize length = gst_buffer_extract(nack, 0, octets, sizeof octets);
+    guint count = 0;
+    gst_buffer_unref(nack);
+    g_mutex_lock(&self->lock);
+    guint64 now = receiving_now(self);
+    for (gsize at = 12; at + 4 <= length && self->end.held; at += 4) count += requests_of(self, octets + at, now, requests + count);
+    g_mutex_unlock(&self->lock);
+    for (guint i = 0; i < count; i++) gst_pad_push_event(self->sink, requests[i]);
+}
+
+gboolean auxiliary_request(GstGozdritRecv *self, const GstEvent *event) {
+    const GstStructure *told = gst_event_get_structure((GstEvent *)event);
+    guint ssrc;
+    if (!told || !gst_structure_has_name(told, "GstRTPRetransmissionRequest") || !gst_structure_get_uint(told, "ssrc", &ssrc)) return FALSE;
+    g_mutex_lock(&self->lock);
+    gboolean is_ours = self->end.held && self->session.media_ssrc == ssrc;
+    g_mutex_unlock(&self->lock);
+    return is_ours;
+}
