@@ -155,7 +155,23 @@ static void test_taken_ssrc(void) {
     drop_receiver(&r);
 }
 
+/* What is a jump, the library says: 3000 places ahead, and 100 behind where nothing is missing. */
+static void test_bounds(void) {
+    static const struct { guint16 number; gboolean is_jump; } next[] = {{2999, FALSE}, {6001, TRUE}, {5998, FALSE}, {5899, FALSE}, {5898, TRUE}};
+    receiver r = make_receiver(CAPS);
+    guint64 held = 0;
+    SEND(&r, .sequence = 0);
+    for (guint i = 0; i < G_N_ELEMENTS(next); i++) {
+        if (i == 3) for (guint16 j = 5999 - 1024; j < 5998; j++) SEND(&r, .sequence = j, .fill = 1);
+        SEND(&r, .sequence = next[i].number, .pts = MS(i + 1u));
+        if (next[i].is_jump) held++;
+        CHECK(count_of(r.element, "held-back") == held);
+    }
+    drop_receiver(&r);
+}
+
 void test_restarts(void) {
+    test_bounds();
     test_jump();
     test_lossy_jump();
     test_event();
