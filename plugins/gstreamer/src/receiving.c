@@ -58,6 +58,8 @@ gboolean receiving_caps(GstGozdritRecv *self, const GstCaps *caps) {
     read.ssrc = caps_number(caps, "ssrc", -1);
     read.rtx_ssrc = caps_number(caps, "rtx-ssrc", -1);
     read.nack = caps_number(caps, "rtcp-fb-nack", -1);
+    read.pli = caps_number(caps, "rtcp-fb-nack-pli", 0) > 0;
+    read.fir = caps_number(caps, "rtcp-fb-ccm-fir", 0) > 0;
     read.first = caps_number(caps, "seqnum-base", -1);
     read.clock_rate = caps_number(caps, "clock-rate", -1);
     read_group(&read, caps);

@@ -16,7 +16,8 @@
  * it, tell both types, and go no further; they count behind caps of the media and before its first packet, as a funnel before
  * the element has them. Where the caps say `rtcp-fb-nack=false`, nothing is asked for.
  *
- * An event `GstForceKeyUnit` that comes from downstream leaves by `feedback_src` as a PLI, or as a FIR where all headers are wanted.
+ * An event `GstForceKeyUnit` that comes from downstream leaves by `feedback_src` as a PLI, or as a FIR where all headers are wanted, where
+ * the caps say `rtcp-fb-nack-pli` or `rtcp-fb-ccm-fir`.
  *
  * Where `feedback_src` is not linked, the element is one between others, as the auxiliary receiver of an rtpbin: it asks by events
  * `GstRTPRetransmissionRequest` that go upstream, packets of other streams and types go through, and media that are flagged as
@@ -264,7 +265,8 @@ static gboolean src_query(GstPad *pad, GstObject *parent, GstQuery *query) {
     return TRUE;
 }
 
-/* A key frame that downstream wants is asked for by a datagram where feedback_src is linked, and else by whoever is upstream. What a jitter
+/* A key frame that downstream wants is asked for by a datagram where feedback_src is linked and the caps allow it, and else by whoever is
+ * upstream. What a jitter
  * buffer behind this element asks for of its stream was asked for here, and given up. */
 static gboolean src_event(GstPad *pad, GstObject *parent, GstEvent *event) {
     GstGozdritRecv *self = GST_GOZDRIT_RECV(parent);
@@ -296,7 +298,7 @@ static GstIterator *linked_inside(GstPad *pad, GstObject *parent) {
 static void begin(GstGozdritRecv *self) {
     g_mutex_lock(&self->lock);
     element_time_begin(&self->time, GST_ELEMENT(self));
-    self->caps = (recv_caps){-1, -1, -1, -1, -1, -1, -1};
+    self->caps = (recv_caps){-1, -1, -1, -1, -1, -1, -1, FALSE, FALSE};
     self->past = (gozdrit_receive_counts)GOZDRIT_RECEIVE_COUNTS_INIT;
     self->past_probes = (gozdrit_probe_counts)GOZDRIT_PROBE_COUNTS_INIT;
     self->sessions = self->strays = self->unwanted = self->key_requests = self->passed = self->dropped = self->rtx_came = 0;

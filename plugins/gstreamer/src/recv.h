@@ -34,6 +34,7 @@ typedef struct recv_settings {
 typedef struct recv_caps {
     gint64 type, rtx_type, ssrc, rtx_ssrc, first, clock_rate;
     gint64 nack; /* 0: NACKs are not wanted */
+    gboolean pli, fir; /* those requests for a key frame are */
 } recv_caps;
 
 /* How a packet came: its buffer, and of a media packet the times and the payload type. A packet with another number or timestamp is not the

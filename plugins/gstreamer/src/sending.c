@@ -119,6 +119,7 @@ GstCaps *sending_caps(GstGozdritSend *self, const GstCaps *caps) {
     if (rtx_type >= 0)
         gst_caps_set_simple(out, "rtcp-fb-nack", G_TYPE_BOOLEAN, TRUE, "rtx-payload-type", G_TYPE_INT, (gint)rtx_type, "rtx-payload",
                             G_TYPE_INT, (gint)rtx_type, NULL);
+    gst_caps_set_simple(out, "rtcp-fb-nack-pli", G_TYPE_BOOLEAN, TRUE, "rtcp-fb-ccm-fir", G_TYPE_BOOLEAN, TRUE, NULL);
     if (media >= 0) gst_caps_set_simple(out, "ssrc", G_TYPE_UINT, (guint)media, NULL);
     if (first >= 0 && !(stream && stream->is_numbered)) gst_caps_set_simple(out, "seqnum-base", G_TYPE_UINT, (guint)first, NULL);
     g_mutex_unlock(&self->lock);

@@ -106,7 +106,7 @@ static gboolean asks_by(receiver *r, gconstpointer octets, gsize length) {
 
 /* What downstream wants leaves as a PLI, or as a FIR whose number rises; before there is a stream it goes on upstream. */
 static void test_receiver(void) {
-    receiver r = make_receiver(CAPS);
+    receiver r = make_receiver(CAPS ",rtcp-fb-nack-pli=true,rtcp-fb-ccm-fir=true");
     guint8 fir[20] = {0x84, 206, 0, 4, 0x33, 0x33, 0x33, 0x33, 0, 0, 0, 0, 0x11, 0x11, 0x11, 0x11};
     g_object_set(r.element, "receiver-ssrc", REPORTER, NULL);
     want_key(&r, FALSE);
@@ -125,11 +125,32 @@ static void test_receiver(void) {
     drop_receiver(&r);
 }
 
+/* It leaves as what the caps allow: as a PLI also where all headers are wanted, and else upstream. */
+static void test_allowed(void) {
+    static const gchar *const caps[] = {CAPS, CAPS ",rtcp-fb-nack-pli=false", CAPS ",rtcp-fb-nack-pli=true", CAPS ",rtcp-fb-ccm-fir=true"};
+    static const gint upstream[][2] = {{FALSE, TRUE}, {FALSE, TRUE}, {-1, -1}, {FALSE, -1}};
+    static const guint asks[] = {0, 0, 2, 1};
+    for (guint i = 0; i < G_N_ELEMENTS(caps); i++) {
+        receiver r = make_receiver(caps[i]);
+        SEND(&r, .sequence = 10);
+        for (gint full = FALSE; full <= TRUE; full++) {
+            want_key(&r, full);
+            CHECK(next_key_unit(r.media, 0) == upstream[i][full]);
+            if (upstream[i][full] >= 0) continue;
+            GstBuffer *buffer = next_buffer(r.feedback);
+            CHECK(buffer && gst_buffer_get_size(buffer) == (i == 2 ? 12 : 20));
+            gst_clear_buffer(&buffer);
+        }
+        CHECK(count_of(r.element, "key-requests") == asks[i] && is_silent(r.feedback));
+        drop_receiver(&r);
+    }
+}
+
 /* Where nobody takes feedback, it goes on upstream too. */
 static void test_no_feedback(void) {
     GstHarness *h = gst_harness_new_with_padnames("gozdritrecv", "sink", "src");
     receiver r = {.media = h};
-    gst_harness_set_src_caps_str(h, CAPS);
+    gst_harness_set_src_caps_str(h, CAPS ",rtcp-fb-nack-pli=true,rtcp-fb-ccm-fir=true");
     gst_harness_push(h, make_packet((packet){.sequence = 10}));
     COMES(h, .sequence = 10);
     want_key(&r, TRUE);
@@ -142,5 +163,6 @@ void test_key_units(void) {
     test_compound();
     test_reporter();
     test_receiver();
+    test_allowed();
     test_no_feedback();
 }

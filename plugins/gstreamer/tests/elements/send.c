@@ -93,7 +93,7 @@ static void test_caps(void) {
     const GstStructure *s = gst_caps_get_structure(caps, 0);
     CHECK(has(s, "application/x-rtp,media=video,clock-rate=90000,encoding-name=X,payload=96,ssrc=(uint)286331153"));
     CHECK(has(s, "application/x-rtp,rtcp-fb-nack=true,rtx-ssrc=(uint)572662306,seqnum-base=(uint)300"));
-    CHECK(has(s, "application/x-rtp,rtx-payload-type=99,rtx-payload=99"));
+    CHECK(has(s, "application/x-rtp,rtx-payload-type=99,rtx-payload=99,rtcp-fb-nack-pli=true,rtcp-fb-ccm-fir=true"));
     gst_caps_unref(caps);
     gst_harness_teardown(h);
 }
