@@ -202,6 +202,7 @@ static void begin(GstGozdritSend *self) {
     self->rtx_ssrc = self->settings.rtx_ssrc;
     if (self->rtx_ssrc == SSRC_UNSET) self->rtx_ssrc = draw_ssrc(self->settings.ssrc, self->settings.receiver_ssrc);
     self->rtx_first = (guint16)g_random_int();
+    self->told_first = -1;
     guint history = self->settings.history;
     g_mutex_unlock(&self->lock);
     if (history == 0 || history > GOZDRIT_MAX_STORE)

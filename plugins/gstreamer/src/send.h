@@ -22,7 +22,8 @@ struct _GstGozdritSend {
     GPtrArray *streams;  /* send_stream, at most MOST_STREAMS of them */
     send_stream *recent; /* that of the last packet or caps, or NULL */
     guint32 rtx_ssrc;    /* of the first stream, which caps tell before it comes, and */
-    guint16 rtx_first;   /* its first number */
+    guint16 rtx_first;   /* its first number, and */
+    gint64 told_first;   /* its first packet's, or -1 */
     gboolean rtx_taken;  /* it has come */
     gozdrit_send_counts past; /* the counts of the streams that are gone */
     guint64 media, reports, refused; /* datagrams of feedback: RTP, RTCP without a NACK, and what no stream took */

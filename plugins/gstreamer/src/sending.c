@@ -67,6 +67,7 @@ static void set_rtx_ssrc(GstGozdritSend *self, send_stream *stream) {
     stream->rtx_ssrc = mapped >= 0 ? (guint32)mapped : self->rtx_ssrc;
     if (!stream->is_given && (self->rtx_taken || stream->rtx_ssrc == stream->media_ssrc)) stream->rtx_ssrc = draw_rtx(self, stream->media_ssrc);
     if (!self->rtx_taken) stream->rtx_first = stream->rtx_next = self->rtx_first;
+    if (!self->rtx_taken) stream->told_first = self->told_first;
     self->rtx_taken = TRUE;
 }
 
@@ -121,7 +122,9 @@ GstCaps *sending_caps(GstGozdritSend *self, const GstCaps *caps) {
                             G_TYPE_INT, (gint)rtx_type, NULL);
     gst_caps_set_simple(out, "rtcp-fb-nack-pli", G_TYPE_BOOLEAN, TRUE, "rtcp-fb-ccm-fir", G_TYPE_BOOLEAN, TRUE, NULL);
     if (media >= 0) gst_caps_set_simple(out, "ssrc", G_TYPE_UINT, (guint)media, NULL);
-    if (first >= 0 && !(stream && stream->is_numbered)) gst_caps_set_simple(out, "seqnum-base", G_TYPE_UINT, (guint)first, NULL);
+    if (stream && stream->is_numbered) first = -1;
+    if (first >= 0) gst_caps_set_simple(out, "seqnum-base", G_TYPE_UINT, (guint)first, NULL);
+    *(stream ? &stream->told_first : &self->told_first) = first;
     g_mutex_unlock(&self->lock);
     return out;
 }
@@ -135,7 +138,11 @@ typedef struct taken {
     guint16 number;
     gboolean is_other; /* one of these is not the packet's own */
     gboolean too_long; /* it is the first one that is not kept since it is too long */
+    gboolean is_elsewhere; /* it is the first one, and lies far from where the caps told */
 } taken;
+
+/* So many packets before the first one may be lost. More were never sent: the element was linked to a stream that was there. */
+enum { MOST_LOST = 64 };
 
 /* Whether the library takes a packet of such a length. */
 static gboolean is_short(GstRTPBuffer *rtp) {
@@ -170,7 +177,8 @@ static taken take_packet(GstGozdritSend *self, GstBuffer *buffer, GstRTPBuffer *
     send_stream *stream = done.answer == GOZDRIT_OK ? stream_for(self, ssrc, rtx_type >= 0) : NULL;
     if (!stream) return done;
     GstClockTime now = element_time_now(&self->time);
-    if (!stream->is_numbered) stream->media_ssrc = media_of(self, ssrc);
+    gboolean is_first = !stream->is_numbered;
+    if (is_first) stream->media_ssrc = media_of(self, ssrc);
     if (self->rates.of[type] > 0) stream->clock_rate = self->rates.of[type];
     packet.number = stream_number(stream, ssrc, own, self->settings.first);
     done.answer = stream_take(stream, &self->settings, &packet, now / MILLISECOND);
@@ -179,6 +187,7 @@ static taken take_packet(GstGozdritSend *self, GstBuffer *buffer, GstRTPBuffer *
     done.ssrc = stream->media_ssrc;
     done.number = packet.number;
     done.is_other = done.ssrc != ssrc || done.number != own;
+    done.is_elsewhere = is_first && stream->told_first >= 0 && (guint16)(packet.number - stream->told_first) > MOST_LOST;
     done.too_long = rtx_type >= 0 && !packet.is_kept && self->passed++ == 0;
     return done;
 }
@@ -226,6 +235,16 @@ static void tell_too_long(GstGozdritSend *self, guint length) {
                          length, GOZDRIT_MAX_PAYLOAD, GOZDRIT_MAX_EXTENSION_WORDS, GOZDRIT_MAX_PAYLOAD));
 }
 
+/* The caps are told again, with the number of the first packet. */
+static void tell_first(GstGozdritSend *self, guint16 first) {
+    GstCaps *caps = gst_pad_get_current_caps(self->src);
+    if (!caps) return;
+    caps = gst_caps_make_writable(caps);
+    gst_caps_set_simple(caps, "seqnum-base", G_TYPE_UINT, (guint)first, NULL);
+    gst_pad_push_event(self->src, gst_event_new_caps(caps));
+    gst_caps_unref(caps);
+}
+
 GstFlowReturn sending_packet(GstGozdritSend *self, GstBuffer *buffer, GstBuffer **out) {
     GstRTPBuffer rtp = GST_RTP_BUFFER_INIT;
     *out = NULL;
@@ -244,6 +263,7 @@ GstFlowReturn sending_packet(GstGozdritSend *self, GstBuffer *buffer, GstBuffer 
         return refuse(self, done.answer);
     }
     if (done.too_long) tell_too_long(self, length);
+    if (done.is_elsewhere) tell_first(self, done.number);
     *out = write_taken(buffer, &done);
     return GST_FLOW_OK;
 }

@@ -8,7 +8,7 @@ send_stream *stream_new(guint32 ssrc, guint32 media_ssrc) {
     stream->ssrc = ssrc;
     stream->media_ssrc = media_ssrc;
     stream->rtx_first = stream->rtx_next = (guint16)g_random_int();
-    stream->clock_rate = stream->full_request = -1;
+    stream->clock_rate = stream->told_first = stream->full_request = -1;
     stream->is_silent = TRUE;
     stream->past = stream->made = (gozdrit_send_counts)GOZDRIT_SEND_COUNTS_INIT;
     return stream;

@@ -51,6 +51,7 @@ typedef struct send_stream {
     guint16 rtx_first; /* the first retransmission's number, and */
     guint16 rtx_next;  /* the next one's */
     gint64 clock_rate; /* of the caps or the map, or -1 */
+    gint64 told_first; /* the first packet's number, as the caps tell it, or -1 */
 
     gboolean is_numbered; /* a packet came, and: */
     guint16 shift;        /* from its number to that which it goes out with */

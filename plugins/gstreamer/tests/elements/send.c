@@ -98,6 +98,24 @@ static void test_caps(void) {
     gst_harness_teardown(h);
 }
 
+/* The number that the payloader began with is told, and where the first packet that comes lies far from it, that packet's. */
+static void test_first(void) {
+    static const guint16 firsts[] = {65530, 10, 5000, 65000};
+    for (guint i = 0; i < G_N_ELEMENTS(firsts); i++) {
+        GstHarness *h = gst_harness_new_with_padnames("gozdritsend", "sink", "src");
+        guint told = G_MAXUINT;
+        gst_harness_set_src_caps_str(h, i % 2 ? CAPS ",seqnum-offset=(uint)65530" : "application/x-rtp,clock-rate=90000,seqnum-offset=(uint)65530");
+        for (guint16 j = 0; j < 3; j++) {
+            gst_harness_push(h, make_packet((packet){.sequence = (guint16)(firsts[i] + j)}));
+            COMES(h, .sequence = (guint16)(firsts[i] + j));
+            GstCaps *caps = gst_pad_get_current_caps(h->sinkpad);
+            CHECK(gst_structure_get_uint(gst_caps_get_structure(caps, 0), "seqnum-base", &told) && told == (i < 2 ? 65530 : firsts[i]));
+            gst_caps_unref(caps);
+        }
+        gst_harness_teardown(h);
+    }
+}
+
 /* Another SSRC and first number than the payloader's. */
 static void test_own_ssrc(void) {
     GstHarness *h = gst_harness_new_with_padnames("gozdritsend", "sink", "src");
@@ -186,6 +204,7 @@ void test_send(void) {
     test_gap();
     test_list();
     test_caps();
+    test_first();
     test_own_ssrc();
     test_renegotiation();
     test_too_long();
