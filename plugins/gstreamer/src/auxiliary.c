@@ -57,6 +57,10 @@ struct asked {
     guint8 count; /* 0: never */
 };
 
+static void set_uint(GstStructure *told, const gchar *name, guint64 value) {
+    gst_structure_set(told, name, G_TYPE_UINT, (guint)MIN(value, G_MAXUINT), NULL);
+}
+
 /* The event by which a packet is asked for, with the fields that rtpjitterbuffer gives it. The lock is held. */
 static GstEvent *make_request(GstGozdritRecv *self, guint16 number, guint64 now) {
     gozdrit_times times = GOZDRIT_TIMES_INIT;
@@ -64,15 +68,19 @@ static GstEvent *make_request(GstGozdritRecv *self, guint16 number, guint64 now)
     asked *at = &self->asked[number % GOZDRIT_MAX_STORE];
     if (at->count == 0 || at->number != number || now > at->first + self->settings.latency) *at = (asked){.first = now, .number = number};
     gozdrit_receiver_times(&self->end, &times);
-    guint64 delay = times.reorder_delay + (now > at->first ? now - at->first : 0), retry = at->count;
+    guint64 delay = times.reorder_delay + (now > at->first ? now - at->first : 0);
+    GstStructure *told = gst_structure_new_empty("GstRTPRetransmissionRequest");
+    set_uint(told, "seqnum", number);
+    set_uint(told, "ssrc", self->session.media_ssrc);
+    set_uint(told, "payload-type", self->session.media_payload_type);
+    set_uint(told, "delay", delay);
+    set_uint(told, "retry", at->count);
+    set_uint(told, "frequency", times.nack_interval);
+    set_uint(told, "period", self->settings.latency);
+    set_uint(told, "deadline", self->settings.latency);
+    set_uint(told, "avg-rtt", times.known ? times.round_trip : times.nack_interval);
     at->count = (guint8)MIN(at->count + 1, 255);
-    return gst_event_new_custom(
-        GST_EVENT_CUSTOM_UPSTREAM,
-        gst_structure_new("GstRTPRetransmissionRequest", "seqnum", G_TYPE_UINT, (guint)number, "ssrc", G_TYPE_UINT, self->session.media_ssrc,
-                          "payload-type", G_TYPE_UINT, (guint)self->session.media_payload_type, "delay", G_TYPE_UINT,
-                          (guint)MIN(delay, G_MAXUINT), "retry", G_TYPE_UINT, (guint)retry, "frequency", G_TYPE_UINT,
-                          (guint)MIN(times.nack_interval, G_MAXUINT), "period", G_TYPE_UINT, self->settings.latency, "deadline", G_TYPE_UINT,
-                          self->settings.latency, "avg-rtt", G_TYPE_UINT, (guint)MIN(times.known ? times.round_trip : times.nack_interval, G_MAXUINT), NULL));
+    return gst_event_new_custom(GST_EVENT_CUSTOM_UPSTREAM, told);
 }
 
 /* The numbers of a pair: the first, and those of the bits behind it (RFC 4585, section 6.2.1). */

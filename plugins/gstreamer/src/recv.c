@@ -109,66 +109,11 @@ static GstFlowReturn chain(GstPad *pad, GstObject *parent, GstBuffer *buffer) {
     return refused == GOZDRIT_OK ? flow : tell_refusal(self, refused, length);
 }
 
-/* ---- tasks */
-
-/* A task begins with its pad, and again behind a flush. A flush that ends while the pads are made inactive starts none: who waits
- * for the pad's task to end would wait for ever, or it would go on behind its end. So whether a pad is open does not change between the look
- * at that and the start. */
-static void start_src(GstGozdritRecv *self) {
-    g_mutex_lock(&self->starting);
-    g_mutex_lock(&self->lock);
-    gboolean open = self->src_active = self->src_open;
-    if (open) self->flow = GST_FLOW_OK;
-    self->ending = self->ended = FALSE;
-    g_mutex_unlock(&self->lock);
-    if (open) gst_pad_start_task(self->src, playing_task, self->src, NULL);
-    g_mutex_unlock(&self->starting);
-}
-
-static void halt_src(GstGozdritRecv *self) {
-    g_mutex_lock(&self->lock);
-    self->src_active = FALSE;
-    self->flow = GST_FLOW_FLUSHING;
-    g_cond_signal(&self->ready_cond);
-    g_mutex_unlock(&self->lock);
-}
-
-static void start_feedback(GstGozdritRecv *self) {
-    g_mutex_lock(&self->starting);
-    g_mutex_lock(&self->lock);
-    gboolean open = self->timer_active = self->feedback_open;
-    self->feedback_stage = FEEDBACK_TO_BEGIN;
-    g_mutex_unlock(&self->lock);
-    if (open) gst_pad_start_task(self->feedback, feedback_task, self->feedback, NULL);
-    g_mutex_unlock(&self->starting);
-}
-
-static void halt_feedback(GstGozdritRecv *self) {
-    g_mutex_lock(&self->lock);
-    self->timer_active = FALSE;
-    feedback_wake(self);
-    g_mutex_unlock(&self->lock);
-}
-
-static gboolean activate_src(GstPad *pad, GstObject *parent, GstPadMode mode, gboolean active) {
-    GstGozdritRecv *self = GST_GOZDRIT_RECV(parent);
-    if (mode != GST_PAD_MODE_PUSH) return FALSE;
-    g_mutex_lock(&self->starting);
-    g_mutex_lock(&self->lock);
-    *(pad == self->src ? &self->src_open : &self->feedback_open) = active;
-    g_mutex_unlock(&self->lock);
-    g_mutex_unlock(&self->starting);
-    if (active) (pad == self->src ? start_src : start_feedback)(self);
-    else (pad == self->src ? halt_src : halt_feedback)(self);
-    return active || gst_pad_stop_task(pad);
-}
-
 /* ---- events and queries */
 
 /* Both streams are flushed: at the end of the media, that of feedback has ended too. */
 static void flush_start(GstGozdritRecv *self, GstEvent *event) {
-    halt_src(self);
-    halt_feedback(self);
+    tasks_halt(self);
     gst_pad_push_event(self->feedback, gst_event_ref(event));
     gst_pad_push_event(self->src, event);
     gst_pad_pause_task(self->src);
@@ -182,8 +127,7 @@ static void flush_stop(GstGozdritRecv *self, GstEvent *event) {
     g_mutex_unlock(&self->lock);
     gst_pad_push_event(self->feedback, gst_event_ref(event));
     gst_pad_push_event(self->src, event);
-    start_src(self);
-    start_feedback(self);
+    tasks_start(self);
 }
 
 /* Keeps what an event tells, and puts it behind the packets that came before it. Where downstream wanted no more packets, it
@@ -520,8 +464,8 @@ static void init_pads(GstGozdritRecv *self) {
     gst_pad_set_event_function(self->src, src_event);
     gst_pad_set_query_function(self->src, src_query);
     gst_pad_set_query_function(self->feedback, feedback_query);
-    gst_pad_set_activatemode_function(self->src, activate_src);
-    gst_pad_set_activatemode_function(self->feedback, activate_src);
+    gst_pad_set_activatemode_function(self->src, tasks_activate);
+    gst_pad_set_activatemode_function(self->feedback, tasks_activate);
     GST_PAD_SET_PROXY_CAPS(self->sink);
     GST_PAD_SET_PROXY_CAPS(self->src);
 }

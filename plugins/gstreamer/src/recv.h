@@ -1,6 +1,6 @@
 /* gozdritrecv, the receiving element. recv.c is the element: its pads, properties and states. receiving.c takes packets into
- * the session, playing.c makes of what the session plays what goes out, feedback.c has the timer, and auxiliary.c what is otherwise where
- * nobody takes feedback.
+ * the session, playing.c makes of what the session plays what goes out, feedback.c has the timer, tasks.c
+ * tells when each of them runs, and auxiliary.c is for where nobody takes feedback.
  *
  * Three threads run in it. The one that packets come by takes them, and never waits. The source pad's task pushes what
  * was played, and waits for what is behind it. The feedback pad's task waits for the session's next timeout, and asks. */
@@ -182,6 +182,13 @@ void feedback_go_on(GstGozdritRecv *self);
 /* Asks for a key frame. FALSE where there is no session or nobody to ask. */
 gboolean feedback_key_unit(GstGozdritRecv *self, const GstEvent *event);
 void feedback_task(gpointer pad);
+
+/* ---- tasks.c */
+
+gboolean tasks_activate(GstPad *pad, GstObject *parent, GstPadMode mode, gboolean active);
+/* Both, behind a flush and before it. */
+void tasks_start(GstGozdritRecv *self);
+void tasks_halt(GstGozdritRecv *self);
 
 /* ---- auxiliary.c */
 

@@ -5,8 +5,9 @@
 static guint32 ssrc_of(guint stream) { return MEDIA + stream; }
 
 static void send_to(sender *s, guint stream, guint16 number) {
-    CHECK(gst_harness_push(s->media, make_packet((packet){.sequence = number, .ssrc = ssrc_of(stream), .fill = (guint8)(number + stream)})) == GST_FLOW_OK);
-    COMES(s->media, .sequence = number, .ssrc = ssrc_of(stream), .fill = (guint8)(number + stream));
+    packet of = {.sequence = number, .ssrc = ssrc_of(stream), .fill = (guint8)(number + stream)};
+    CHECK(gst_harness_push(s->media, make_packet(of)) == GST_FLOW_OK);
+    CHECK(comes(s->media, of));
 }
 
 /* Two streams by turns, with other numbers: each packet of either can be asked for, by NACKs and by events, and comes with an SSRC that

@@ -8,6 +8,11 @@ static void push(sender *s, packet of) { CHECK(gst_harness_push(s->media, make_p
 /* A packet goes out as it came. */
 #define PASSES(s, ...) push((s), (packet){__VA_ARGS__}), COMES((s)->media, __VA_ARGS__)
 
+/* A packet, all of which follows from its number. */
+static packet numbered(guint16 number) {
+    return (packet){.sequence = number, .fill = (guint8)number, .length = 20 + number % 8u, .marker = number & 1, .pts = MS(number % 16u)};
+}
+
 /* What was reordered, doubled and lost before the element is that behind it, and each packet that came can be asked for: the ones that
  * came late too, and one that did not come cannot. The retransmissions' own numbers have no gap. */
 static void test_order(void) {
@@ -15,7 +20,7 @@ static void test_order(void) {
     sender s = make_sender();
     guint16 first = 0;
     for (guint i = 0; i < G_N_ELEMENTS(numbers); i++)
-        PASSES(&s, .sequence = numbers[i], .fill = (guint8)numbers[i], .length = 20 + numbers[i] % 8u, .marker = numbers[i] & 1, .pts = MS(numbers[i] % 16u));
+        push(&s, numbered(numbers[i])), CHECK(comes(s.media, numbered(numbers[i])));
     gst_harness_push(s.feedback, make_nack(65534, 0x7f));
     for (guint16 i = 65534; i != 6; i++) {
         guint8 octets[4] = {0};
@@ -25,7 +30,7 @@ static void test_order(void) {
         guint16 number = GST_READ_UINT16_BE(octets + 2);
         if (i == 65534) first = number;
         CHECK((guint16)(number - first) == (guint16)(i - 65534 - (i < 10 && i > 2)));
-        GstBuffer *repair = make_repair((packet){.sequence = i, .fill = (guint8)i, .length = 20 + i % 8u, .marker = i & 1, .pts = MS(i % 16u)}, number);
+        GstBuffer *repair = make_repair(numbered(i), number);
         CHECK(next && same_octets(next, repair) && GST_BUFFER_FLAG_IS_SET(next, GST_RTP_BUFFER_FLAG_RETRANSMISSION));
         gst_buffer_unref(repair);
         gst_clear_buffer(&next);

@@ -1,6 +1,6 @@
-/* Both elements where everything happens at once: odd packets, losses, reordering before and behind the sender, strangers, streams that end or begin anew, other caps and
- * properties, flushes, changes of state, and the end, each at a drawn moment. What comes out has to be RTP. Who hangs is killed after a
- * while, and what sanitizers find ends the program. STORM is for how many seconds (else 2), and SEED draws. */
+/* Both elements where everything happens at once: odd packets, losses, reordering before and behind the sender, strangers, streams that end
+ * or begin anew, other caps and properties, flushes, changes of state, and the end, each at a drawn moment. What comes out has to be RTP. Who
+ * hangs is killed after a while, and what sanitizers find ends the program. STORM is for how many seconds (else 2), and SEED draws. */
 #include "checks.h"
 
 #include <string.h>
