@@ -5,7 +5,13 @@
 #include <gst/rtp/rtp.h>
 #include <string.h>
 
-gboolean auxiliary_is(const GstGozdritRecv *self) { return !gst_pad_is_linked(self->feedback); }
+/* A ghost of the pad that nobody linked takes none either. */
+gboolean auxiliary_is(const GstGozdritRecv *self) {
+    GstPad *peer = gst_pad_is_linked(self->feedback) ? pad_behind(self->feedback) : NULL;
+    gboolean is_taken = peer != NULL;
+    gst_clear_object(&peer);
+    return !is_taken;
+}
 
 /* ---- other streams. The lock is held. */
 

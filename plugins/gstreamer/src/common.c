@@ -61,3 +61,14 @@ GstClockTime element_time_now(const element_time *time) {
 GstClockID element_time_id(const element_time *time, GstClockTime when) {
     return gst_clock_new_single_shot_id(time->clock, when - (GstClockTime)time->offset);
 }
+
+GstPad *pad_behind(GstPad *pad) {
+    GstPad *peer = gst_pad_get_peer(pad);
+    while (peer && GST_IS_PROXY_PAD(peer)) {
+        GstPad *inside = GST_PAD(gst_proxy_pad_get_internal(GST_PROXY_PAD(peer)));
+        gst_object_unref(peer);
+        peer = inside ? gst_pad_get_peer(inside) : NULL;
+        gst_clear_object(&inside);
+    }
+    return peer;
+}

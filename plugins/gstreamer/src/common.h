@@ -48,6 +48,9 @@ GstClockTime element_time_now(const element_time *time);
 /* The clock's id of a moment of the element, to wait for. */
 GstClockID element_time_id(const element_time *time, GstClockTime when);
 
+/* The pad of an element that a pad leads to, also where there are walls of bins between them; or NULL. */
+GstPad *pad_behind(GstPad *pad);
+
 /* An installed GStreamer property: blurbs tell unit and default. */
 #define PROPERTY_FLAGS ((GParamFlags)(G_PARAM_READWRITE | G_PARAM_STATIC_STRINGS))
 

@@ -55,9 +55,9 @@ static GstBuffer *next_nack(GstGozdritRecv *self, guint64 now) {
 }
 
 gboolean feedback_key_unit(GstGozdritRecv *self, const GstEvent *event) {
-    gboolean is_linked = gst_pad_is_linked(self->feedback), is_full = FALSE;
+    gboolean is_taken = !auxiliary_is(self), is_full = FALSE;
     g_mutex_lock(&self->lock);
-    gboolean is_ours = is_linked && self->end.held && key_request_parse(event, self->session.media_ssrc, &is_full);
+    gboolean is_ours = is_taken && self->end.held && key_request_parse(event, self->session.media_ssrc, &is_full);
     is_full = is_full && self->caps.fir;
     is_ours = is_ours && (is_full || self->caps.pli);
     if (is_ours) {

@@ -267,18 +267,6 @@ static void end(GstGozdritRecv *self) {
     g_mutex_unlock(&self->lock);
 }
 
-/* The pad of an element that a pad leads to, also where there are walls of bins between them; or NULL. */
-static GstPad *pad_behind(GstPad *pad) {
-    GstPad *peer = gst_pad_get_peer(pad);
-    while (peer && GST_IS_PROXY_PAD(peer)) {
-        GstPad *inside = GST_PAD(gst_proxy_pad_get_internal(GST_PROXY_PAD(peer)));
-        gst_object_unref(peer);
-        peer = inside ? gst_pad_get_peer(inside) : NULL;
-        gst_clear_object(&inside);
-    }
-    return peer;
-}
-
 /* A sink that is not yet PAUSED when a live pipeline goes on to PLAYING stays behind until all sinks are PAUSED, that of the media
  * too, and takes no NACK: then what is lost of the first frame could not be asked for. Its gap event is under way. */
 static void wait_for_feedback_sink(GstGozdritRecv *self) {

@@ -73,6 +73,27 @@ static void test_asks(void) {
     drop_auxiliary(&r);
 }
 
+/* The same in a bin that has a ghost of each pad, of which the feedback's is not linked. */
+static void test_in_bin(void) {
+    receiver r = {.element = gst_element_factory_make("gozdritrecv", NULL)};
+    GstElement *bin = gst_bin_new(NULL);
+    static const gchar *const names[] = {"sink", "src", "feedback_src"};
+    gst_bin_add(GST_BIN(bin), gst_object_ref(r.element));
+    for (guint i = 0; i < G_N_ELEMENTS(names); i++) {
+        GstPad *pad = gst_element_get_static_pad(r.element, names[i]);
+        gst_element_add_pad(bin, gst_ghost_pad_new(names[i], pad));
+        gst_object_unref(pad);
+    }
+    r.media = gst_harness_new_with_element(bin, "sink", "src");
+    gst_harness_set_src_caps_str(r.media, CAPS);
+    SEND(&r, .sequence = 10);
+    SEND(&r, .sequence = 12);
+    TICKS(&r, 20);
+    CHECK(asks_upstream(&r, 11, 20, 0));
+    drop_auxiliary(&r);
+    gst_object_unref(bin);
+}
+
 /* Many at once. */
 static void test_many(void) {
     receiver r = make_auxiliary(CAPS);
@@ -243,6 +264,7 @@ static void test_standstill(void) {
 
 void test_auxiliary(void) {
     test_asks();
+    test_in_bin();
     test_many();
     test_others();
     test_before();
