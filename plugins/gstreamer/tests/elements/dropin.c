@@ -161,34 +161,69 @@ static void test_flagged(void) {
     drop_sender(&s);
 }
 
-/* Behind rtprtxsend itself, where there is one, this one answers what it has, and each request is answered once. */
-static void test_chain(void) {
-    GstElement *one = gst_element_factory_make("rtprtxsend", NULL), *two = gst_element_factory_make("gozdritsend", NULL);
+/* A bin of two elements, the second behind the first, with a harness of both; or none where one of them is not there. */
+static gboolean make_chain(sender *s, const gchar *first, const gchar *second, GstElement *elements[2]) {
+    static const gchar *const names[] = {"sink", "src"};
     GstElement *bin = gst_bin_new(NULL);
-    guint packets;
-    if (!one) {
-        gst_object_unref(gst_object_ref_sink(two));
+    elements[0] = gst_element_factory_make(first, NULL);
+    elements[1] = gst_element_factory_make(second, NULL);
+    for (guint i = 0; i < 2; i++)
+        if (elements[i]) gst_bin_add(GST_BIN(bin), gst_object_ref(elements[i]));
+    if (!elements[0] || !elements[1]) {
+        for (guint i = 0; i < 2; i++) gst_clear_object(&elements[i]);
         gst_object_unref(gst_object_ref_sink(bin));
-        return;
+        return FALSE;
     }
-    gst_bin_add_many(GST_BIN(bin), gst_object_ref(one), gst_object_ref(two), NULL);
-    CHECK(gst_element_link_pads(one, "src", two, "sink"));
-    GstPad *pads[] = {gst_element_get_static_pad(one, "sink"), gst_element_get_static_pad(two, "src")};
-    for (guint i = 0; i < G_N_ELEMENTS(pads); i++) {
-        gst_element_add_pad(bin, gst_ghost_pad_new(i == 0 ? "sink" : "src", pads[i]));
-        gst_object_unref(pads[i]);
+    CHECK(gst_element_link_pads(elements[0], "src", elements[1], "sink"));
+    for (guint i = 0; i < 2; i++) {
+        GstPad *pad = gst_element_get_static_pad(elements[i], names[i]);
+        gst_element_add_pad(bin, gst_ghost_pad_new(names[i], pad));
+        gst_object_unref(pad);
     }
-    sender s = {.media = gst_harness_new_with_element(bin, "sink", "src"), .element = two};
-    gst_util_set_object_arg(G_OBJECT(one), "payload-type-map", "map,96=(uint)97");
+    *s = (sender){.media = gst_harness_new_with_element(bin, "sink", "src"), .element = bin};
+    return TRUE;
+}
+
+static void drop_chain(sender *s, GstElement *elements[2]) {
+    gst_harness_teardown(s->media);
+    for (guint i = 0; i < 2; i++) gst_object_unref(elements[i]);
+    gst_object_unref(s->element);
+}
+
+/* Behind rtprtxsend itself this one answers what it has, and each request is answered once. */
+static void test_chain(void) {
+    GstElement *elements[2];
+    guint packets;
+    sender s;
+    if (!make_chain(&s, "rtprtxsend", "gozdritsend", elements)) return;
+    gst_util_set_object_arg(G_OBJECT(elements[0]), "payload-type-map", "map,96=(uint)97");
     gst_harness_set_src_caps_str(s.media, CAPS);
     send_five(&s);
     CHECK(request(&s, MEDIA, 2) && next_seen(&s).original == 2 && is_silent(s.media));
-    g_object_get(one, "num-rtx-packets", &packets, NULL);
+    g_object_get(elements[0], "num-rtx-packets", &packets, NULL);
     CHECK(packets == 0);
-    gst_harness_teardown(s.media);
-    gst_object_unref(one);
-    gst_object_unref(two);
-    gst_object_unref(bin);
+    drop_chain(&s, elements);
+}
+
+/* Three types of one stream through this one and rtprtxreceive, which makes each packet of its retransmission again. */
+static void test_far_side(void) {
+    static const guint8 types[] = {96, 98, 100};
+    GstElement *elements[2];
+    sender s;
+    if (!make_chain(&s, "gozdritsend", "rtprtxreceive", elements)) return;
+    for (guint i = 0; i < 2; i++)
+        gst_util_set_object_arg(G_OBJECT(elements[i]), "payload-type-map", "map,96=(uint)97,98=(uint)36,100=(uint)101");
+    gst_harness_set_src_caps_str(s.media, CAPS);
+    for (guint16 i = 0; i < 12; i++) pass(&s, (packet){.sequence = i, .type = types[i % 3], .fill = (guint8)i, .marker = i % 2});
+    for (guint16 i = 0; i < 12; i++) {
+        GstBuffer *same = make_packet((packet){.sequence = i, .type = types[i % 3], .fill = (guint8)i, .marker = i % 2});
+        CHECK(request(&s, MEDIA, i));
+        GstBuffer *again = next_buffer(s.media);
+        CHECK(again && same_octets(again, same) && GST_BUFFER_FLAG_IS_SET(again, GST_RTP_BUFFER_FLAG_RETRANSMISSION));
+        gst_clear_buffer(&again);
+        gst_buffer_unref(same);
+    }
+    drop_chain(&s, elements);
 }
 
 void test_drop_in(void) {
@@ -199,4 +234,5 @@ void test_drop_in(void) {
     test_counts();
     test_flagged();
     test_chain();
+    test_far_side();
 }
