@@ -116,10 +116,11 @@ def answered(checks, stage, *words, again=0):
     def repeated():
         return sum(one.ssrc != MEDIA and original(one)[0] == 0 for one in far.packets())
 
-    for one in plain(2, 100):
-        app.send(one)
-        time.sleep(0.12)
-    time.sleep(0.2)  # the last packet's own retransmission, as the stream is silent
+    first, second = plain(2, 100)
+    app.send(first)
+    time.sleep(0.12)
+    app.send(second)
+    time.sleep(0.02)
     far.send(nack(MEDIA, [0]), at)
     checks.count(soon(lambda: repeated() == 1, 2), f"{name}: {repeated()} retransmissions at first")
     time.sleep(0.03)
@@ -127,7 +128,7 @@ def answered(checks, stage, *words, again=0):
         far.send(nack(MEDIA, [0]), at)
     time.sleep(0.03)
     checks.same(repeated(), 1 + again, f"{name}: retransmissions while an answer may wait in a queue")
-    time.sleep(0.14)
+    time.sleep(0.25)  # the last packet's own retransmission takes as long, as the stream is silent
     far.send(nack(MEDIA, [0]), at)
     checks.count(soon(lambda: repeated() == 2 + again, 2), f"{name}: {repeated()} retransmissions later")
     ends(checks, name, sender)

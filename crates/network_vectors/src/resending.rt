@@ -318,8 +318,8 @@ fn a_rule_that_follows(rt: HostRuntime) -> Result<(), Fail> {
     follows.resend(530);
     fixed.resend(530);
     let resent = follows.rule(rule, 530).min_resend == 63
-        && follows.rule(rule, 545).min_resend == 48
-        && follows.rule(rule, 560).min_resend == 13;
+        && follows.rule(rule, 543).min_resend == 50
+        && follows.rule(rule, 544).min_resend == 13;
     assert!(rt; are_sent && without_queue && queued && resent && fixed.rule(rule, 530) == rule);
     Ok(())
 }

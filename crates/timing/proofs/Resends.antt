@@ -38,21 +38,25 @@ doubled r before longer a b c d e f g h is fits slow =
     raised None low_is takes = takes
     raised (Some after) low_is takes = omega (arith, low_is, takes)
 
--- what is still taken is waited for, and what an answer takes beyond twice the least
-long : (answer idle queued : ℕ) → answer < 2 ^ 64 → queued < 2 ^ 64 → (queued ≤ queue_of answer idle queued) × (answer ≤ 2 * idle + queue_of answer idle queued)
-long answer idle queued fits fits' = by (nat_lt 0 queued) refl
+-- what an answer takes beyond twice the least is waited for
+long : (answer idle queued : ℕ) → answer < 2 ^ 64 → answer ≤ 2 * idle + queue_of answer idle queued
+long answer idle queued fits = by (nat_lt answer (2 * queued))
   where
-    by : (b : Bool) → nat_lt 0 queued ≡ b → (queued ≤ (if b then capped (answer + queued) else answer - 2 * idle)) × (answer ≤ 2 * idle + (if b then capped (answer + queued) else answer - 2 * idle))
-    by true is = (omega (arith, fits, fits'), omega (arith, fits, fits'))
-    by false is = let none : queued ≡ 0 = grind (arith, nat_tests, is) in (omega (arith, none), omega arith)
+    by : (b : Bool) → answer ≤ 2 * idle + (if b then capped (answer + queued) else answer - 2 * idle)
+    by true = omega (arith, fits)
+    by false = omega arith
 
 idle_of : (answer idle queued : ℕ) → queued ≡ 0 → queue_of answer idle queued ≡ answer - 2 * idle
-idle_of answer idle queued none = subst (λ q. queue_of answer idle q ≡ answer - 2 * idle) (sym none) refl
-
-taken_of : (answer idle queued : ℕ) → 0 < queued → queue_of answer idle queued ≡ capped (answer + queued)
-taken_of answer idle queued some = by (nat_lt 0 queued) refl
+idle_of answer idle queued none = by (nat_lt answer (2 * queued)) refl
   where
-    by : (b : Bool) → nat_lt 0 queued ≡ b → (if b then capped (answer + queued) else answer - 2 * idle) ≡ capped (answer + queued)
+    by : (b : Bool) → nat_lt answer (2 * queued) ≡ b → (if b then capped (answer + queued) else answer - 2 * idle) ≡ answer - 2 * idle
+    by true is = absurd (grind (arith, nat_tests, is, none))
+    by false is = refl
+
+taken_of : (answer idle queued : ℕ) → answer < 2 * queued → queue_of answer idle queued ≡ capped (answer + queued)
+taken_of answer idle queued some = by (nat_lt answer (2 * queued)) refl
+  where
+    by : (b : Bool) → nat_lt answer (2 * queued) ≡ b → (if b then capped (answer + queued) else answer - 2 * idle) ≡ capped (answer + queued)
     by true is = refl
     by false is = absurd (grind (arith, nat_tests, is, some))
 
@@ -74,12 +78,10 @@ free r answer least now is short taken fits =
     subst (λ a. interval_with a (least_at r now) (queued_at r now) least ≡ least) (sym is)
     (subst (λ queue. max least queue ≡ least) (sym idle) (omega (arith, short)))
 
-pub beyond : (r : ResendInterval) (answer least now : ℕ) → r.answer ≡ Some answer → answer < 2 ^ 64 → r.busy < 2 ^ 64 → answer ≤ 2 * least_at r now + interval_at r least now
-beyond r answer least now is fits fits' =
-    let short : queued_at r now < 2 ^ 64 = omega (arith, fits') in
-    let both = (long answer (least_at r now) (queued_at r now) fits short).1 in
+pub beyond : (r : ResendInterval) (answer least now : ℕ) → r.answer ≡ Some answer → answer < 2 ^ 64 → answer ≤ 2 * least_at r now + interval_at r least now
+beyond r answer least now is fits =
     subst (λ a. answer ≤ 2 * least_at r now + interval_with a (least_at r now) (queued_at r now) least) (sym is)
-    (greater (least_at r now) (queue_of answer (least_at r now) (queued_at r now)) both)
+    (greater (least_at r now) (queue_of answer (least_at r now) (queued_at r now)) (long answer (least_at r now) (queued_at r now) fits))
   where
     greater : (idle queue : ℕ) → answer ≤ 2 * idle + queue → answer ≤ 2 * idle + max least queue
     greater idle queue so = omega (arith, so)
@@ -130,21 +132,8 @@ taken r now many fits = by many refl (adds many r now fits).busy
     by (suc n) some busy = let b = busy (omega (arith, some)) in omega (arith, b, fits)
 
 pub behind : (r : ResendInterval) (answer now many least : ℕ) → r.answer ≡ Some answer → now * 4096 + many * r.gap < 2 ^ 64
-    → many * r.gap / 4096 ≤ interval_at (resent_many r now many) least now
-behind r answer now many least is fits =
-    let after = resent_many r now many in
-    let still = taken r now many fits in
-    subst (λ a. many * r.gap / 4096 ≤ interval_with a (least_at after now) (queued_at after now) least) (sym ((adds many r now fits).answer ∙ is))
-    (by (nat_lt 0 (queued_at after now)) refl still)
-  where
-    by : (b : Bool) → nat_lt 0 (queued_at (resent_many r now many) now) ≡ b → many * r.gap / 4096 ≤ queued_at (resent_many r now many) now
-        → many * r.gap / 4096 ≤ max least (if b then capped (answer + queued_at (resent_many r now many) now) else answer - 2 * least_at (resent_many r now many) now)
-    by true is' still = omega (arith, still, fits)
-    by false is' still = let none : queued_at (resent_many r now many) now ≡ 0 = grind (arith, nat_tests, is') in omega (arith, still, none)
-
-pub behind_answers : (r : ResendInterval) (answer now many least : ℕ) → r.answer ≡ Some answer → now * 4096 + many * r.gap < 2 ^ 64
-    → 4096 ≤ many * r.gap → answer + many * r.gap / 4096 < 2 ^ 64 → answer + many * r.gap / 4096 ≤ interval_at (resent_many r now many) least now
-behind_answers r answer now many least is fits some short =
+    → answer < 2 * (many * r.gap / 4096) → answer + many * r.gap / 4096 < 2 ^ 64 → answer + many * r.gap / 4096 ≤ interval_at (resent_many r now many) least now
+behind r answer now many least is fits some short =
     let after = resent_many r now many in
     let still = taken r now many fits in
     let at = taken_of answer (least_at after now) (queued_at after now) (omega (arith, still, some)) in

@@ -42,9 +42,10 @@ least_at r now = 60000 - greatest_at r.idle now
 abbrev pub queued_at : ResendInterval → (now : ℕ) → ℕ
 queued_at r now = (r.busy - capped (now * 4096)) / 4096
 
--- As long as what was retransmitted would still be taken, that, and what an answer takes; and else what an answer takes beyond twice the least.
+-- While what was retransmitted would be taken for longer than half of what an answer takes, that, and what an answer takes; and else what an
+-- answer takes beyond twice the least.
 abbrev pub queue_of : (answer idle queued : ℕ) → ℕ
-queue_of answer idle queued = if nat_lt 0 queued then capped (answer + queued) else answer - 2 * idle
+queue_of answer idle queued = if nat_lt answer (2 * queued) then capped (answer + queued) else answer - 2 * idle
 
 abbrev pub interval_with : (answer : Option ℕ) → (idle queued least : ℕ) → ℕ
 interval_with None idle queued least = least

@@ -80,7 +80,7 @@ pub fn packets_leave_as_they_were_sent()
 {}
 
 /// Of how soon a packet is retransmitted again.
-#[tactic(auto, using(crate::proofs::Resends::least_is, crate::proofs::Resends::at_once, crate::proofs::Resends::beyond, crate::proofs::Resends::free, crate::proofs::Resends::behind, crate::proofs::Resends::behind_answers))]
+#[tactic(auto, using(crate::proofs::Resends::least_is, crate::proofs::Resends::at_once, crate::proofs::Resends::beyond, crate::proofs::Resends::free))]
 pub fn answers_are_waited_for()
     // Never sooner than it may be.
     ensures least { (r : ResendInterval) (least now : ℕ) → least ≤ interval_at r least now }
@@ -88,16 +88,14 @@ pub fn answers_are_waited_for()
     ensures free { (r : ResendInterval) (answer least now : ℕ) → r.answer ≡ Some answer → answer ≤ 2 * least_at r now → r.busy ≤ now * 4096 → now * 4096 < 2 ^ 64
         → interval_at r least now ≡ least }
     // What an answer takes beyond twice the least of late is waited for.
-    ensures beyond { (r : ResendInterval) (answer least now : ℕ) → r.answer ≡ Some answer → answer < 2 ^ 64 → r.busy < 2 ^ 64 → answer ≤ 2 * least_at r now + interval_at r least now }
+    ensures beyond { (r : ResendInterval) (answer least now : ℕ) → r.answer ≡ Some answer → answer < 2 ^ 64 → answer ≤ 2 * least_at r now + interval_at r least now }
     // An answer that took less counts at once.
     ensures at_once { (r : ResendInterval) (took now : ℕ) → IsSomeAnd (heard_after r took now).answer (λ answer. answer ≤ took) }
     // Eight answers in a row that took longer, as over a queue that fills, double what an answer is known to take, or raise it to what they took.
     ensures doubled { (r : ResendInterval) (before longer : ℕ) (a b c d e f g h : ℕ × ℕ) → r.answer ≡ Some before → longer < 2 ^ 64
         → TakeAtLeast (a ∷ b ∷ c ∷ d ∷ e ∷ f ∷ g ∷ h ∷ []) longer
         → IsSomeAnd (answers_heard r (a ∷ b ∷ c ∷ d ∷ e ∷ f ∷ g ∷ h ∷ [])).answer (λ after. min longer (2 * before) ≤ after) }
-    // Behind packets that left at once it is as many mean gaps of the media, once an answer was heard; and what that took, if it is one at least.
+    // Behind packets that left at once, which take longer than half of an answer by the mean gap of the media, it is that and an answer.
     ensures behind { (r : ResendInterval) (answer now many least : ℕ) → r.answer ≡ Some answer → now * 4096 + many * r.gap < 2 ^ 64
-        → many * r.gap / 4096 ≤ interval_at (resent_many r now many) least now }
-    ensures behind_answers { (r : ResendInterval) (answer now many least : ℕ) → r.answer ≡ Some answer → now * 4096 + many * r.gap < 2 ^ 64
-        → 4096 ≤ many * r.gap → answer + many * r.gap / 4096 < 2 ^ 64 → answer + many * r.gap / 4096 ≤ interval_at (resent_many r now many) least now }
+        → answer < 2 * (many * r.gap / 4096) → answer + many * r.gap / 4096 < 2 ^ 64 → answer + many * r.gap / 4096 ≤ interval_at (resent_many r now many) least now }
 {}

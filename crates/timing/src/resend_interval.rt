@@ -22,8 +22,8 @@ const PARTS: u64 = 4096;
 ///   it by an eighth at most (the gain of RFC 6298, section 2), and what is shorter counts at once. What it has beyond twice the least of
 ///   the last ten to thirty seconds is a queue: jitter and reordering alone seldom have so much.
 /// - **What left together may fill a queue** before any NACK tells of it. A path that has room for the media alone takes as long for a
-///   retransmission as lies between two packets of media, on the mean; until it would have taken all that left, an answer may take so much
-///   longer than answers do.
+///   retransmission as lies between two packets of media, on the mean; while what it would still take is more than half of an answer long, an
+///   answer may take so much longer than answers do. Of a few that left nothing is feared.
 ///
 /// Moments and spans are in milliseconds.
 #[derive(Clone, Copy, Debug, PartialEq, Eq)]
@@ -102,7 +102,7 @@ impl ResendInterval {
             return least;
         };
         let queued = self.busy.saturating_sub(now.saturating_mul(PARTS)) / PARTS;
-        least.max(if queued > 0 {
+        least.max(if answer < 2 * queued {
             answer.saturating_add(queued)
         } else {
             answer.saturating_sub(2 * self.least(now))

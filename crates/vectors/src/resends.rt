@@ -58,18 +58,24 @@ fn answers_that_took_longer(_rt: HostRuntime) -> Result<(), Fail> {
 fn what_left_together(_rt: HostRuntime) -> Result<(), Fail> {
     let mut interval = each_ten();
     interval.hear(40, 1000);
-    // Five at once take five gaps, behind which an answer comes forty later; and the next one is behind them.
+    // Five at once take five gaps, behind which an answer comes forty later, while more than twenty of it are left; and the next one is behind
+    // them.
     for _ in 0..5u8 {
         interval.resend(1000);
     }
-    let five = interval.at(10, 1000) == 90 && interval.at(10, 1020) == 70;
+    let five = interval.at(10, 1000) == 90
+        && interval.at(10, 1029) == 61
+        && interval.at(10, 1030) == 10;
     interval.resend(1020);
     let six = interval.at(10, 1020) == 80
-        && interval.at(10, 1059) == 41
-        && interval.at(10, 1060) == 10;
-    // Later nothing is behind them any more.
+        && interval.at(10, 1039) == 61
+        && interval.at(10, 1040) == 10;
+    // Later nothing is behind them any more, and two take no more than half of an answer.
     interval.resend(2000);
-    let later = interval.at(10, 2000) == 50 && interval.at(60, 2000) == 60;
+    interval.resend(2000);
+    let two = interval.at(10, 2000) == 10 && interval.at(60, 2000) == 60;
+    interval.resend(2000);
+    let later = two && interval.at(10, 2000) == 70;
     if five && six && later {
         Ok(())
     } else {
@@ -85,12 +91,12 @@ fn a_pause_is_no_gap(_rt: HostRuntime) -> Result<(), Fail> {
     interval.send(5990);
     interval.resend(6000);
     let before = interval.at(10, 6000) == 10;
-    interval.hear(40, 6000);
-    let one = interval.at(10, 6000) == 51;
+    interval.hear(20, 6000);
+    let one = interval.at(10, 6000) == 31;
     for _ in 0..9u8 {
         interval.resend(6000);
     }
-    let ten = interval.at(10, 6000) == 154;
+    let ten = interval.at(10, 6000) == 134;
     if before && one && ten {
         Ok(())
     } else {

@@ -65,6 +65,6 @@ uint64_t min_resend(const struct sender *it) {
     turn(&then, it->now);
     least = MINUTE - (then.most > then.most_before ? then.most : then.most_before);
     queued = above(path->busy, times(it->now, PARTS)) / PARTS;
-    span = queued > 0 ? sum(path->answer, queued) : above(path->answer, 2 * least);
+    span = path->answer < 2 * queued ? sum(path->answer, queued) : above(path->answer, 2 * least);
     return span > it->config.min_resend ? span : it->config.min_resend;
 }
