@@ -2,7 +2,7 @@
 use Rattle.std.proofs.Common.{◌≡◌, ℕ, zero, suc, ◌+◌, ◌-◌, ◌%◌, ◌<◌, Ok, ap, arith}
 use Rattle.endpoint.specs.declared.heard.Heard.TheVariants.{Restarted}
 use Rattle.endpoint.specs.declared.heard.Restart.{Restart}
-use Rattle.relays.specs.Numbering.{anew, numbered, numbered_after}
+use Rattle.relays.specs.Numbering.{numbered, numbered_after}
 use Rattle.relays.specs.ReceiveRelay.{numbering_after, numbering_over}
 use Rattle.relays.specs.declared.numbering.Numbering.{Numbering}
 
