@@ -104,41 +104,41 @@ def media_first(checks, stage):
     sender.stop()
 
 
-@on_time(0.01)
-def answered(checks, stage, *words, again=0):
-    """Between two packets lie 100 milliseconds or more, so a path with room for the media alone takes as long for a retransmission. Named again 30
-    behind one the packet is not retransmitted, and 200 behind it is; where a time is given for that, it is both times."""
-    name = f"answers in a queue {words}"
+def named_again(stage, *words):
+    """Between two packets lie 80 milliseconds, so a path with room for the media alone takes as long for a retransmission. How often the
+    first is retransmitted that is named twenty milliseconds behind the second, again thirty later, and again once all has been taken; and the
+    relay."""
     far = End(stage)
     sender = stage.send(far.at, "--packets", 2, *words)
     app, at = App(stage, sender.at, ssrc=MEDIA, number=0), ("127.0.0.1", sender.source[1])
-
-    def repeated():
-        return sum(one.ssrc != MEDIA and original(one)[0] == 0 for one in far.packets())
-
-    first, second = plain(2, 100)
-    app.send(first)
-    time.sleep(0.12)
-    app.send(second)
-    time.sleep(0.02)
-    far.send(nack(MEDIA, [0]), at)
-    checks.count(soon(lambda: repeated() == 1, 2), f"{name}: {repeated()} retransmissions at first")
-    time.sleep(0.03)
-    for _ in range(3):
+    came = []
+    for one, pause in zip(plain(2, 100), (0.08, 0.02)):
+        app.send(one)
+        time.sleep(pause)
+    for pause in (0.03, 0.3, 0.1):  # the last packet's own retransmission is taken meanwhile, as the stream is silent
         far.send(nack(MEDIA, [0]), at)
-    time.sleep(0.03)
-    checks.same(repeated(), 1 + again, f"{name}: retransmissions while an answer may wait in a queue")
-    time.sleep(0.25)  # the last packet's own retransmission takes as long, as the stream is silent
-    far.send(nack(MEDIA, [0]), at)
-    checks.count(soon(lambda: repeated() == 2 + again, 2), f"{name}: {repeated()} retransmissions later")
-    ends(checks, name, sender)
-    checks.same(sender.counts().get("early"), 3 - again, f"{name}: what was passed over")
+        time.sleep(pause)
+        came.append(sum(one.ssrc != MEDIA and original(one)[0] == 0 for one in far.packets()))
+    return came, sender
 
 
 @on_time(0.01)
-def answered_by_rule(checks, stage):
-    answered(checks, stage, "--min-resend", "20", again=1)
+def queued(checks, stage):
+    """What is named again while its answer may wait in a queue is not retransmitted, and what is named later is."""
+    came, sender = named_again(stage)
+    checks.same(came, [1, 1, 2], "a queue: retransmissions of the first packet")
+    ends(checks, "a queue", sender)
+    checks.same(sender.counts().get("early"), 1, "a queue: what was passed over")
+
+
+@on_time(0.01)
+def ruled(checks, stage):
+    """Where a time is given it is that alone."""
+    came, sender = named_again(stage, "--min-resend", "20")
+    checks.same(came, [1, 2, 3], "a given time: retransmissions of the first packet")
+    ends(checks, "a given time", sender)
+    checks.same(sender.counts().get("early"), 0, "a given time: what was passed over")
 
 
 if __name__ == "__main__":
-    part(paced, at_once, shared, halved, media_first, answered, answered_by_rule)
+    part(paced, at_once, shared, halved, media_first, queued, ruled)
