@@ -33,7 +33,9 @@ pub fn relay<'a>(rt: &HostRuntime, choice: &Choice<'a>) -> Result<(), Fault<'a>>
         } => {
             let peers = peers(rt, options.peers)?;
             let (to, near, far) = opened(rt, options)?;
-            let learner = sender(rt, options, *rate, *rule, *follows, *history, *rtx_first, to);
+            let learner = sender(
+                rt, options, *rate, *rule, *follows, *history, *rtx_first, to,
+            );
             let store = Store::History(*history as u64);
             go::<SendRelay<RingHistory>, SendLearner>(rt, options, learner, peers, near, far, store)
         }
