@@ -86,7 +86,7 @@ extern "C" {
 /* ---- the version: that of this header, and that of the library that is linked */
 
 #define GOZDRIT_VERSION_MAJOR 2
-#define GOZDRIT_VERSION_MINOR 1
+#define GOZDRIT_VERSION_MINOR 2
 #define GOZDRIT_VERSION_PATCH 0
 #define GOZDRIT_VERSION (GOZDRIT_VERSION_MAJOR * 10000 + GOZDRIT_VERSION_MINOR * 100 + GOZDRIT_VERSION_PATCH)
 
@@ -248,7 +248,7 @@ typedef struct gozdrit_receiver_config {
     size_t size;
     gozdrit_session session;
     uint64_t latency;             /* milliseconds from a missing packet's notice until it is given up; 0: at its notice */
-    uint64_t nack_interval;       /* milliseconds from one NACK for a packet to the next, from 1 on */
+    uint64_t nack_interval;       /* milliseconds from one NACK for a packet to the next; 0: 40, and `adaptive` is 2 where it says 0 */
     uint32_t window;              /* packets that are kept: 1 to GOZDRIT_MAX_STORE */
     uint8_t max_nacks;            /* how often a NACK names one packet at most: 1 to 255 */
     gozdrit_bool learn_rtx_ssrc;  /* the SSRC of the retransmissions is learnt; rtx_ssrc is then not used */
@@ -272,7 +272,7 @@ typedef struct gozdrit_receiver_config {
 } gozdrit_receiver_config;
 
 /* What of a receiver follows what it measures of the path. */
-#define GOZDRIT_ADAPTIVE_OFF 0 /* all times stay as they are set */
+#define GOZDRIT_ADAPTIVE_OFF 0 /* all times stay as they are set; but where `nack_interval` is 0, it is as GOZDRIT_ADAPTIVE_SEND_TIME */
 /* `reorder_delay` and `nack_interval` hold until a round trip was measured, and follow the path from then on: the first
  * NACK waits as long as packets were seen to come behind later ones, and as many NACKs follow as have their answers within
  * the latency, no closer than the round trip with its variation (RFC 6298, section 2). */
@@ -545,9 +545,10 @@ int32_t gozdrit_sender_counts(const gozdrit_sender *sender, gozdrit_send_counts 
 /* ---- the receiving end */
 
 /*
- * Fills a configuration: a window of 512 packets, a latency of 200 ms, a reorder delay of 20 ms, NACKs 40 ms apart and 4 for
- * one packet at most, the usual numbers of a jump, and all else 0, also what lies behind the fields that this library knows.
- * `size` is sizeof(gozdrit_receiver_config), and becomes the struct's. The session is to be set.
+ * Fills a configuration: a window of 512 packets, a latency of 200 ms, a reorder delay of 20 ms, 4 NACKs for one packet at
+ * most, the usual numbers of a jump, and all else 0, also what lies behind the fields that this library knows. So the times
+ * of NACKs follow the path, and packets are given up by when they were sent. `size` is sizeof(gozdrit_receiver_config), and
+ * becomes the struct's. The session is to be set.
  *
  *   77  size is less than the struct had in version 2.0
  */
@@ -559,7 +560,7 @@ int32_t gozdrit_receiver_defaults(gozdrit_receiver_config *config, size_t size);
  * 98,304 octets that remember what was taken.
  *
  *   51, 52  the session, as gozdrit_session says
- *   53      window is not in 1 to GOZDRIT_MAX_STORE, or nack_interval or max_nacks is 0, or adaptive is not 0, 1 or 2
+ *   53      window is not in 1 to GOZDRIT_MAX_STORE, or max_nacks is 0, or adaptive is not 0, 1 or 2
  *   73      there is no memory for it
  */
 int32_t gozdrit_receiver_new(const gozdrit_receiver_config *config, gozdrit_receiver *receiver);
@@ -585,8 +586,10 @@ int32_t gozdrit_receiver_free(gozdrit_receiver *receiver);
  *   32      the payload type is not that of the SSRC's stream
  *   6       a retransmission without an original sequence number
  *   37      the payload has more than GOZDRIT_MAX_PAYLOAD octets, or the extension more than GOZDRIT_MAX_EXTENSION_WORDS
- *   words 33      a retransmission, before any media packet and gozdrit_begin 34, 39  the sequence number stands for none
- *   near the highest one 38      the SSRC is to be learnt, and the packet is not one that is missing and that a NACK named
+ *           words
+ *   33      a retransmission, before any media packet and gozdrit_begin
+ *   34, 39  the sequence number stands for none near the highest one
+ *   38      the SSRC is to be learnt, and the packet is not one that is missing and that a NACK named
  *   35, 36  the packet lies below the next one to play, or is held already
  */
 int32_t gozdrit_receive(gozdrit_receiver *receiver, const uint8_t *octets, size_t length, uint64_t now,
@@ -617,6 +620,11 @@ int32_t gozdrit_play(gozdrit_receiver *receiver, uint64_t now, gozdrit_played *p
  * as many as it can. Where none is due, `length` is 0, and `out` is as it was. One datagram may leave some that are due:
  * call it until then, or as often as feedback may be sent (RFC 4585, section 3.5).
  *
+ * Where the times of NACKs follow the path each leaves twice, so that the loss of one of both costs no time: the next call
+ * writes the same octets once more, also where they name more than `most`, and counts nothing. That ends while more than
+ * one in 16 retransmissions come a second time, as from a sender that answers both copies. gozdrit_set_nack_copies says
+ * otherwise.
+ *
  *   75  room is less than the datagram has; GOZDRIT_MAX_NACK_DATAGRAM is enough for any
  */
 int32_t gozdrit_nack(gozdrit_receiver *receiver, uint64_t now, size_t most, size_t *length, uint8_t *out, size_t room);
@@ -624,7 +632,8 @@ int32_t gozdrit_nack(gozdrit_receiver *receiver, uint64_t now, size_t most, size
 /*
  * The least time from which on gozdrit_play does not wait or gozdrit_nack, for one packet or more, makes a datagram, if
  * nothing more comes and the times stay: a loop sleeps until then, or until a datagram comes. Where there is none,
- * timeout->known is 0, and timeout->time is as it was. A time in the past is one that has come.
+ * timeout->known is 0, and timeout->time is as it was. A time in the past is one that has come: it is 0 where a packet can
+ * be played, or a NACK is to leave once more.
  */
 int32_t gozdrit_next_timeout(const gozdrit_receiver *receiver, gozdrit_timeout *timeout);
 
@@ -656,6 +665,14 @@ int32_t gozdrit_set_times(gozdrit_receiver *receiver, uint64_t latency, uint64_t
  *   53  adaptive is not 0, 1 or 2
  */
 int32_t gozdrit_set_adaptive(gozdrit_receiver *receiver, uint8_t adaptive);
+
+/*
+ * Since 2.2. How often each NACK leaves from now on: 1, once; 2, twice; 0, as it is before the first call: as gozdrit_nack
+ * says. What is to leave once more already does.
+ *
+ *   53  copies is not 0, 1 or 2
+ */
+int32_t gozdrit_set_nack_copies(gozdrit_receiver *receiver, uint8_t copies);
 
 /* How many packets are missing. */
 int32_t gozdrit_missing(const gozdrit_receiver *receiver, size_t *count);

@@ -80,6 +80,7 @@ int main(void) {
     test_receiver();
     test_times();
     test_follows();
+    test_copies();
     test_begin();
     test_jumps();
     test_kinds();

@@ -110,6 +110,7 @@ void test_resend(void);
 void test_receiver(void);
 void test_times(void);
 void test_follows(void);
+void test_copies(void);
 void test_begin(void);
 void test_jumps(void);
 void test_kinds(void);

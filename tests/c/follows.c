@@ -8,6 +8,7 @@ static const gozdrit_receiver_config CONFIG = {
 static gozdrit_receiver receiver_of(const gozdrit_receiver_config *config) {
     gozdrit_receiver r = {NULL, 0};
     ANSWERS(GOZDRIT_OK, gozdrit_receiver_new(config, &r));
+    ANSWERS(GOZDRIT_OK, gozdrit_set_nack_copies(&r, 1));
     return r;
 }
 

@@ -1,6 +1,6 @@
 -- The configurations that C says, and which of their checks fails first: the types (51), the SSRCs (52), and the limits
 -- of the end and of its store (53).
-use Rattle.std.specs.Prelude.{ℕ, zero, suc, ◌<◌, ◌≤◌, ◌==◌, max, min, not, Option, Some, None}
+use Rattle.std.specs.Prelude.{ℕ, zero, suc, ◌<◌, ◌≤◌, ◌==◌, ◌&&◌, if◌then◌else◌, max, min, not, Option, Some, None}
 use Rattle.rtpwire.specs.declared.fault.ConfigFault.{ConfigFault}
 use Rattle.rtpwire.specs.declared.fault.ConfigFault.TheVariants.{BadType, SameSsrc, BadLimit}
 use Rattle.rtpwire.specs.Session.{Streams, HasTypes, HasAnyMediaType, HasSsrcs, streams}
@@ -50,8 +50,17 @@ deadline_of (suc n) = Some (suc n)
 abbrev pub rule_of : SenderFields → ResendRule
 rule_of f = record { min_resend = f.min_resend; deadline = deadline_of f.deadline }
 
+-- the time between two NACKs for one packet; 0: the usual one
+abbrev pub interval_of : (nack_interval : ℕ) → ℕ
+interval_of zero = 40
+interval_of (suc n) = suc n
+
+-- What follows the path: as is said, and all that can where neither that nor a time between two NACKs is said.
+abbrev pub following_of : ReceiverFields → ℕ
+following_of f = if (f.nack_interval == 0) && (f.adaptive == 0) then 2 else f.adaptive
+
 abbrev pub receiver_config : ReceiverFields → receiving.Config
-receiver_config f = receiving.config_with (streams_of f.session) f.latency f.reorder_delay f.nack_interval f.max_nacks (not (f.learn_rtx_ssrc == 0))
+receiver_config f = receiving.config_with (streams_of f.session) f.latency f.reorder_delay (interval_of f.nack_interval) f.max_nacks (not (f.learn_rtx_ssrc == 0))
 
 pub record HasReceiverLimits (f : ReceiverFields) : Type 0 where
   pub config : receiving.IsConfig (receiver_config f)

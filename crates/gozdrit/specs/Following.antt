@@ -1,6 +1,8 @@
 -- What a receiver of C's does with a datagram, an ask and a play: what its endpoint does; and its path is measured by that, where the
 -- times of asks follow it.
-use Rattle.std.specs.Prelude.{◌≡◌, ℕ, ◌≤◌, Bool, true, false, List, length, take, Option, Some, None, Result, Ok, OnErr, IsOk, if◌then◌else◌}
+use Rattle.std.specs.Prelude.{◌≡◌, ℕ, ◌<◌, ◌≤◌, ◌==◌, ◌||◌, ◌&&◌, ◌+◌, ◌/◌, nat_le, Bool, true, false, List, length, take, Option, Some, None, Result, Ok, Err, OnErr, IsOk, if◌then◌else◌}
+use Rattle.arrayvec.specs.ArrayVec.{ArrayVec}
+use Rattle.rtpwire.specs.Buffer.{in_front}
 use Rattle.rtpwire.specs.declared.fault.TooShort.{TooShort}
 use Rattle.receiver.specs.declared.answer.Played.{Played}
 use Rattle.receiver.specs.declared.answer.Played.TheVariants.{Packet, Gap, Wait}
@@ -67,6 +69,8 @@ pub record HearsAs (before : Receiver) (octets : List ℕ) (now : ℕ) (answer :
   pub meter : mid.meter ≡ before.meter
   pub follows : mid.follows ≡ before.follows
   pub by_sent : mid.by_sent ≡ before.by_sent
+  pub copies : mid.copies ≡ before.copies
+  pub again : mid.again ≡ before.again
   pub measures : Measures before.follows before octets now answer mid after
 
 -- a place that is played or given up is measured no longer
@@ -114,3 +118,28 @@ pub record AsksAs (before : Receiver) (now most : ℕ) (out : List ℕ) (answer 
     endpoint = record before.endpoint { endpoint = record before.endpoint.endpoint { core = core_of after; counts = after.endpoint.endpoint.counts }; asked = after.endpoint.asked };
     meter = meter_of_ask before.follows (core_of after) out' answer now before.meter;
   }
+
+-- how often what was asked for may have come once more than it was wanted: twice, and of 16 answers once
+abbrev pub spare_answers : Receiver → ℕ
+spare_answers r = 2 + r.endpoint.endpoint.counts.retransmissions / 16
+
+-- Whether each NACK leaves twice: where two copies of it are wanted, and where nothing is said (0), if the times of asks follow the path, and
+-- the far side does not answer both.
+abbrev pub leaves_twice : Receiver → Bool
+leaves_twice r = (r.copies == 2) || ((r.copies == 0) && r.follows && nat_le (r.endpoint.kinds.late + r.endpoint.kinds.duplicate) (spare_answers r))
+
+-- what of an ask is to leave once more: its NACK
+abbrev pub again_of : (twice : Bool) → Result (Option ℕ) TooShort → (out : List ℕ) → Option (ArrayVec ℕ)
+again_of true (Ok (Some len)) out = Some (record { items = take len out })
+again_of twice answer out = None
+
+-- A NACK leaves a second time, with the same octets. It is in no count, and nothing is measured by it.
+pub record AsksAgain (octets : List ℕ) (before : Receiver) (out : List ℕ) (answer : Result (Option ℕ) TooShort) (out' : List ℕ) (after : Receiver) : Type 0 where
+  pub fits : length octets ≤ length out → (answer ≡ Ok (Some (length octets))) × (out' ≡ in_front octets out) × (after ≡ record before { again = None })
+  pub short : length out < length octets → (answer ≡ Err (record { needed = length octets })) × (out' ≡ out) × (after ≡ before)
+
+-- what is asked next: what is to leave once more, if there is something, and else what is due
+abbrev pub AsksNext : Option (ArrayVec ℕ) → (before : Receiver) → (now most : ℕ) → (out : List ℕ) → Result (Option ℕ) TooShort → (out' : List ℕ) → (after : Receiver) → Type 0
+AsksNext (Some copy) before now most out answer out' after = AsksAgain copy.items before out answer out' after
+AsksNext None before now most out answer out' after =
+    (mid : Receiver) × AsksAs before now most out answer out' mid × (after ≡ record mid { again = again_of (leaves_twice mid) answer out' })

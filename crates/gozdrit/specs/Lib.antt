@@ -1,3 +1,4 @@
+pub mod Again
 pub mod Codes
 pub mod Config
 pub mod Counted

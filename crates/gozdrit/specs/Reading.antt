@@ -33,10 +33,11 @@ pub record ReadsSized {X Y : Type 0} (size_of : Y → ℕ) (known : ℕ) (Tells 
   pub tells : (before : X) → old ≡ Some before → known ≤ size_of told → (code ≡ ok) × Tells before told told'
   pub same : new ≡ old
 
--- The moment from which on something is to be done, or none, is told.
+-- The moment from which on something is to be done, or none, is told: any moment, where a NACK is to leave once more.
 pub record TellsNext (r : Receiver) (old new : KnownTimeout) : Type 0 where
   pub moment : Option ℕ
-  pub quiet : (m : ℕ) → m < 2 ^ 64 → IsQuiet (record (core_of r).config { patience = patience_of r }) (state_of (core_of r)) m ↔ (has_come moment m ≡ false)
+  pub again : IsSome r.again → moment ≡ Some 0
+  pub quiet : r.again ≡ None → (m : ℕ) → m < 2 ^ 64 → IsQuiet (record (core_of r).config { patience = patience_of r }) (state_of (core_of r)) m ↔ (has_come moment m ≡ false)
   pub told : TellsTimeout moment old new
 
 -- `gozdrit_missing`, `gozdrit_rtx_ssrc`, `gozdrit_next_sequence`, `gozdrit_highest_sequence`, `gozdrit_next_timeout`,

@@ -16,13 +16,13 @@ use Rattle.gozdrit.specs.declared.config.ReceiverFields.{ReceiverFields}
 use Rattle.gozdrit.specs.declared.heard.ReceivedFields.{ReceivedFields}
 use Rattle.gozdrit.specs.declared.answers.PlayedPacket.{PlayedPacket}
 use Rattle.gozdrit.specs.Ends.{Receiver}
-use Rattle.gozdrit.specs.Following.{AsksAs, HearsAs, PassesAs, core_of, next_play, place_of, with_ends}
+use Rattle.gozdrit.specs.Following.{AsksNext, HearsAs, PassesAs, core_of, next_play, place_of, with_ends}
 use Rattle.gozdrit.specs.Codes.{ok, no_end, is_held, out_of_memory, no_room, has_started, bad_limit, bad_size}
 use Rattle.gozdrit.specs.declared.sizes.TheConstants.{PLAYED, RECEIVED, RECEIVER_CONFIG}
 use Rattle.gozdrit.specs.Sizes.{SaysKnown}
 use Rattle.gozdrit.specs.Heard.{received_fields}
 use Rattle.gozdrit.specs.Told.{HasRoom, TellsPlayed}
-use Rattle.gozdrit.specs.Config.{IsFollowing, IsSession, HasReceiverLimits, Fails, receiver_config, probation_of}
+use Rattle.gozdrit.specs.Config.{IsFollowing, IsSession, HasReceiverLimits, Fails, following_of, receiver_config, probation_of}
 
 -- an endpoint that took nothing
 abbrev pub new_receiver : ReceiverFields → Receiver
@@ -41,8 +41,10 @@ new_receiver f =
         kinds = no_kinds;
       };
       meter = new_meter;
-      follows = not (f.adaptive == 0);
-      by_sent = f.adaptive == 2;
+      follows = not (following_of f == 0);
+      by_sent = following_of f == 2;
+      copies = 0;
+      again = None;
     }
 
 -- A configuration is refused for the first check that it fails; else there is an endpoint that took nothing, or no
@@ -86,7 +88,7 @@ pub record AnswersPlay (old : Option Receiver) (now : ℕ) (played : PlayedPacke
 pub record AnswersNack (old : Option Receiver) (now most : ℕ) (count : ℕ) (out : List ℕ) (code : ℤ) (new : Option Receiver) (count' : ℕ) (out' : List ℕ) : Type 0 where
   pub none : old ≡ None → code ≡ no_end
   pub asks : (before : Receiver) → old ≡ Some before
-      → (answer : Result (Option ℕ) TooShort) × IsSomeAnd new (AsksAs before now most out answer out') × TellsAsk answer count code count'
+      → (answer : Result (Option ℕ) TooShort) × IsSomeAnd new (AsksNext before.again before now most out answer out') × TellsAsk answer count code count'
   pub refused : code ≢ ok → (new ≡ old) × (count' ≡ count) × (out' ≡ out)
 
 -- `gozdrit_begin`
@@ -103,6 +105,7 @@ receiver_restarted r =
     record r {
       endpoint = record r.endpoint { endpoint = record r.endpoint.endpoint { core = restarted (core_of r); run = no_run }; asked = none_asked (length r.endpoint.asked) };
       meter = meter_restarted r.meter;
+      again = None;
     }
 
 -- `gozdrit_reset`
@@ -130,4 +133,16 @@ pub record AnswersFollow (old : Option Receiver) (follows : ℕ) (code : ℤ) (n
   pub unknown : IsSome old → (IsFollowing follows → ⊥) → code ≡ bad_limit
   pub tells : (before : Receiver) → old ≡ Some before → IsFollowing follows
       → (code ≡ ok) × (new ≡ Some (record before { follows = not (follows == 0); by_sent = follows == 2; meter = record before.meter { is_new = true } }))
+  pub refused : code ≢ ok → new ≡ old
+
+-- how often a NACK leaves: once, twice, or as is best (0)
+abbrev pub IsCopies : (copies : ℕ) → Type 0
+IsCopies copies = copies ≤ 2
+
+-- `gozdrit_set_nack_copies`
+pub record AnswersCopies (old : Option Receiver) (copies : ℕ) (code : ℤ) (new : Option Receiver) : Type 0 where
+  pub none : old ≡ None → code ≡ no_end
+  pub unknown : IsSome old → (IsCopies copies → ⊥) → code ≡ bad_limit
+  pub tells : (before : Receiver) → old ≡ Some before → IsCopies copies
+      → (code ≡ ok) × (new ≡ Some (record before { copies = copies }))
   pub refused : code ≢ ok → new ≡ old

@@ -1,6 +1,6 @@
 //! How C says the configurations of both ends.
 ghost use Rattle.std.specs.Prelude.{◌≡◌, ⊤, MatchResult};
-ghost use Rattle.gozdrit.specs.Config.{IsCapacity, IsSession, HasSenderLimits, HasReceiverLimits, Fails, streams_of, sender_config, receiver_config, probation_of, rule_of, or_usual, usual_dropout};
+ghost use Rattle.gozdrit.specs.Config.{IsCapacity, IsSession, HasSenderLimits, HasReceiverLimits, Fails, streams_of, sender_config, receiver_config, probation_of, rule_of, or_usual, usual_dropout, interval_of, following_of};
 
 use endpoint::{Probation, ResendRule};
 use receiver::ReceiverConfig;
@@ -9,6 +9,9 @@ use sender::SenderConfig;
 
 /// How many packets a history, or places a window, keeps at most.
 const MAX_STORE: u32 = 8192;
+
+/// How many milliseconds lie between two NACKs for one packet where nothing is said, until a round trip was measured.
+const INTERVAL: u64 = 40;
 
 /// What follows the path at most: the times of asks, and how long a place is waited for.
 pub(crate) const MAX_FOLLOWS: u8 = 2;
@@ -53,6 +56,7 @@ pub struct ReceiverFields {
     pub size: usize,
     pub session: SessionFields,
     pub latency: u64,
+    /// 0: the usual time between two NACKs, which follows the path.
     pub nack_interval: u64,
     pub window: u32,
     pub max_nacks: u8,
@@ -66,7 +70,7 @@ pub struct ReceiverFields {
     pub reorder_delay: u64,
     /// For how long a stream is silent of which nothing is taken; 0: what has jumped is believed in sequence.
     pub idle_after: u64,
-    /// 0 where the times of asks stay as they are set, 1 where they follow what is measured of the path, and 2 where a place is given up
+    /// 0 where the times of asks stay as `nack_interval` says, 1 where they follow what is measured of the path, and 2 where a place is given up
     /// by when its packet was sent, too.
     pub adaptive: u8,
 }
@@ -148,11 +152,33 @@ impl ReceiverFields {
             return Err(ConfigFault::BadLimit);
         }
         let made = if self.learn_rtx_ssrc == 0 {
-            ReceiverConfig::new(session, self.latency, self.nack_interval, self.max_nacks)?
+            ReceiverConfig::new(session, self.latency, self.interval(), self.max_nacks)?
         } else {
-            ReceiverConfig::learning(session, self.latency, self.nack_interval, self.max_nacks)?
+            ReceiverConfig::learning(session, self.latency, self.interval(), self.max_nacks)?
         };
         Ok(made.with_delay(self.reorder_delay))
+    }
+
+    /// The time between two NACKs for one packet.
+    fn interval(&self) -> u64
+        ensures { result ≡ interval_of self.now.nack_interval }
+    {
+        if self.nack_interval == 0 {
+            INTERVAL
+        } else {
+            self.nack_interval
+        }
+    }
+
+    /// What follows the path: as is said, and all that can where neither that nor a time between two NACKs is said.
+    pub(crate) fn following(&self) -> u8
+        ensures { result ≡ following_of self.now }
+    {
+        if self.nack_interval == 0 && self.adaptive == 0 {
+            MAX_FOLLOWS
+        } else {
+            self.adaptive
+        }
     }
 
     /// Its probation.

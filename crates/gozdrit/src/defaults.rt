@@ -15,8 +15,8 @@ const NO_SESSION: SessionFields = SessionFields {
     any_media_payload_type: 0,
 };
 
-/// It waits 200 ms for a missing packet, asks for it first after 20 ms, and then each 40 ms, four times. A stream is silent after
-/// 200 ms.
+/// It waits 200 ms for a missing packet, and asks for it four times at most, at times that follow the path: first after 20 ms, and
+/// then each 40 ms, until a round trip was measured. A stream is silent after 200 ms.
 pub(crate) fn receiver_defaults(size: usize) -> ReceiverFields
     ensures { result ≡ usual_receiver size }
 {
@@ -24,7 +24,7 @@ pub(crate) fn receiver_defaults(size: usize) -> ReceiverFields
         size,
         session: NO_SESSION,
         latency: 200,
-        nack_interval: 40,
+        nack_interval: 0,
         window: 512,
         max_nacks: 4,
         learn_rtx_ssrc: 0,

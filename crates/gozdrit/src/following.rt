@@ -1,8 +1,12 @@
 //! The receiving end for C, and what it measures of the path.
-ghost use Rattle.std.specs.Prelude.{◌≡◌};
+ghost use Rattle.std.specs.Prelude.{◌≡◌, ◌↔◌, ◌^◌, ℕ, ◌<◌, ◌≤◌, ◌+◌, nat_le, false, Some, None, IsSome, Ok};
 ghost use Rattle.endpoint.specs.Measuring.{meter_heard};
-ghost use Rattle.gozdrit.specs.Following.{AsksAs, HearsAs, HearsOwn, PassesAs, patience_of, timed_where};
+ghost use Rattle.receiver.specs.Receiver.{state_of};
+ghost use Rattle.receiver.specs.Waking.{IsQuiet};
+ghost use Rattle.stores.specs.Asking.{has_come};
+ghost use Rattle.gozdrit.specs.Following.{AsksAs, AsksNext, HearsAs, HearsOwn, PassesAs, core_of, leaves_twice, patience_of, spare_answers, timed_where};
 
+use crate::again::{Again, MAX_NACK, copy_of, write_copy};
 use endpoint::{AskingEndpoint, Heard, PathMeter, Standing};
 use places::Place;
 use receiver::ReceiveFault;
@@ -10,13 +14,16 @@ use rtpwire::TooShort;
 use stores::RingWindow;
 
 /// A receiver, what it measured of the path, and whether the times of its asks follow that, and a place is given up by when its packet
-/// was sent. Where no times follow, nothing is measured.
+/// was sent. Where no times follow, nothing is measured. A NACK of it may leave twice.
 #[derive(Drop)]
 pub struct MeteredReceiver {
     pub(crate) endpoint: AskingEndpoint<RingWindow>,
     pub(crate) meter: PathMeter,
     pub(crate) follows: bool,
     pub(crate) by_sent: bool,
+    /// How often each NACK leaves: once, twice, or twice while the times follow and hardly any answer comes twice (0).
+    pub(crate) copies: u8,
+    pub(crate) again: Option<Again>,
 }
 
 impl MeteredReceiver {
@@ -39,6 +46,8 @@ impl MeteredReceiver {
         ensures meter { self.new.meter ≡ self.old.meter }
         ensures follows { self.new.follows ≡ self.old.follows }
         ensures by_sent { self.new.by_sent ≡ self.old.by_sent }
+        ensures copies { self.new.copies ≡ self.old.copies }
+        ensures again { self.new.again ≡ self.old.again }
     {
         self.endpoint.on_datagram(octets, now).0
     }
@@ -54,14 +63,33 @@ impl MeteredReceiver {
         }
     }
 
-    /// `AskingEndpoint::ask_most_into`.
+    /// Writes the NACK that is to leave once more, and else what `AskingEndpoint::ask_most_into` does.
     pub(crate) fn ask_most_into(
         &mut self,
         out: &mut [u8],
         now: u64,
         most: usize,
     ) -> Result<Option<usize>, TooShort>
-        ensures { AsksAs self.old now most out.old result out.new self.new }
+        ensures { AsksNext self.old.again self.old now most out.old result out.new self.new }
+    {
+        if let Some(again) = &self.again {
+            let len = write_copy(again.as_slice(), out)?;
+            self.again = None;
+            return Ok(Some(len));
+        }
+        let asked = self.ask_due(out, now, most);
+        if let Ok(Some(len)) = asked
+            && self.leaves_twice()
+        {
+            self.again = Some(copy_of(&out[..len]));
+        }
+        asked
+    }
+
+    /// `AskingEndpoint::ask_most_into`, which is measured.
+    fn ask_due(&mut self, out: &mut [u8], now: u64, most: usize) -> Result<Option<usize>, TooShort>
+        ensures asks { AsksAs self.old now most out.old result out.new self.new }
+        ensures within { (len : ℕ) → result ≡ Ok (Some len) → len ≤ MAX_NACK }
     {
         let asked = self.endpoint.ask_most_into(out, now, most);
         if let (true, Ok(Some(len))) = (self.follows, asked) {
@@ -69,6 +97,37 @@ impl MeteredReceiver {
                 .ask(self.endpoint.endpoint().core(), &out[..len], now);
         }
         asked
+    }
+
+    /// Whether each NACK leaves twice.
+    fn leaves_twice(&self) -> bool
+        ensures { result ≡ leaves_twice self.now }
+    {
+        self.copies == 2 || (self.copies == 0 && self.follows && self.is_answered_once())
+    }
+
+    /// Whether hardly any answer came twice, as each does where the far side answers both copies of a NACK.
+    fn is_answered_once(&self) -> bool
+        ensures { result ≡ nat_le (self.now.endpoint.kinds.late + self.now.endpoint.kinds.duplicate) (spare_answers self.now) }
+    {
+        let kinds = self.endpoint.kinds();
+        let spare = 2 + self.endpoint.endpoint().counts().retransmissions / 16;
+        kinds.late <= spare && kinds.duplicate <= spare - kinds.late
+    }
+
+    /// From when on there is something to do: at any moment, where a NACK is to leave once more.
+    pub(crate) fn next_moment(&self) -> Option<u64>
+        ensures again { IsSome self.now.again → result ≡ Some 0 }
+        ensures quiet { self.now.again ≡ None → (m : ℕ) → m < 2 ^ 64
+            → IsQuiet (record (core_of self.now).config { patience = patience_of self.now }) (state_of (core_of self.now)) m ↔ (has_come result m ≡ false) }
+    {
+        if self.again.is_some() {
+            return Some(0);
+        }
+        self.endpoint
+            .endpoint()
+            .core()
+            .next_moment_within(self.patience_left())
     }
 
     /// How long the next place to play is waited for since it was noticed to be missing.

@@ -1,10 +1,12 @@
 //! Laws on the configurations that C says, field by field. These functions compute nothing: their contracts are the laws.
-ghost use Rattle.std.specs.Prelude.{◌≡◌, ◌↔◌, ℕ, ◌+◌, ◌<◌, ◌≤◌, true, false, List, [], ◌∷◌, ◌++◌, length, replicate, Some, None};
+ghost use Rattle.std.specs.Prelude.{◌≡◌, ◌↔◌, ℕ, ◌+◌, ◌/◌, ◌<◌, ◌≤◌, true, false, List, [], ◌∷◌, ◌++◌, length, replicate, take, Option, Some, None, Result, Ok};
+ghost use Rattle.rtpwire.specs.declared.fault.TooShort.{TooShort};
 ghost use Rattle.gozdrit.specs.declared.config.SessionFields.{SessionFields};
 ghost use Rattle.gozdrit.specs.declared.config.SenderFields.{SenderFields};
 ghost use Rattle.gozdrit.specs.declared.config.ReceiverFields.{ReceiverFields};
 ghost use Rattle.gozdrit.specs.Config.{streams_of, sender_config, receiver_config, probation_of, rule_of};
-ghost use Rattle.gozdrit.specs.Ends.{Sender};
+ghost use Rattle.gozdrit.specs.Ends.{Receiver, Sender};
+ghost use Rattle.gozdrit.specs.Following.{AsksNext, leaves_twice};
 ghost use Rattle.gozdrit.specs.Sending.{IsNewSender, rule_now};
 ghost use Rattle.gozdrit.specs.Receiving.{new_receiver};
 ghost use Rattle.gozdrit.specs.Sizes.{SaysKnown};
@@ -18,7 +20,9 @@ pub fn fields_say_configurations()
     ensures sender { (f : SenderFields) → let c = sender_config f in
         (c.session ≡ streams_of f.session) × (c.first ≡ f.first_sequence) × (c.repair_first ≡ f.rtx_first_sequence) × (c.repeats ≡ f.max_retransmissions) }
     ensures receiver { (f : ReceiverFields) → let c = receiver_config f in
-        (c.session ≡ streams_of f.session) × (c.patience ≡ f.latency) × (c.delay ≡ f.reorder_delay) × (c.retry ≡ f.nack_interval) × (c.asks ≡ f.max_nacks) }
+        (c.session ≡ streams_of f.session) × (c.patience ≡ f.latency) × (c.delay ≡ f.reorder_delay) × (c.asks ≡ f.max_nacks) }
+    ensures interval { (f : ReceiverFields) → 0 < f.nack_interval → (receiver_config f).retry ≡ f.nack_interval }
+    ensures usual_interval { (f : ReceiverFields) → f.nack_interval ≡ 0 → (receiver_config f).retry ≡ 40 }
     // What is true or false is false where the field is 0, and true at every other number.
     ensures any_reporter { (f : SenderFields) → ((sender_config f).any_reporter ≡ false) ↔ (f.any_reporter ≡ 0) }
     ensures learns { (f : ReceiverFields) → ((receiver_config f).learns ≡ false) ↔ (f.learn_rtx_ssrc ≡ 0) }
@@ -47,8 +51,14 @@ pub fn new_ends_are_as_configured()
         (r.endpoint.core.config ≡ receiver_config f) × (r.endpoint.core.span.capacity ≡ f.window)
         × (r.endpoint.spare.config ≡ receiver_config f) × (r.endpoint.spare.span.capacity ≡ f.window) × (r.endpoint.probation ≡ probation_of f)
         × (length r.asked ≡ f.window) }
-    ensures follows { (f : ReceiverFields) → ((new_receiver f).follows ≡ false) ↔ (f.adaptive ≡ 0) }
-    ensures by_sent { (f : ReceiverFields) → ((new_receiver f).by_sent ≡ true) ↔ (f.adaptive ≡ 2) }
+    // Where a time between two NACKs is said, it follows the path by what is said alone; and where none is, it follows the path.
+    ensures follows { (f : ReceiverFields) → 0 < f.nack_interval → ((new_receiver f).follows ≡ false) ↔ (f.adaptive ≡ 0) }
+    ensures by_sent { (f : ReceiverFields) → 0 < f.nack_interval → ((new_receiver f).by_sent ≡ true) ↔ (f.adaptive ≡ 2) }
+    ensures usual_follows { (f : ReceiverFields) → f.nack_interval ≡ 0 → (new_receiver f).follows ≡ true }
+    ensures usual_by_sent { (f : ReceiverFields) → f.nack_interval ≡ 0 → f.adaptive ≡ 0 → (new_receiver f).by_sent ≡ true }
+    ensures said_by_sent { (f : ReceiverFields) → f.nack_interval ≡ 0 → 0 < f.adaptive → ((new_receiver f).by_sent ≡ true) ↔ (f.adaptive ≡ 2) }
+    // Its NACKs leave twice where it follows the path.
+    ensures copies { (f : ReceiverFields) → leaves_twice (new_receiver f) ≡ (new_receiver f).follows }
 {}
 
 /// A configuration of version 2.0 is known here, and a longer one where all behind it is blank; a shorter one, or one that says more, is not.
@@ -58,4 +68,19 @@ pub fn longer_configurations_say_no_more()
     ensures longer { (known more : ℕ) → SaysKnown known (known + more) (replicate more 0) }
     ensures shorter { (known size : ℕ) (rest : List ℕ) → size < known → SaysKnown known size rest → ⊥ }
     ensures says_more { (known size octet : ℕ) (before after : List ℕ) → 0 < octet → SaysKnown known size (before ++ octet ∷ after) → ⊥ }
+{}
+
+/// A NACK that leaves twice leaves the second time with the octets of the first time, whenever that is, and no third time. What it names is
+/// asked for once, and counted once.
+pub fn nacks_leave_twice()
+    ensures second { (r mid after : Receiver) (now later most next_most len : ℕ) (out out' next next' : List ℕ) (answer : Result (Option ℕ) TooShort) → r.again ≡ None → leaves_twice r ≡ true
+        → AsksNext r.again r now most out (Ok (Some len)) out' mid → len ≤ length next → AsksNext mid.again mid later next_most next answer next' after
+        → (answer ≡ Ok (Some len)) × (take len next' ≡ take len out') × (after ≡ record mid { again = None }) }
+    ensures once { (r mid : Receiver) (now most : ℕ) (out out' : List ℕ) (answer : Result (Option ℕ) TooShort) → r.again ≡ None → leaves_twice r ≡ false
+        → AsksNext r.again r now most out answer out' mid → mid.again ≡ None }
+    // By what is set, or else by whether the times of asks follow the path and hardly any answer came twice.
+    ensures set_once { (r : Receiver) → r.copies ≡ 1 → leaves_twice r ≡ false }
+    ensures set_twice { (r : Receiver) → r.copies ≡ 2 → leaves_twice r ≡ true }
+    ensures unset { (r : Receiver) → r.copies ≡ 0 → (leaves_twice r ≡ true)
+        ↔ ((r.follows ≡ true) × (r.endpoint.kinds.late + r.endpoint.kinds.duplicate ≤ 2 + r.endpoint.endpoint.counts.retransmissions / 16)) }
 {}

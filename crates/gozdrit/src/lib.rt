@@ -1,6 +1,7 @@
 //! Both ends of a session for C: one export for each call.
 #![tactic(auto)]
 
+mod again;
 mod answers;
 mod blocks;
 mod code;
@@ -30,5 +31,6 @@ mod unboxed;
 mod version;
 
 pub use laws::{
-    fields_say_configurations, longer_configurations_say_no_more, new_ends_are_as_configured,
+    fields_say_configurations, longer_configurations_say_no_more, nacks_leave_twice,
+    new_ends_are_as_configured,
 };

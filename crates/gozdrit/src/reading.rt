@@ -69,10 +69,7 @@ pub(crate) fn next_moment(receiver: &mut ReceiverHandle, moment: &mut KnownTimeo
     if !receiver.is_held() {
         return NO_END;
     }
-    let inside = receiver.lend();
-    let patience = inside.patience_left();
-    let core = inside.endpoint.endpoint().core();
-    moment.tell(core.next_moment_within(patience));
+    moment.tell(receiver.lend().next_moment());
     OK
 }
 

@@ -15,7 +15,7 @@ ghost use Rattle.gozdrit.specs.contracts.answers.PlayedPacket.{the_row as played
 ghost use Rattle.gozdrit.specs.declared.answers.PlayedPacket.{PlayedPacket};
 ghost use Rattle.gozdrit.specs.contracts.config.ReceiverFields.{the_row as receiver_config_row};
 ghost use Rattle.gozdrit.specs.declared.config.ReceiverFields.{ReceiverFields};
-ghost use Rattle.gozdrit.specs.Lent.{ReceiverNewFor, ReceiverFreeFor, ReceiveFor, PlayFor, NackFor, BeginFor, RestartFor, TimesFor, FollowFor};
+ghost use Rattle.gozdrit.specs.Lent.{ReceiverNewFor, ReceiverFreeFor, ReceiveFor, PlayFor, NackFor, BeginFor, RestartFor, TimesFor, FollowFor, CopiesFor};
 
 use crate::answers::PlayedPacket;
 use crate::blocks::ReceiverBlock;
@@ -25,7 +25,7 @@ use crate::heard::ReceivedFields;
 use crate::lent::{Lent, LentSlice};
 use crate::receiving::{
     ReceiverHandle, begin, follow, nack, play, receive, receiver_free, receiver_new, restart,
-    set_times,
+    set_copies, set_times,
 };
 use crate::rest::says_known;
 use crate::sized::LentSized;
@@ -384,5 +384,34 @@ fn follow_lent(mut receiver: Lent<ReceiverHandle>, adaptive: u8) -> (i32, Lent<R
         return (NULL, receiver);
     }
     let code = follow(receiver.get(), adaptive);
+    (code, receiver)
+}
+
+/// How often each NACK leaves.
+#[unsafe(no_mangle)]
+pub unsafe extern "C" fn gozdrit_set_nack_copies(receiver: *mut ReceiverBlock, copies: u8) -> i32
+    ghost before: { Option (Handle Receiver) }
+    requires* { sem 𝓛 (value_lies_at ReceiverRow receiver before) }
+    ensures* { ∃ₛ (λ (after : Option (Handle Receiver)).
+        sem 𝓛 (value_lies_at ReceiverRow receiver after)
+        ∗ ⌜ CopiesFor copies before result after ⌝) }
+{
+    copies_lent(
+        Lent {
+            at: receiver as *mut ReceiverHandle,
+        },
+        copies,
+    )
+    .0
+}
+
+fn copies_lent(mut receiver: Lent<ReceiverHandle>, copies: u8) -> (i32, Lent<ReceiverHandle>)
+    ensures { (result.1.at ≡ receiver.at)
+        × CopiesFor copies receiver.value result.0 result.1.value }
+{
+    if receiver.is_null() {
+        return (NULL, receiver);
+    }
+    let code = set_copies(receiver.get(), copies);
     (code, receiver)
 }

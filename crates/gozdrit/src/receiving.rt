@@ -3,7 +3,7 @@ ghost use Rattle.std.specs.Prelude.{ℕ, List, ◌↔◌, IsTrue};
 ghost use Rattle.gozdrit.specs.declared.sizes.TheConstants.{RECEIVER_CONFIG};
 ghost use Rattle.gozdrit.specs.Sizes.{SaysKnown};
 ghost use Rattle.gozdrit.specs.Freeing.{AnswersFree};
-ghost use Rattle.gozdrit.specs.Receiving.{AnswersReceiverNew, AnswersReceive, AnswersPlay, AnswersNack, AnswersBegin, AnswersRestart, AnswersTimes, AnswersFollow};
+ghost use Rattle.gozdrit.specs.Receiving.{AnswersReceiverNew, AnswersReceive, AnswersPlay, AnswersNack, AnswersBegin, AnswersRestart, AnswersTimes, AnswersFollow, AnswersCopies};
 
 use crate::answers::PlayedPacket;
 use crate::code::{BAD_SIZE, HELD, NO_END, OK, OUT_OF_MEMORY};
@@ -48,8 +48,10 @@ pub(crate) fn receiver_new(
     let made = MeteredReceiver {
         endpoint,
         meter: PathMeter::new(),
-        follows: config.adaptive != 0,
-        by_sent: config.adaptive == MAX_FOLLOWS,
+        follows: config.following() != 0,
+        by_sent: config.following() == MAX_FOLLOWS,
+        copies: 0,
+        again: None,
     };
     let Ok(inside) = Box::new(alloc, made) else {
         return OUT_OF_MEMORY;
@@ -144,6 +146,7 @@ pub(crate) fn restart(receiver: &mut ReceiverHandle) -> i32
     let inside = receiver.lend();
     inside.endpoint.restart();
     inside.meter.restart();
+    inside.again = None;
     OK
 }
 
@@ -176,5 +179,21 @@ pub(crate) fn follow(receiver: &mut ReceiverHandle, follows: u8) -> i32
     inside.follows = follows != 0;
     inside.by_sent = follows == MAX_FOLLOWS;
     inside.meter.renew();
+    OK
+}
+
+/// How often a NACK leaves at most.
+const MAX_COPIES: u8 = 2;
+
+pub(crate) fn set_copies(receiver: &mut ReceiverHandle, copies: u8) -> i32
+    ensures { AnswersCopies receiver.old.inside copies result receiver.new.inside }
+{
+    if !receiver.is_held() {
+        return NO_END;
+    }
+    if copies > MAX_COPIES {
+        return i32::from(ConfigFault::BadLimit.number());
+    }
+    receiver.lend().copies = copies;
     OK
 }

@@ -49,6 +49,7 @@ static GstBuffer *next_nack(GstGozdritRecv *self, guint64 now) {
     guint8 octets[GOZDRIT_MAX_NACK_DATAGRAM];
     gsize length = 0;
     if (!self->end.held) return NULL;
+    gozdrit_set_nack_copies(&self->end, auxiliary_is(self) ? 1 : 0); /* an event is not lost */
     gint32 number = gozdrit_nack(&self->end, now, GOZDRIT_MAX_NACKED, &length, octets, sizeof octets);
     if (number != GOZDRIT_OK || length == 0) return NULL;
     return gst_buffer_new_memdup(octets, length);

@@ -296,6 +296,7 @@ bool expect_timeout(const struct receiver *it, uint64_t *moment) {
     bool is_known = false;
     uint64_t sequence;
     *moment = 0;
+    if (it->again_length > 0) return true;
     if (slot == NULL) return false;
     if (slot->is_held) return true;
     sooner(&is_known, moment, slot->noticed, config->latency);
@@ -310,6 +311,7 @@ bool expect_timeout(const struct receiver *it, uint64_t *moment) {
 
 void reset(struct receiver *it) {
     clear_window(&it->window);
+    it->again_length = 0;
     it->held_back = 0;
     it->taken_at = 0;
     it->has_learnt = false;

@@ -48,6 +48,9 @@ struct receiver {
     uint16_t follows;           /* the number of the next of them in sequence */
     uint64_t taken_at;          /* when a media packet was last taken */
     uint64_t seen[8192];        /* by a number modulo 8192: what was taken last, its number and timestamp, and one more */
+    uint8_t copies;             /* of each NACK, as it was set */
+    uint8_t again[GOZDRIT_MAX_NACK_DATAGRAM]; /* the NACK that is to leave once more */
+    size_t again_length;                      /* 0: none */
     bool has_played;            /* since it was reset, or the stream restarted */
     uint64_t played;            /* the last sequence that was played or given up */
     uint64_t fed;

@@ -47,7 +47,7 @@ static int32_t check_config(const gozdrit_receiver_config *config) {
     int32_t fault = check_session(&config->session);
     if (fault != GOZDRIT_OK) return fault;
     if (config->window == 0 || config->window > GOZDRIT_MAX_STORE) return GOZDRIT_BAD_LIMIT;
-    if (config->nack_interval == 0 || config->max_nacks == 0 || config->adaptive > 2) return GOZDRIT_BAD_LIMIT;
+    if (config->max_nacks == 0 || config->adaptive > 2) return GOZDRIT_BAD_LIMIT;
     return GOZDRIT_OK;
 }
 
@@ -82,6 +82,13 @@ static void draw_config(struct receiver *it, gozdrit_receiver_config *config) {
     config->adaptive = one_in(40) ? (uint8_t)between(3, 255) : 0; /* the model measures nothing */
 }
 
+/* One without a time between two NACKs has the usual one, and follows the path, which the model does not. */
+static void follows_no_more(struct receiver *it) {
+    it->config.nack_interval = 40;
+    begin_plain_call(CALL_set_adaptive);
+    end_call(GOZDRIT_OK, gozdrit_set_adaptive(lend_receiver(it, true), GOZDRIT_ADAPTIVE_OFF));
+}
+
 static void call_new(struct receiver *it) {
     gozdrit_receiver_config config;
     const gozdrit_receiver_config *lent;
@@ -98,10 +105,12 @@ static void call_new(struct receiver *it) {
         it->window.capacity = it->spare.capacity = config.window;
         memset(&it->counts, 0, sizeof it->counts);
         memset(it->seen, 0, sizeof it->seen);
+        it->copies = 0;
         reset(it);
     }
     check_receiver(it, answer);
     check_kept(AREA_STRUCT, 0);
+    if (answer == GOZDRIT_OK && config.nack_interval == 0) follows_no_more(it);
 }
 
 static void call_free(struct receiver *it) {
@@ -136,7 +145,7 @@ static void call_defaults(void) {
     same(512, config->window, "window");
     same(200, config->latency, "latency");
     same(20, config->reorder_delay, "reorder_delay");
-    same(40, config->nack_interval, "nack_interval");
+    same(0, config->nack_interval, "nack_interval");
     same(4, config->max_nacks, "max_nacks");
     same(0, config->max_dropout, "max_dropout, which is the usual number");
     holds(config->max_misorder == 0 || config->max_misorder == 100, "max_misorder is the usual number");
@@ -239,9 +248,28 @@ static void call_play(struct receiver *it) {
 
 /* ---- asking */
 
+/* The datagram that is expected: a NACK that is to leave once more, or what is due, of which `named` packets are named. */
+static size_t expect_datagram(const struct receiver *it, uint64_t now, size_t most, uint8_t *out, size_t *named) {
+    *named = 0;
+    if (!it->is_made) return 0;
+    if (it->again_length == 0) return expect_nack(it, now, most, out, named);
+    memcpy(out, it->again, it->again_length);
+    return it->again_length;
+}
+
+/* What was written is to leave once more, where it was not written for the second time. */
+static void keep_again(struct receiver *it, const uint8_t *octets, size_t length) {
+    if (it->again_length > 0 || it->copies != 2) {
+        it->again_length = 0;
+        return;
+    }
+    memcpy(it->again, octets, length);
+    it->again_length = length;
+}
+
 int nack(struct receiver *it, uint64_t now, size_t most, size_t room, bool is_plain) {
     static uint8_t datagram[GOZDRIT_MAX_NACK_DATAGRAM];
-    size_t named = 0, expected = it->is_made ? expect_nack(it, now, most, datagram, &named) : 0, *length;
+    size_t named, expected = expect_datagram(it, now, most, datagram, &named), *length;
     uint8_t *out;
     int32_t answer;
     if (is_plain) begin_plain_call(CALL_nack);
@@ -257,7 +285,8 @@ int nack(struct receiver *it, uint64_t now, size_t most, size_t room, bool is_pl
     same(expected, *length, "length");
     if (expected > 0) {
         holds(memcmp(datagram, out, expected) == 0, "the NACK names the packets that are due");
-        count_nack(it, now, named);
+        if (it->again_length == 0) count_nack(it, now, named);
+        keep_again(it, datagram, expected);
         keep_nack(it->session, datagram, expected);
     }
     return (int)expected;
@@ -267,7 +296,7 @@ static void call_nack(struct receiver *it) {
     static uint8_t datagram[GOZDRIT_MAX_NACK_DATAGRAM];
     uint64_t now = draw_now();
     size_t most = one_in(2) ? GOZDRIT_MAX_NACKED : one_in(2) ? (size_t)below(3) : one_in(2) ? SIZE_MAX : (size_t)below(1200);
-    size_t named, length = it->is_made ? expect_nack(it, now, most, datagram, &named) : 0;
+    size_t named, length = expect_datagram(it, now, most, datagram, &named);
     if (length > 0 && one_in(4)) nack(it, now, most, length - 1, false);
     nack(it, now, most, draw_room(length, GOZDRIT_MAX_NACK_DATAGRAM), false);
 }
@@ -317,6 +346,16 @@ static void call_set_adaptive(struct receiver *it) {
     check_receiver(it, answer);
 }
 
+static void call_set_nack_copies(struct receiver *it) {
+    uint8_t copies = (uint8_t)(one_in(4) ? between(3, 255) : below(3));
+    int32_t answer;
+    begin_call(CALL_set_nack_copies);
+    answer = gozdrit_set_nack_copies(lend_receiver(it, true), copies);
+    end_call(unless_no_end(it, copies > 2 ? GOZDRIT_BAD_LIMIT : GOZDRIT_OK), answer);
+    if (answer == GOZDRIT_OK) it->copies = copies;
+    check_receiver(it, answer);
+}
+
 void call_receiver(void) {
     struct receiver *it = &receivers[below(RECEIVERS)];
     uint32_t which = below(1000);
@@ -328,6 +367,7 @@ void call_receiver(void) {
     else if (which < 18) call_begin(it);
     else if (which < 24) call_set_times(it);
     else if (which < 26) call_set_adaptive(it);
+    else if (which < 32) call_set_nack_copies(it);
     else if (which < 600) call_receive(it);
     else if (which < 820) call_play(it);
     else if (which < 900) call_nack(it);

@@ -12,6 +12,8 @@ returns-then-not-self c =
       meter = c.hear.ensures.meter;
       follows = c.hear.ensures.follows;
       by_sent = c.hear.ensures.by_sent;
+      copies = c.hear.ensures.copies;
+      again = c.hear.ensures.again;
       measures = subst (λ (b : Bool). Measures b c.args.self.now c.args.octets.now c.args.now c.hear.result c.hear.new.self c.hear.new.self) (sym off) refl;
     }
 
@@ -25,6 +27,8 @@ returns c =
       meter = c.hear-answer.ensures.meter;
       follows = c.hear-answer.ensures.follows;
       by_sent = c.hear-answer.ensures.by_sent;
+      copies = c.hear-answer.ensures.copies;
+      again = c.hear-answer.ensures.again;
       measures = subst (λ (b : Bool). Measures b c.args.self.now c.args.octets.now c.args.now c.hear-answer.result c.hear-answer.new.self c.measure.new.self) (sym on)
           (c.before-standing.result, stood, search rules);
     }
