@@ -238,7 +238,7 @@ typedef struct gozdrit_sender_config {
     uint16_t rtx_first_sequence;  /* the first retransmission's */
     uint8_t max_retransmissions;  /* how often one packet is retransmitted at most: 1 to 255 */
     gozdrit_bool any_reporter;    /* NACKs from any SSRC are heard, not the session's receiver's alone */
-    /* Which retransmissions fit the time, by gozdrit_sender_set_time. Both are milliseconds, and 0 is without. */
+    /* Which retransmissions fit the time, from the first gozdrit_sender_set_time on. Both are milliseconds, and 0 is without. */
     uint64_t min_resend; /* so long after a retransmission its packet is not retransmitted again: about a round trip */
     uint64_t deadline;   /* so long after it was sent a packet is retransmitted no more: about the far side's latency */
 } gozdrit_sender_config;
@@ -454,9 +454,10 @@ typedef struct gozdrit_packet {
 /* ---- the sending end */
 
 /*
- * Fills a configuration: a history of 1024 packets, each retransmitted 4 times at most, and all else 0, also what
- * lies behind the fields that this library knows. `size` is sizeof(gozdrit_sender_config), and becomes the struct's. The
- * session is to be set, and both first sequence numbers, which are to be drawn at random (RFC 3550, section 5.1).
+ * Fills a configuration: a history of 1024 packets, each retransmitted 16 times at most, and not within 10 ms, and all else 0,
+ * also what lies behind the fields that this library knows. `size` is sizeof(gozdrit_sender_config), and becomes the
+ * struct's. The session is to be set, and both first sequence numbers, which are to be drawn at random (RFC 3550, section
+ * 5.1).
  *
  *   77  size is less than the struct had in version 2.0
  */
@@ -502,11 +503,11 @@ int32_t gozdrit_feedback(gozdrit_sender *sender, const uint8_t *octets, size_t l
  * be retransmitted. Where there is none, sent->length is 0, and sent->sequence and `out` are as they were. Call it until
  * then.
  *
- * With `min_resend` or a `deadline` it is the least one that fits the time. What is to be retransmitted below it and does
- * not fit is passed over, and counted: it may be named again.
+ * Where `min_resend` or a `deadline` holds it is the least one that fits the time. What is to be retransmitted below it and
+ * does not fit is passed over, and counted: it may be named again.
  *
- *   75  room is less than the retransmission has; GOZDRIT_MAX_DATAGRAM is enough for any. With `min_resend` or a `deadline`:
- *       room is less than GOZDRIT_MAX_DATAGRAM
+ *   75  room is less than the retransmission has; GOZDRIT_MAX_DATAGRAM is enough for any. Where `min_resend` or a `deadline`
+ *       holds: room is less than GOZDRIT_MAX_DATAGRAM
  */
 int32_t gozdrit_retransmit(gozdrit_sender *sender, gozdrit_sent *sent, uint8_t *out, size_t room);
 
@@ -520,8 +521,9 @@ int32_t gozdrit_retransmit(gozdrit_sender *sender, gozdrit_sent *sent, uint8_t *
 int32_t gozdrit_tail_loss_probe(gozdrit_sender *sender, uint32_t *queued);
 
 /*
- * Tells the time of what is sent and retransmitted from now on, and of feedback, which is 0 before the first call. Only
- * `min_resend`, `deadline` and what follows the path look at it.
+ * Tells the time of what is sent and retransmitted from now on, and of feedback. From the first call on `min_resend` and the
+ * `deadline` hold, and the sender follows the path unless gozdrit_sender_set_adaptive was called; before it whatever a NACK
+ * names is retransmitted.
  */
 int32_t gozdrit_sender_set_time(gozdrit_sender *sender, uint64_t now);
 
@@ -533,7 +535,7 @@ int32_t gozdrit_sender_set_time(gozdrit_sender *sender, uint64_t now);
  * than the stream retransmissions don't fill a queue in vain. It wants gozdrit_sender_set_time before each send, each
  * gozdrit_feedback and each gozdrit_retransmit, in milliseconds of a clock that only goes forward. While a queue is seen
  * gozdrit_retransmit wants GOZDRIT_MAX_DATAGRAM of room, as with `min_resend`.
- * 0: `min_resend` alone holds, as it does before the first call.
+ * 0: `min_resend` alone holds. Before the first call it is 1 from the first gozdrit_sender_set_time on.
  *
  *   53  adaptive is neither 0 nor 1
  */
@@ -545,7 +547,7 @@ int32_t gozdrit_sender_counts(const gozdrit_sender *sender, gozdrit_send_counts 
 /* ---- the receiving end */
 
 /*
- * Fills a configuration: a window of 512 packets, a latency of 200 ms, a reorder delay of 20 ms, 4 NACKs for one packet at
+ * Fills a configuration: a window of 512 packets, a latency of 200 ms, a reorder delay of 20 ms, 16 NACKs for one packet at
  * most, the usual numbers of a jump, and all else 0, also what lies behind the fields that this library knows. So the times
  * of NACKs follow the path, and packets are given up by when they were sent. `size` is sizeof(gozdrit_receiver_config), and
  * becomes the struct's. The session is to be set.

@@ -46,7 +46,7 @@ static void test_defaults(void) {
     CHECK(config.session.media_payload_type == 0 && config.session.rtx_payload_type == 0);
     CHECK(config.size == sizeof config && config.session.any_media_payload_type == 0);
     CHECK(config.window == 512 && config.latency == 200 && config.reorder_delay == 20 && config.nack_interval == 0);
-    CHECK(config.max_nacks == 4 && config.learn_rtx_ssrc == 0 && config.idle_after == 200 && config.adaptive == 0);
+    CHECK(config.max_nacks == 16 && config.learn_rtx_ssrc == 0 && config.idle_after == 200 && config.adaptive == 0);
     CHECK(config.max_dropout == 0 && config.max_misorder == 100);
     CHECK(config.min_sequential_ahead == 2 && config.min_sequential_behind == 256);
     /* the session is still to be set */

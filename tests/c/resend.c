@@ -78,6 +78,7 @@ static void test_no_rule(void) {
     uint8_t out[15];
     config.min_resend = config.deadline = 0;
     ANSWERS(GOZDRIT_OK, gozdrit_sender_new(&config, &sender));
+    ANSWERS(GOZDRIT_OK, gozdrit_sender_set_adaptive(&sender, 0));
     sends(&sender, 5000, 65736);
     for (int i = 0; i < 3; i++) {
         at(&sender, i == 2 ? UINT64_MAX : 0);
@@ -90,7 +91,7 @@ static void test_no_rule(void) {
 
 /* The second packet is sent 40 behind the first, so a path with room for the media alone takes as long for a retransmission, and
  * an answer came 15 behind it. Named 27 after its retransmission the first comes too soon, as that would be taken for 13
- * more, and 38 after it it does not; by min_resend alone, which is 10, both are answered. */
+ * more, and 38 after it it does not; by min_resend alone, which is 10, both are answered. Where nothing is said (2), the path is followed. */
 static void test_waits_for_answers(uint8_t adaptive) {
     gozdrit_sender_config config = CONFIG;
     gozdrit_sender sender = {NULL, 0};
@@ -99,8 +100,10 @@ static void test_waits_for_answers(uint8_t adaptive) {
     config.deadline = 0;
     ANSWERS(GOZDRIT_OK, gozdrit_sender_new(&config, &sender));
     ANSWERS(GOZDRIT_BAD_LIMIT, gozdrit_sender_set_adaptive(&sender, 2));
-    ANSWERS(GOZDRIT_OK, gozdrit_sender_set_adaptive(&sender, 1));
-    ANSWERS(GOZDRIT_OK, gozdrit_sender_set_adaptive(&sender, adaptive));
+    if (adaptive < 2) {
+        ANSWERS(GOZDRIT_OK, gozdrit_sender_set_adaptive(&sender, 1));
+        ANSWERS(GOZDRIT_OK, gozdrit_sender_set_adaptive(&sender, adaptive));
+    }
     sends(&sender, 1005, 65736);
     sends(&sender, 1045, 65737);
     at(&sender, 1060);
@@ -115,14 +118,40 @@ static void test_waits_for_answers(uint8_t adaptive) {
     ANSWERS(GOZDRIT_OK, gozdrit_sender_free(&sender));
 }
 
+/* Until it is told a time it retransmits whatever is named, in whatever room there is; then what it was configured holds. */
+static void test_no_time(void) {
+    static const gozdrit_header plain = {.timestamp = 100};
+    const uint8_t octet = 0xd1;
+    gozdrit_sender sender = {NULL, 0};
+    gozdrit_sent sent = GOZDRIT_SENT_INIT;
+    uint8_t out[GOZDRIT_MAX_DATAGRAM];
+    ANSWERS(GOZDRIT_OK, gozdrit_sender_new(&CONFIG, &sender));
+    ANSWERS(GOZDRIT_OK, gozdrit_send(&sender, &plain, &octet, 1, 0, &sent, out, sizeof out));
+    for (int i = 0; i < 3; i++) {
+        names(&sender, 200, 0);
+        ANSWERS(GOZDRIT_OK, gozdrit_retransmit(&sender, &sent, out, 15));
+        CHECK(sent.length == 15 && sent.sequence == 65736);
+    }
+    names(&sender, 200, 0);
+    at(&sender, 0);
+    ANSWERS(GOZDRIT_NO_ROOM, gozdrit_retransmit(&sender, &sent, out, 15));
+    repeats(&sender, 49, 0);
+    names(&sender, 200, 0);
+    repeats(&sender, 50, 65736);
+    ANSWERS(GOZDRIT_OK, gozdrit_sender_free(&sender));
+}
+
 void test_resend(void) {
     gozdrit_sender sender = {NULL, 0};
     ANSWERS(GOZDRIT_EMPTY_HANDLE, gozdrit_sender_set_time(&sender, 1));
     ANSWERS(GOZDRIT_OK, gozdrit_sender_new(&CONFIG, &sender));
+    ANSWERS(GOZDRIT_OK, gozdrit_sender_set_adaptive(&sender, 0));
     test_too_soon(&sender);
     test_too_late(&sender);
     ANSWERS(GOZDRIT_OK, gozdrit_sender_free(&sender));
     test_no_rule();
     test_waits_for_answers(0);
     test_waits_for_answers(1);
+    test_waits_for_answers(2);
+    test_no_time();
 }

@@ -47,7 +47,7 @@ static void test_defaults(void) {
     CHECK(config.size == sizeof config && config.session.any_media_payload_type == 0);
     CHECK(config.history == 1024 && config.max_retransmissions == 4);
     CHECK(config.first_sequence == 0 && config.rtx_first_sequence == 0);
-    CHECK(config.any_reporter == 0 && config.min_resend == 0 && config.deadline == 0);
+    CHECK(config.any_reporter == 0 && config.min_resend == 10 && config.deadline == 0);
     /* the session is still to be set */
     ANSWERS(GOZDRIT_BAD_PAYLOAD_TYPE, gozdrit_sender_new(&config, &sender));
     config.session = CONFIG.session;

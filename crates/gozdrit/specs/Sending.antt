@@ -1,5 +1,5 @@
 -- What the calls of a sender answer to C, by the endpoint that its handle held before and after, if it held one.
-use Rattle.std.specs.Prelude.{◌≡◌, ◌≢◌, ◌⊎◌, ℕ, ◌<◌, ◌≤◌, ℤ, pos, List, length, Option, Some, None, IsSome, IsSomeAnd, Result, Ok, Err, IsOk}
+use Rattle.std.specs.Prelude.{◌≡◌, ◌≢◌, ◌⊎◌, ◌||◌, ℕ, Bool, true, false, if◌then◌else◌, ◌<◌, ◌≤◌, ℤ, pos, List, length, Option, Some, None, IsSome, IsSomeAnd, Result, Ok, Err, IsOk}
 use Rattle.rtpwire.specs.declared.content.Content.{Content}
 use Rattle.rtpwire.specs.declared.fault.ConfigFault.{ConfigFault}
 use Rattle.rtpwire.specs.declared.fault.ConfigFault.TheVariants.{BadLimit}
@@ -38,12 +38,13 @@ use Rattle.gozdrit.specs.Ends.{Sender}
 use Rattle.gozdrit.specs.Heard.{outcome_fields}
 use Rattle.gozdrit.specs.Packet.{Fits, IsContent}
 
--- an endpoint that sent nothing, and was told no moment; nothing is measured, and its rule is the one that was configured
+-- an endpoint that sent nothing, and was told no moment; nothing is measured, and nobody said whether its rule follows the path
 abbrev pub IsNewSender : SenderFields → Sender → Type 0
 IsNewSender f made =
     (made.endpoint.endpoint.core ≡ new_sending (sender_config f) (empty_past f.history)) × (made.endpoint.endpoint.counts ≡ no_counts)
     × (made.endpoint.rule ≡ rule_of f) × (length made.endpoint.moments ≡ f.history) × (made.endpoint.passed ≡ none_passed) × (made.now ≡ 0)
     × (made.config ≡ sender_config f) × (made.meter ≡ meter_fixed)
+    × (made.is_told ≡ false) × (made.is_set ≡ false)
 
 -- A configuration is refused for the first check that it fails; else there is an endpoint that sent nothing, or no memory
 -- for it.
@@ -54,11 +55,13 @@ CreatesSender f code after =
     × (((code ≡ out_of_memory) × (after ≡ None))
     ⊎ ((code ≡ ok) × IsSomeAnd after (IsNewSender f))))
 
--- neither the rule nor the configuration nor the moment changes
+-- neither the rule nor the configuration nor the moment changes, nor what was said of them
 pub record AreAsTheyWere (before after : Sender) : Type 0 where
   pub rule : after.endpoint.rule ≡ before.endpoint.rule
   pub config : after.config ≡ before.config
   pub now : after.now ≡ before.now
+  pub told : after.is_told ≡ before.is_told
+  pub set : after.is_set ≡ before.is_set
 
 -- what is measured of a send, and of a retransmission
 abbrev pub measured_send : Result (Result (ℕ × ℕ) SendFault) TooShort → (now : ℕ) → ResendMeter → ResendMeter
@@ -71,9 +74,17 @@ measured_resend (Ok (Some sent)) now m = meter_resent m now
 measured_resend (Ok None) now m = m
 measured_resend (Err short) now m = m
 
--- the rule in force: the one that was configured, or one that follows the path
+-- the rule in force, once a moment was told: the one that was configured, or one that follows the path
 abbrev pub rule_now : Sender → ResendRule
-rule_now s = rule_by s.meter.interval s.endpoint.rule s.now
+rule_now s = if s.is_told then rule_by s.meter.interval s.endpoint.rule s.now else always
+
+-- A moment is told. From the first one on the rule follows the path, unless that was set.
+abbrev pub told_at : Sender → (now : ℕ) → Sender
+told_at s now = record s { meter = if s.is_told || s.is_set then s.meter else meter_following; now = now; is_told = true }
+
+-- It is said whether the rule follows the path.
+abbrev pub set_to : (follows : Bool) → Sender → Sender
+set_to follows s = record s { meter = if follows then meter_following else meter_fixed; is_set = true }
 
 -- what the endpoint's own call promises of a send
 pub record SendsAs (before : Sender) (content : Content) (padding : ℕ) (out : List ℕ) (answer : Result (Result (ℕ × ℕ) SendFault) TooShort) (out' : List ℕ) (after : Sender) : Type 0 where
@@ -174,14 +185,14 @@ pub record AnswersRetransmit (old : Option Sender) (sent : SentPacket) (out : Li
 -- `gozdrit_sender_set_time`
 pub record AnswersTime (old : Option Sender) (now : ℕ) (code : ℤ) (new : Option Sender) : Type 0 where
   pub none : old ≡ None → (code ≡ no_end) × (new ≡ old)
-  pub tells : (before : Sender) → old ≡ Some before → (code ≡ ok) × (new ≡ Some (record before { now = now }))
+  pub tells : (before : Sender) → old ≡ Some before → (code ≡ ok) × (new ≡ Some (told_at before now))
 
 -- `gozdrit_sender_set_adaptive`: from now on the path is measured, and the rule follows it, or the rule holds as it was configured
 pub record AnswersAdapt (old : Option Sender) (adaptive : ℕ) (code : ℤ) (new : Option Sender) : Type 0 where
   pub none : old ≡ None → (code ≡ no_end) × (new ≡ old)
   pub bad : IsSome old → 1 < adaptive → (code ≡ pos (config_number BadLimit)) × (new ≡ old)
-  pub fixed : (before : Sender) → old ≡ Some before → adaptive ≡ 0 → (code ≡ ok) × (new ≡ Some (record before { meter = meter_fixed }))
-  pub follows : (before : Sender) → old ≡ Some before → adaptive ≡ 1 → (code ≡ ok) × (new ≡ Some (record before { meter = meter_following }))
+  pub fixed : (before : Sender) → old ≡ Some before → adaptive ≡ 0 → (code ≡ ok) × (new ≡ Some (set_to false before))
+  pub follows : (before : Sender) → old ≡ Some before → adaptive ≡ 1 → (code ≡ ok) × (new ≡ Some (set_to true before))
 
 -- `gozdrit_tail_loss_probe`
 pub record AnswersMarkLast (old : Option Sender) (marked : ℕ) (code : ℤ) (new : Option Sender) (marked' : ℕ) : Type 0 where

@@ -15,7 +15,7 @@ const NO_SESSION: SessionFields = SessionFields {
     any_media_payload_type: 0,
 };
 
-/// It waits 200 ms for a missing packet, and asks for it four times at most, at times that follow the path: first after 20 ms, and
+/// It waits 200 ms for a missing packet, and asks for it sixteen times at most, at times that follow the path: first after 20 ms, and
 /// then each 40 ms, until a round trip was measured. A stream is silent after 200 ms.
 pub(crate) fn receiver_defaults(size: usize) -> ReceiverFields
     ensures { result ≡ usual_receiver size }
@@ -26,7 +26,7 @@ pub(crate) fn receiver_defaults(size: usize) -> ReceiverFields
         latency: 200,
         nack_interval: 0,
         window: 512,
-        max_nacks: 4,
+        max_nacks: 16,
         learn_rtx_ssrc: 0,
         max_dropout: 0,
         max_misorder: Probation::MISORDER,
@@ -38,7 +38,7 @@ pub(crate) fn receiver_defaults(size: usize) -> ReceiverFields
     }
 }
 
-/// It keeps 1024 packets, and retransmits each of them as often as a receiver by the defaults asks for it.
+/// It keeps 1024 packets, and retransmits each of them as often as a receiver by the defaults asks for it, but not twice within 10 ms.
 pub(crate) fn sender_defaults(size: usize) -> SenderFields
     ensures { result ≡ usual_sender size }
 {
@@ -48,9 +48,9 @@ pub(crate) fn sender_defaults(size: usize) -> SenderFields
         history: 1024,
         first_sequence: 0,
         rtx_first_sequence: 0,
-        max_retransmissions: 4,
+        max_retransmissions: 16,
         any_reporter: 0,
-        min_resend: 0,
+        min_resend: 10,
         deadline: 0,
     }
 }

@@ -7,7 +7,9 @@ ghost use Rattle.gozdrit.specs.declared.config.ReceiverFields.{ReceiverFields};
 ghost use Rattle.gozdrit.specs.Config.{streams_of, sender_config, receiver_config, probation_of, rule_of};
 ghost use Rattle.gozdrit.specs.Ends.{Receiver, Sender};
 ghost use Rattle.gozdrit.specs.Following.{AsksNext, leaves_twice};
-ghost use Rattle.gozdrit.specs.Sending.{IsNewSender, rule_now};
+ghost use Rattle.gozdrit.specs.Sending.{IsNewSender, rule_now, set_to, told_at};
+ghost use Rattle.endpoint.specs.ResendMetering.{meter_fixed, meter_following};
+ghost use Rattle.endpoint.specs.Resending.{always};
 ghost use Rattle.gozdrit.specs.Receiving.{new_receiver};
 ghost use Rattle.gozdrit.specs.Sizes.{SaysKnown};
 ghost use Rattle.gozdrit.specs.declared.sizes.TheConstants.{RECEIVER_CONFIG, SENDER_CONFIG};
@@ -45,8 +47,13 @@ pub fn fields_say_configurations()
 pub fn new_ends_are_as_configured()
     ensures sender { (f : SenderFields) (s : Sender) → IsNewSender f s →
         (s.endpoint.endpoint.core.config ≡ sender_config f) × (s.endpoint.endpoint.core.past.capacity ≡ f.history) × (s.endpoint.rule ≡ rule_of f) }
-    // Until it is told to follow the path, its rule is the one that was configured.
-    ensures rule_now { (f : SenderFields) (s : Sender) → IsNewSender f s → rule_now s ≡ rule_of f }
+    // Until it is told a moment each retransmission goes. Then its rule is the one that was configured, until something was measured; it
+    // follows the path, or holds, as is said, and follows it where nothing is.
+    ensures untold { (f : SenderFields) (s : Sender) → IsNewSender f s → rule_now s ≡ always }
+    ensures rule_now { (f : SenderFields) (s : Sender) (now : ℕ) → IsNewSender f s → rule_now (told_at s now) ≡ rule_of f }
+    ensures told_follows { (f : SenderFields) (s : Sender) (now : ℕ) → IsNewSender f s → (told_at s now).meter ≡ meter_following }
+    ensures set_holds { (s : Sender) (now : ℕ) → (told_at (set_to false s) now).meter ≡ meter_fixed }
+    ensures set_follows { (s : Sender) (now : ℕ) → (told_at (set_to true s) now).meter ≡ meter_following }
     ensures receiver { (f : ReceiverFields) → let r = (new_receiver f).endpoint in
         (r.endpoint.core.config ≡ receiver_config f) × (r.endpoint.core.span.capacity ≡ f.window)
         × (r.endpoint.spare.config ≡ receiver_config f) × (r.endpoint.spare.span.capacity ≡ f.window) × (r.endpoint.probation ≡ probation_of f)

@@ -3,7 +3,7 @@ ghost use Rattle.std.specs.Prelude.{◌≡◌, ℕ, List, ◌↔◌, IsTrue};
 ghost use Rattle.gozdrit.specs.declared.sizes.TheConstants.{SENDER_CONFIG};
 ghost use Rattle.gozdrit.specs.Sizes.{SaysKnown};
 ghost use Rattle.gozdrit.specs.Freeing.{AnswersFree};
-ghost use Rattle.gozdrit.specs.Sending.{AnswersAdapt, AnswersSenderNew, AnswersSend, AnswersFeedback, AnswersRetransmit, AnswersMarkLast, AnswersTime, RetransmitsTo, measured_resend, measured_send};
+ghost use Rattle.gozdrit.specs.Sending.{AnswersAdapt, AnswersSenderNew, AnswersSend, AnswersFeedback, AnswersRetransmit, AnswersMarkLast, AnswersTime, RetransmitsTo, measured_resend, measured_send, rule_now, set_to, told_at};
 
 use crate::answers::SentPacket;
 use crate::code::{BAD_SIZE, HELD, NO_END, NO_ROOM, OK, OUT_OF_MEMORY, TOO_LARGE};
@@ -19,13 +19,53 @@ use sender::{SendFault, SenderConfig};
 use std::alloc::Global;
 use stores::RingHistory;
 
-/// A sender, how it was configured, what it measures of the path, where its rule follows that, and the moment that it was told last.
+/// A sender, how it was configured, what it measures of the path, where its rule follows that, and the moment that it was told last. Until it
+/// was told one, each retransmission goes; from then on its rule follows the path, unless that was set otherwise.
 #[derive(Drop)]
 pub struct TimedSender {
     pub(crate) endpoint: TimelyEndpoint<RingHistory>,
     pub(crate) config: SenderConfig,
     pub(crate) meter: ResendMeter,
     pub(crate) now: u64,
+    pub(crate) is_told: bool,
+    /// Whether it was said if the rule follows.
+    pub(crate) is_set: bool,
+}
+
+impl TimedSender {
+    /// The rule in force.
+    fn rule(&self) -> ResendRule
+        ensures { result ≡ rule_now self.entry.now }
+    {
+        if self.is_told {
+            self.meter.rule(self.endpoint.rule(), self.now)
+        } else {
+            ResendRule::ALWAYS
+        }
+    }
+
+    /// Tells the moment.
+    fn tell(&mut self, now: u64)
+        ensures { self.new ≡ told_at self.old now }
+    {
+        if !self.is_told && !self.is_set {
+            self.meter = ResendMeter::following();
+        }
+        self.is_told = true;
+        self.now = now;
+    }
+
+    /// Has the rule follow the path from now on, or hold as it was configured.
+    fn set(&mut self, follows: bool)
+        ensures { self.new ≡ set_to follows self.old }
+    {
+        self.meter = if follows {
+            ResendMeter::following()
+        } else {
+            ResendMeter::fixed()
+        };
+        self.is_set = true;
+    }
 }
 
 /// What C holds of a sender.
@@ -60,6 +100,8 @@ pub(crate) fn sender_new(
         config: made,
         meter: ResendMeter::fixed(),
         now: 0,
+        is_told: false,
+        is_set: false,
     };
     let Ok(inside) = Box::new(alloc, timed) else {
         return OUT_OF_MEMORY;
@@ -145,7 +187,7 @@ fn retransmit_to(sender: &mut TimedSender, sent: &mut SentPacket, out: &mut [u8]
     ensures { RetransmitsTo sender.old sent.old out.old result sender.new sent.new out.new }
 {
     let now = sender.now;
-    let rule = sender.meter.rule(sender.endpoint.rule(), now);
+    let rule = sender.rule();
     if !rule.is_always() && out.len() < MAX_DATAGRAM {
         return NO_ROOM;
     }
@@ -195,11 +237,7 @@ pub(crate) fn adapt(sender: &mut SenderHandle, adaptive: u8) -> i32
     if adaptive > 1 {
         return i32::from(ConfigFault::BadLimit.number());
     }
-    sender.lend().meter = if adaptive == 0 {
-        ResendMeter::fixed()
-    } else {
-        ResendMeter::following()
-    };
+    sender.lend().set(adaptive == 1);
     OK
 }
 
@@ -209,7 +247,7 @@ pub(crate) fn tell_time(sender: &mut SenderHandle, now: u64) -> i32
     if !sender.is_held() {
         return NO_END;
     }
-    sender.lend().now = now;
+    sender.lend().tell(now);
     OK
 }
 

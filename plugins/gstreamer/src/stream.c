@@ -67,6 +67,7 @@ static gint32 begin(send_stream *stream, const send_settings *settings, guint16 
     config.first_sequence = first;
     gint32 number = gozdrit_sender_new(&config, &stream->end);
     if (number != GOZDRIT_OK) return number;
+    gozdrit_sender_set_adaptive(&stream->end, 0); /* rtpsession holds NACKs back for as long as it sees fit */
     stream->receiver_ssrc = config.session.receiver_ssrc;
     stream->has_rule = settings->min_interval > 0 || settings->max_time > 0;
     stream->max_time = settings->max_time;

@@ -146,7 +146,7 @@ static void call_defaults(void) {
     same(200, config->latency, "latency");
     same(20, config->reorder_delay, "reorder_delay");
     same(0, config->nack_interval, "nack_interval");
-    same(4, config->max_nacks, "max_nacks");
+    same(16, config->max_nacks, "max_nacks");
     same(0, config->max_dropout, "max_dropout, which is the usual number");
     holds(config->max_misorder == 0 || config->max_misorder == 100, "max_misorder is the usual number");
     holds(config->min_sequential_ahead == 0 || config->min_sequential_ahead == 2,

@@ -94,6 +94,7 @@ static void call_new(struct sender *it) {
         it->first = it->next = 65536 + (uint64_t)config.first_sequence;
         it->rtx_next = config.rtx_first_sequence;
         it->now = 0;
+        it->is_told = it->is_set = false;
         follow(it, false);
         memset(&it->counts, 0, sizeof it->counts);
     }
@@ -130,9 +131,9 @@ static void call_defaults(void) {
     check_defaults(answer, sizeof *config, size);
     if (answer != GOZDRIT_OK) return;
     same(1024, config->history, "history");
-    same(4, config->max_retransmissions, "max_retransmissions");
-    holds(config->first_sequence == 0 && config->rtx_first_sequence == 0 && config->any_reporter == 0
-              && config->min_resend == 0 && config->deadline == 0,
+    same(16, config->max_retransmissions, "max_retransmissions");
+    same(10, config->min_resend, "min_resend");
+    holds(config->first_sequence == 0 && config->rtx_first_sequence == 0 && config->any_reporter == 0 && config->deadline == 0,
           "all else is 0");
     check_no_session(&config->session);
 }
@@ -244,16 +245,17 @@ static uint64_t next_queued(struct sender *it) {
     return sequence;
 }
 
-static bool has_rule(const struct sender *it) { return min_resend(it) > 0 || it->config.deadline > 0; }
+/* Until it is told a time, there is none. */
+static bool has_rule(const struct sender *it) { return it->is_told && (min_resend(it) > 0 || it->config.deadline > 0); }
 
 static uint64_t since(const struct sender *it, uint64_t moment) { return it->now > moment ? it->now - moment : 0; }
 
 static bool is_expired(const struct sender *it, const struct kept *kept) {
-    return it->config.deadline > 0 && since(it, kept->sent_at) > it->config.deadline;
+    return it->is_told && it->config.deadline > 0 && since(it, kept->sent_at) > it->config.deadline;
 }
 
 static bool is_early(const struct sender *it, const struct kept *kept) {
-    return kept->was_resent && since(it, kept->resent_at) < min_resend(it);
+    return it->is_told && kept->was_resent && since(it, kept->resent_at) < min_resend(it);
 }
 
 /* The least sequence that is to be retransmitted and fits the time, or the next one where there is none. */
@@ -326,7 +328,11 @@ static void call_set_time(struct sender *it) {
     begin_call(CALL_sender_set_time);
     answer = gozdrit_sender_set_time(lend(it, true), now);
     end_call(unless_none(it, GOZDRIT_OK), answer);
-    if (answer == GOZDRIT_OK) it->now = now;
+    if (answer == GOZDRIT_OK) {
+        if (!it->is_told && !it->is_set) follow(it, true);
+        it->is_told = true;
+        it->now = now;
+    }
     check_handle(it, answer);
 }
 
@@ -336,7 +342,10 @@ static void call_set_adaptive(struct sender *it) {
     begin_call(CALL_sender_set_adaptive);
     answer = gozdrit_sender_set_adaptive(lend(it, true), adaptive);
     end_call(unless_none(it, adaptive > 1 ? GOZDRIT_BAD_LIMIT : GOZDRIT_OK), answer);
-    if (answer == GOZDRIT_OK) follow(it, adaptive == 1);
+    if (answer == GOZDRIT_OK) {
+        follow(it, adaptive == 1);
+        it->is_set = true;
+    }
     check_handle(it, answer);
 }
 

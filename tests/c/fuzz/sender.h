@@ -33,6 +33,7 @@ struct sender {
     uint64_t first, next; /* the first packet's sequence, and the next one's */
     uint16_t rtx_next;
     uint64_t now;
+    bool is_told, is_set; /* a time was told, and it was said whether it follows the path */
     uint64_t fed;
     struct path path;
     struct kept *history; /* of GOZDRIT_MAX_STORE packets, each at its sequence modulo that */
