@@ -104,7 +104,8 @@ static void test_configs(void) {
         {{SIZE, {1, 2, 3, 96, 97, 0}, 0, 1, 0, 1, 0, JUMPS, 0, 0, 0}, GOZDRIT_BAD_LIMIT},
         {{SIZE, {1, 2, 3, 96, 97, 0}, 0, 1, GOZDRIT_MAX_STORE + 1, 1, 0, JUMPS, 0, 0, 0}, GOZDRIT_BAD_LIMIT},
         {{SIZE, {1, 2, 3, 96, 97, 0}, 0, 1, UINT32_MAX, 1, 0, JUMPS, 0, 0, 0}, GOZDRIT_BAD_LIMIT},
-        {{SIZE, {1, 2, 3, 96, 97, 0}, 0, 0, 4, 1, 0, JUMPS, 0, 0, 0}, GOZDRIT_BAD_LIMIT},
+        {{SIZE, {1, 2, 3, 96, 97, 0}, 0, 0, 4, 1, 0, JUMPS, 0, 0, 0}, GOZDRIT_OK}, /* it follows the path */
+        {{SIZE, {1, 2, 3, 96, 97, 0}, 0, 0, 4, 1, 0, JUMPS, 0, 0, 3}, GOZDRIT_BAD_LIMIT},
         {{SIZE, {1, 2, 3, 96, 97, 0}, 0, 1, 4, 0, 1, JUMPS, 0, 0, 0}, GOZDRIT_BAD_LIMIT},
         {{SIZE, {1, 2, 3, 96, 97, 0}, 0, 1, 4, 1, 0, JUMPS, 0, 1, 2}, GOZDRIT_OK},
         {{SIZE, {1, 2, 3, 96, 97, 0}, 0, 1, 4, 1, 0, JUMPS, 0, 1, 3}, GOZDRIT_BAD_LIMIT},

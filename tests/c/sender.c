@@ -45,7 +45,7 @@ static void test_defaults(void) {
     CHECK(config.session.media_ssrc == 0 && config.session.rtx_ssrc == 0 && config.session.receiver_ssrc == 0);
     CHECK(config.session.media_payload_type == 0 && config.session.rtx_payload_type == 0);
     CHECK(config.size == sizeof config && config.session.any_media_payload_type == 0);
-    CHECK(config.history == 1024 && config.max_retransmissions == 4);
+    CHECK(config.history == 1024 && config.max_retransmissions == 16);
     CHECK(config.first_sequence == 0 && config.rtx_first_sequence == 0);
     CHECK(config.any_reporter == 0 && config.min_resend == 10 && config.deadline == 0);
     /* the session is still to be set */

@@ -1,19 +1,22 @@
 #!/usr/bin/env python3
-"""What comes in time over a path that loses, by relays, by no relays, and by librist and SRT where they are installed (ristsender and
-ristreceiver of Debian's rist-tools, main profile; srt-live-transmit of srt-tools).
+"""What comes in time over a path that loses, by relays, by a program that calls the library for C as it is by default (header.c), by no relays,
+and by librist and SRT where they are installed (ristsender and ristreceiver of Debian's rist-tools, main profile; srt-live-transmit of
+srt-tools). The library is the archive that tools/archive or `rt lib` left.
 
     links.py PROGRAM
 
 A stream of 208 packets a second (2 megabits, of 1200 octets) goes over a path with a round trip of 50 milliseconds and a latency of 200
 behind that, or as a row says. A packet is in time that comes no later than 50 milliseconds after that, and than the queue of the path. It
-fails where less comes in time than by no relays, than by librist or SRT (less two in a thousand, for the draws), or than a floor of its
-own."""
+fails where less comes in time by relays or in C than by no relays, than by librist or SRT (less two in a thousand, for the draws), or than a
+floor of its own."""
 import random
 import shutil
 import struct
 import subprocess
+import tempfile
 import threading
 import time
+from pathlib import Path as File
 
 from base import on_time, part
 from net import App, End, Path, free_port, udp
@@ -24,6 +27,9 @@ MANY, OUT = RATE * SECONDS, (4.0, 5.0)  # packets, and when an outage is, in sec
 RIST = [shutil.which("ristsender"), shutil.which("ristreceiver")]
 SRT = shutil.which("srt-live-transmit")
 QUEUE = 0.15  # seconds that what passes forth may wait at a link
+ROOT = File(__file__).resolve().parents[2]
+LIBRARY = ROOT / "crates/gozdrit/out/libgozdrit.a"
+OURS = "relays", "C"
 
 
 class Rule:
@@ -95,6 +101,21 @@ def by_nothing(stage, rule, latency):
     return in_time(sent, came, latency, rule)
 
 
+def by_c(stage, rule, latency):
+    """How much comes in time by a program in C."""
+    player, near, far = End(stage), free_port(), free_port()
+    path = Path(stage, ("127.0.0.1", far), rule)
+    runs = [subprocess.Popen([HEADER, "receive", str(far), str(player.at[1]), str(round(latency * 1000))]),
+            subprocess.Popen([HEADER, "send", str(near), str(path.at[1])])]
+    time.sleep(1)
+    app, contents = App(stage, ("127.0.0.1", near), number=0), plain(MANY, 1200)
+    sent, came = streamed(lambda number: app.send(contents[number]), player, lambda octets: struct.unpack(">I", octets[12:16])[0])
+    for one in runs:
+        one.kill()
+        one.wait()
+    return in_time(sent, came, latency, rule)
+
+
 def by_librist(stage, rule, latency):
     """How much comes in time by librist."""
     player, near, far = End(stage), free_port(), free_port()
@@ -137,7 +158,7 @@ def by_srt(stage, rule, latency):
 
 def beside(stage, seed, latency, **rule):
     """How much comes in time by each of them, over paths of their own with the same draws."""
-    ways = {"relays": by_relays, "nothing": by_nothing, **({"librist": by_librist} if all(RIST) else {}), **({"SRT": by_srt} if SRT else {})}
+    ways = {"relays": by_relays, **({"C": by_c} if HEADER else {}), "nothing": by_nothing, **({"librist": by_librist} if all(RIST) else {}), **({"SRT": by_srt} if SRT else {})}
     came = dict.fromkeys(ways, 0)
 
     def one(way):
@@ -153,9 +174,9 @@ def beside(stage, seed, latency, **rule):
 
 def faults(came, floor):
     """What is wrong with a row."""
-    ours = came["relays"]
-    return [what for what, bad in ((f"{ours} are below {floor}", ours < floor), ("no better than nothing", ours <= came["nothing"]),
-                                   *((f"worse than {way}", ours < came.get(way, 0) - MANY * 0.002) for way in ("librist", "SRT"))) if bad]
+    return [f"{who}: {what}" for who in OURS if who in came for what, bad in (
+        (f"below {floor}", came[who] < floor), ("no better than nothing", came[who] <= came["nothing"]),
+        *((f"worse than {way}", came[who] < came.get(way, 0) - MANY * 0.002) for way in ("librist", "SRT"))) if bad]
 
 
 def row(checks, stage, name, floor, latency=LATENCY, **rule):
@@ -163,7 +184,7 @@ def row(checks, stage, name, floor, latency=LATENCY, **rule):
     came = beside(stage, 7, latency, **rule)
     print(f"{name}: in time of {MANY}: " + ", ".join(f"{way} {many}" for way, many in came.items()), flush=True)
     checks.same(faults(came, floor * MANY), [], f"{name}: {came}")
-    for way, is_there in (("librist", all(RIST)), ("SRT", SRT)):
+    for way, is_there in (("librist", all(RIST)), ("SRT", SRT), ("the library for C", HEADER)):
         if not is_there:
             print(f"{name}: {way} is not installed: not beside it", flush=True)
 
@@ -195,5 +216,17 @@ def thin(checks, stage):
     row(checks, stage, "a thin link, and an outage of 0.3 s", 0.98, latency=1.0, link=1.1, out=(4.0, 4.3))
 
 
+def built(room):
+    """The program in C, or None without the library."""
+    kit = File(subprocess.run(["rt", "doc"], stdout=subprocess.PIPE, text=True, check=True).stdout.strip()).parent
+    if not LIBRARY.is_file():
+        return None
+    subprocess.run(["cc", "-std=c99", "-O2", "-I", ROOT / "include", File(__file__).parent / "header.c", LIBRARY, kit / "c/liblibc_c.a", "-o", f"{room}/header"],
+                   check=True)
+    return f"{room}/header"
+
+
 if __name__ == "__main__":
+    ROOM = tempfile.TemporaryDirectory()  # goes with the program
+    HEADER = built(ROOM.name)
     part(one_in_ten, two_in_ten, bursts, outage, thin, beside=False)
