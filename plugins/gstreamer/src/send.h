@@ -1,5 +1,5 @@
 /* gozdritsend, the sending element. send.c is the element: its pads, properties and states. sending.c is what it does
- * with packets and feedback, stream.c one stream's numbers and history, and silence.c what it does where no packet comes. */
+ * with packets, answering.c with feedback, stream.c one stream's numbers and history, and silence.c what it does where no packet comes. */
 #ifndef GOZDRIT_GST_SEND_H
 #define GOZDRIT_GST_SEND_H
 
