@@ -4,11 +4,15 @@
 
 /* ---- retransmissions */
 
-/* The next retransmission of any stream, or NULL. The lock is held. */
-static GstBuffer *next_retransmission(GstGozdritSend *self) {
+/* The next retransmission of any stream, or NULL, and whether it is the first one that has to be told of. The lock is held. */
+static GstBuffer *next_retransmission(GstGozdritSend *self, gboolean *is_unfit) {
     GstBuffer *out = NULL;
+    rid_ids ids = extensions_ids(self);
     GstClockTime now = self->streams->len > 0 ? element_time_now(&self->time) : 0;
-    for (guint i = 0; i < self->streams->len && !out; i++) out = stream_retransmission(g_ptr_array_index(self->streams, i), now / MILLISECOND);
+    for (guint i = 0; i < self->streams->len && !out; i++)
+        out = stream_retransmission(g_ptr_array_index(self->streams, i), now / MILLISECOND, &ids);
+    *is_unfit = ids.is_unfit && !self->unfit_told;
+    self->unfit_told |= ids.is_unfit;
     return out;
 }
 
@@ -16,10 +20,12 @@ static GstBuffer *next_retransmission(GstGozdritSend *self) {
  * not looked at. They have no time of their own, and a sink that waits for times sends them at once. */
 void sending_retransmissions(GstGozdritSend *self) {
     for (;;) {
+        gboolean is_unfit;
         g_mutex_lock(&self->lock);
-        GstBuffer *out = next_retransmission(self);
+        GstBuffer *out = next_retransmission(self, &is_unfit);
         g_mutex_unlock(&self->lock);
         if (!out) return;
+        if (is_unfit) extensions_tell_unfit(self);
         gst_pad_push(self->src, out);
     }
 }

@@ -198,7 +198,7 @@ static void begin(GstGozdritSend *self) {
     self->flushing = self->stopped = FALSE;
     self->passed = self->strays = self->media = self->reports = self->refused = self->key_requests = 0;
     self->past = (gozdrit_send_counts)GOZDRIT_SEND_COUNTS_INIT;
-    self->requested = self->rtx_taken = FALSE;
+    self->requested = self->rtx_taken = self->unfit_told = FALSE;
     self->rtx_ssrc = self->settings.rtx_ssrc;
     if (self->rtx_ssrc == SSRC_UNSET) self->rtx_ssrc = draw_ssrc(self->settings.ssrc, self->settings.receiver_ssrc);
     self->rtx_first = (guint16)g_random_int();
@@ -311,6 +311,8 @@ static void finalize(GObject *object) {
     type_map_set(&self->types, NULL);
     type_map_set(&self->rates, NULL);
     g_clear_pointer(&self->ssrcs, gst_structure_free);
+    gst_clear_object(&self->stream_id);
+    gst_clear_object(&self->repaired_id);
     element_time_end(&self->time);
     g_cond_clear(&self->silence_cond);
     g_mutex_clear(&self->lock);
@@ -373,6 +375,7 @@ static void gst_gozdrit_send_class_init(GstGozdritSendClass *class) {
     element->change_state = change_state;
     element->set_clock = set_clock;
     install_properties(object);
+    extensions_install(G_TYPE_FROM_CLASS(class));
     gst_element_class_add_static_pad_template(element, &sink_template);
     gst_element_class_add_static_pad_template(element, &feedback_template);
     gst_element_class_add_static_pad_template(element, &src_template);

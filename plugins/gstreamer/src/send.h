@@ -1,5 +1,6 @@
 /* gozdritsend, the sending element. send.c is the element: its pads, properties and states. sending.c is what it does
- * with packets, answering.c with feedback, stream.c one stream's numbers and history, and silence.c what it does where no packet comes. */
+ * with packets, answering.c with feedback, extensions.c knows header extensions, stream.c is one stream's numbers and history, and silence.c
+ * what it does where no packet comes. */
 #ifndef GOZDRIT_GST_SEND_H
 #define GOZDRIT_GST_SEND_H
 
@@ -33,6 +34,8 @@ struct _GstGozdritSend {
     guint64 passed;     /* packets that were too long to be kept, and went out */
     guint64 strays;     /* buffers that were no RTP packets */
     guint64 key_requests; /* that went upstream */
+    GstRTPHeaderExtension *stream_id, *repaired_id; /* RtpStreamId and RepairedRtpStreamId, or NULL */
+    gboolean unfit_told; /* a retransmission could not have the latter */
 
     element_time time;
     gboolean requested; /* an event from downstream wants a retransmission, which the task sends */
@@ -75,6 +78,14 @@ GstStructure *sending_counts(GstGozdritSend *self);
 
 /* Ends all streams, and keeps their counts. The lock is held. */
 void sending_end(GstGozdritSend *self);
+
+/* ---- extensions.c */
+
+/* The signals of the element's class. */
+void extensions_install(GType type);
+/* The ids of what they told. The lock is held. */
+rid_ids extensions_ids(const GstGozdritSend *self);
+void extensions_tell_unfit(GstGozdritSend *self);
 
 /* ---- silence.c. The lock is held, but for the pad's activation. */
 

@@ -202,7 +202,7 @@ gint32 stream_take(send_stream *stream, const send_settings *settings, const str
 
 /* A retransmission of a packet that the library has not (RFC 4588, section 4): its header without padding, its number, and its payload,
  * which is not copied. The library's own one, of a blank, is not used. */
-static GstBuffer *repair_late(GstBuffer *packet, guint16 number) {
+static GstBuffer *repair_late(GstBuffer *packet, guint16 number, rid_ids *ids) {
     GstRTPBuffer rtp = GST_RTP_BUFFER_INIT;
     GstMapInfo map;
     if (!gst_rtp_buffer_map(packet, GST_MAP_READ, &rtp)) return NULL;
@@ -212,7 +212,9 @@ static GstBuffer *repair_late(GstBuffer *packet, guint16 number) {
     gst_buffer_extract(packet, 0, map.data, head);
     map.data[0] &= (guint8)~32; /* no padding */
     GST_WRITE_UINT16_BE(map.data + head, number);
+    gsize length = rids_rename(ids, map.data, map.size);
     gst_buffer_unmap(out, &map);
+    gst_buffer_set_size(out, (gssize)length);
     out = gst_buffer_append(out, gst_rtp_buffer_get_payload_buffer(&rtp));
     gst_rtp_buffer_unmap(&rtp);
     return out;
@@ -224,15 +226,16 @@ static gboolean is_past(const send_stream *stream, const place *at) {
     return stream->max_time > 0 && stream->clock_rate > 0 && age * 1000 > (gint64)stream->max_time * stream->clock_rate;
 }
 
-/* What the place of a retransmission makes of it: the octets as they are, another packet, or NULL where it was blank or its time is over. */
-static GstBuffer *repair_of(send_stream *stream, const place *at, const guint8 *octets, gsize length) {
+/* What the place of a retransmission makes of it: the library's octets, another packet, or NULL where it was blank or its time is over. */
+static GstBuffer *repair_of(send_stream *stream, const place *at, guint8 *octets, gsize length, rid_ids *ids) {
     gboolean nothing = at->blank && !at->late, past = !nothing && is_past(stream, at);
     if (nothing || past) {
         stream->made.retransmissions--;
         (*(nothing ? &stream->made.not_in_history : &stream->made.expired))++;
         return NULL;
     }
-    return at->late ? repair_late(at->late, (guint16)at->sequence) : gst_buffer_new_memdup(octets, length);
+    if (at->late) return repair_late(at->late, (guint16)at->sequence, ids);
+    return gst_buffer_new_memdup(octets, rids_rename(ids, octets, length));
 }
 
 /* Writes what the stream of retransmissions has of its own into a header: its type, number and SSRC. */
@@ -245,7 +248,7 @@ static void write_own(send_stream *stream, GstBuffer *out, guint8 type) {
     gst_buffer_unmap(out, &map);
 }
 
-GstBuffer *stream_retransmission(send_stream *stream, guint64 now) {
+GstBuffer *stream_retransmission(send_stream *stream, guint64 now, rid_ids *ids) {
     guint8 octets[GOZDRIT_MAX_DATAGRAM];
     GstBuffer *out = NULL;
     tell_time(stream, now);
@@ -254,7 +257,7 @@ GstBuffer *stream_retransmission(send_stream *stream, guint64 now) {
         gint32 number = gozdrit_retransmit(&stream->end, &sent, octets, sizeof octets);
         if (number != GOZDRIT_OK || sent.length == 0) return NULL;
         const place *at = place_of(stream, sent.sequence);
-        out = repair_of(stream, at, octets, sent.length);
+        out = repair_of(stream, at, octets, sent.length, ids);
         if (out) write_own(stream, out, at->rtx_type);
     }
     if (out) GST_BUFFER_FLAG_SET(out, GST_RTP_BUFFER_FLAG_RETRANSMISSION);

@@ -7,6 +7,7 @@
 #define GOZDRIT_GST_STREAM_H
 
 #include "common.h"
+#include "rids.h"
 
 #include <gst/rtp/rtp.h>
 
@@ -89,8 +90,8 @@ guint16 stream_number(send_stream *stream, guint32 ssrc, guint16 own, gint first
 /* A packet goes out: it is kept, or its number is left blank. An answer of the library that is not GOZDRIT_OK is one that has to be told. */
 gint32 stream_take(send_stream *stream, const send_settings *settings, const stream_packet *packet, guint64 now);
 
-/* The next retransmission, or NULL. */
-GstBuffer *stream_retransmission(send_stream *stream, guint64 now);
+/* The next retransmission, or NULL. It says RepairedRtpStreamId, where there is an id of it. */
+GstBuffer *stream_retransmission(send_stream *stream, guint64 now, rid_ids *ids);
 
 /* Ends the history, and keeps its counts. */
 void stream_end(send_stream *stream);
