@@ -379,7 +379,7 @@ static void gst_gozdrit_send_class_init(GstGozdritSendClass *class) {
     gst_element_class_add_static_pad_template(element, &sink_template);
     gst_element_class_add_static_pad_template(element, &feedback_template);
     gst_element_class_add_static_pad_template(element, &src_template);
-    gst_element_class_set_static_metadata(element, "RTP sender that retransmits", "Codec/Network/RTP",
+    gst_element_class_set_static_metadata(element, "RTP sender that retransmits", "Filter/Network/RTP",
                                           "Sends RTP packets, and again those that generic NACKs name (RFC 4585, RFC 4588)",
                                           "Gozdrit maintainers");
 }

@@ -226,7 +226,55 @@ static void test_far_side(void) {
     drop_chain(&s, elements);
 }
 
+/* Whether a property of one element is the other's too. */
+static gboolean has_property(GstElement *element, const GParamSpec *theirs) {
+    const GParamSpec *ours = g_object_class_find_property(G_OBJECT_GET_CLASS(element), theirs->name);
+    return ours && ours->value_type == theirs->value_type && (ours->flags & G_PARAM_READWRITE) == (theirs->flags & G_PARAM_READWRITE);
+}
+
+static gboolean has_signal(GstElement *element, guint id) {
+    GSignalQuery ours, theirs;
+    g_signal_query(id, &theirs);
+    g_signal_query(g_signal_lookup(theirs.signal_name, G_OBJECT_TYPE(element)), &ours);
+    gboolean is = ours.signal_id != 0 && ours.signal_flags == theirs.signal_flags && ours.return_type == theirs.return_type;
+    is = is && ours.n_params == theirs.n_params;
+    for (guint i = 0; is && i < ours.n_params; i++) is = ours.param_types[i] == theirs.param_types[i];
+    return is;
+}
+
+/* All properties and signals of rtprtxsend are this one's too, with the same types. */
+static void test_face(void) {
+    GstElement *ours = gst_element_factory_make("gozdritsend", NULL), *theirs = gst_element_factory_make("rtprtxsend", NULL);
+    guint properties = 0, signals = 0;
+    if (theirs) {
+        GParamSpec **specs = g_object_class_list_properties(G_OBJECT_GET_CLASS(theirs), &properties);
+        guint *ids = g_signal_list_ids(G_OBJECT_TYPE(theirs), &signals);
+        for (guint i = 0; i < properties; i++)
+            if (!CHECK(has_property(ours, specs[i]))) g_print("%s\n", specs[i]->name);
+        for (guint i = 0; i < signals; i++)
+            if (!CHECK(has_signal(ours, ids[i]))) g_print("%s\n", g_signal_name(ids[i]));
+        CHECK(properties >= 9 && signals == 2);
+        g_free(specs);
+        g_free(ids);
+        gst_object_unref(theirs);
+    }
+    gst_object_unref(ours);
+}
+
+/* Who builds pipelines by themselves take it for nothing that they look for. */
+static void test_factory(void) {
+    GstElementFactory *factory = gst_element_factory_find("gozdritsend");
+    CHECK(gst_plugin_feature_get_rank(GST_PLUGIN_FEATURE(factory)) == GST_RANK_NONE);
+    CHECK(g_str_equal(gst_element_factory_get_metadata(factory, GST_ELEMENT_METADATA_KLASS), "Filter/Network/RTP"));
+    CHECK(!gst_element_factory_list_is_type(factory, GST_ELEMENT_FACTORY_TYPE_DECODABLE | GST_ELEMENT_FACTORY_TYPE_ENCODER |
+                                                         GST_ELEMENT_FACTORY_TYPE_MUXER | GST_ELEMENT_FACTORY_TYPE_PAYLOADER |
+                                                         GST_ELEMENT_FACTORY_TYPE_SRC | GST_ELEMENT_FACTORY_TYPE_SINK));
+    gst_object_unref(factory);
+}
+
 void test_drop_in(void) {
+    test_face();
+    test_factory();
     test_types();
     test_ssrcs();
     test_rates();
