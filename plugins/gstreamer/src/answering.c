@@ -32,17 +32,28 @@ void sending_retransmissions(GstGozdritSend *self) {
 
 /* ---- feedback */
 
+/* Hands a stream feedback, and says in the log what becomes of what its NACKs name. */
+static gboolean hear_one(GstGozdritSend *self, send_stream *stream, const guint8 *octets, gsize length, gozdrit_outcome *outcome) {
+    if (gozdrit_feedback(&stream->end, octets, length, outcome) != GOZDRIT_OK) return FALSE;
+    if (outcome->kind == GOZDRIT_FEEDBACK)
+        GST_LOG_OBJECT(self, "SSRC %08x: %u numbers are asked for, %u more are to be retransmitted, %u are not in the history, %u were as often "
+                       "as they may be", stream->media_ssrc, outcome->nacked, outcome->queued, outcome->not_in_history, outcome->exhausted);
+    return TRUE;
+}
+
 /* Hands a datagram to each stream, which hears its own NACKs in it, and counts what it was. Gives how many packets are to be retransmitted. */
 static guint32 hear(GstGozdritSend *self, const guint8 *octets, gsize length) {
-    guint32 queued = 0;
+    guint32 queued = 0, refusal = GOZDRIT_OK;
     gint kind = -1; /* the kinds' numbers rise by how much is heard */
     for (guint i = 0; i < self->streams->len; i++) {
         send_stream *stream = g_ptr_array_index(self->streams, i);
         gozdrit_outcome outcome = GOZDRIT_OUTCOME_INIT;
-        if (gozdrit_feedback(&stream->end, octets, length, &outcome) != GOZDRIT_OK) continue;
+        if (!hear_one(self, stream, octets, length, &outcome)) continue;
         kind = MAX(kind, outcome.kind);
+        refusal = outcome.refusal;
         queued += outcome.queued;
     }
+    if (kind == GOZDRIT_REFUSED) GST_LOG_OBJECT(self, "feedback is refused: %s", gozdrit_refusal_name((gint32)refusal));
     self->media += kind == GOZDRIT_MEDIA;
     self->reports += kind == GOZDRIT_REPORTS;
     self->refused += kind == GOZDRIT_REFUSED;
@@ -97,8 +108,7 @@ gboolean sending_request(GstGozdritSend *self, guint32 ssrc, guint16 number) {
         GST_WRITE_UINT32_BE(nack + 4, stream->receiver_ssrc);
         GST_WRITE_UINT32_BE(nack + 8, ssrc);
         GST_WRITE_UINT16_BE(nack + 12, number);
-        gozdrit_feedback(&stream->end, nack, sizeof nack, &outcome);
-        if (outcome.queued > 0) {
+        if (hear_one(self, stream, nack, sizeof nack, &outcome) && outcome.queued > 0) {
             self->requested = TRUE;
             silence_changed(self);
         }

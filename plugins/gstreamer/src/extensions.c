@@ -14,6 +14,7 @@ static void add_extension(GstGozdritSend *self, GstRTPHeaderExtension *extension
         g_warning("%s retransmits the header extension %s as it is, and need not be told", GST_OBJECT_NAME(self), uri);
         return;
     }
+    GST_DEBUG_OBJECT(self, "%s has the id %u", uri, gst_rtp_header_extension_get_id(extension));
     g_mutex_lock(&self->lock);
     gst_object_replace((GstObject **)known, GST_OBJECT(extension));
     g_mutex_unlock(&self->lock);

@@ -54,6 +54,8 @@ static void make_room(GstGozdritSend *self) {
         const send_stream *one = g_ptr_array_index(self->streams, i), *other = g_ptr_array_index(self->streams, oldest);
         if (one->last < other->last) oldest = i;
     }
+    GST_DEBUG_OBJECT(self, "SSRC %08x: its history makes room for another one's",
+                     ((send_stream *)g_ptr_array_index(self->streams, oldest))->media_ssrc);
     drop_stream(self, oldest);
 }
 
@@ -109,6 +111,7 @@ gboolean sending_collision(GstGozdritSend *self, guint32 ssrc, gint64 *media, gu
         is_ours = TRUE;
     }
     g_mutex_unlock(&self->lock);
+    if (is_ours) GST_DEBUG_OBJECT(self, "SSRC %08x is another participant's too: retransmissions have %08x", ssrc, *drawn);
     return is_ours;
 }
 
@@ -201,6 +204,7 @@ static taken take_packet(GstGozdritSend *self, GstBuffer *buffer, GstRTPBuffer *
     done.answer = stream_take(stream, &self->settings, &packet, now / MILLISECOND);
     if (packet.is_kept) silence_packet(self, stream, now);
     else stream->is_silent = TRUE;
+    if (!packet.is_kept) GST_LOG_OBJECT(self, "SSRC %08x: %u is not kept, %s", ssrc, own, rtx_type >= 0 ? "it is too long" : "by its type");
     done.ssrc = stream->media_ssrc;
     done.number = packet.number;
     done.is_other = done.ssrc != ssrc || done.number != own;

@@ -76,7 +76,9 @@ static gboolean is_due(GstGozdritSend *self) {
             continue;
         }
         stream->is_silent = TRUE;
-        if (gst_pad_is_linked(self->feedback) && gozdrit_tail_loss_probe(&stream->end, &queued) == GOZDRIT_OK) all += queued;
+        if (!gst_pad_is_linked(self->feedback) || gozdrit_tail_loss_probe(&stream->end, &queued) != GOZDRIT_OK) continue;
+        GST_DEBUG_OBJECT(self, "SSRC %08x is silent: its last packet is repeated", stream->media_ssrc);
+        all += queued;
     }
     if (all == 0) wait_for_silence(self, until);
     return all > 0;

@@ -74,6 +74,8 @@ static gint32 begin(send_stream *stream, const send_settings *settings, guint16 
     stream->size = config.history;
     stream->places = g_new0(place, stream->size);
     stream->next = G_GUINT64_CONSTANT(65536) + first;
+    GST_DEBUG("SSRC %08x: a history of %u packets from %u on, retransmitted with SSRC %08x", stream->media_ssrc, stream->size, first,
+              stream->rtx_ssrc);
     return GOZDRIT_OK;
 }
 
@@ -230,6 +232,8 @@ static gboolean is_past(const send_stream *stream, const place *at) {
 static GstBuffer *repair_of(send_stream *stream, const place *at, guint8 *octets, gsize length, rid_ids *ids) {
     gboolean nothing = at->blank && !at->late, past = !nothing && is_past(stream, at);
     if (nothing || past) {
+        GST_DEBUG("SSRC %08x: %u is not retransmitted, it %s", stream->media_ssrc, (guint16)at->sequence,
+                  nothing ? "never came" : "is past its time");
         stream->made.retransmissions--;
         (*(nothing ? &stream->made.not_in_history : &stream->made.expired))++;
         return NULL;
@@ -239,13 +243,28 @@ static GstBuffer *repair_of(send_stream *stream, const place *at, guint8 *octets
 }
 
 /* Writes what the stream of retransmissions has of its own into a header: its type, number and SSRC. */
-static void write_own(send_stream *stream, GstBuffer *out, guint8 type) {
+static void write_own(send_stream *stream, GstBuffer *out, const place *at) {
     GstMapInfo map;
+    GST_DEBUG("SSRC %08x: %u is retransmitted as %u of SSRC %08x", stream->media_ssrc, (guint16)at->sequence, stream->rtx_next,
+              stream->rtx_ssrc);
     gst_buffer_map_range(out, 0, 1, &map, GST_MAP_READWRITE);
-    map.data[1] = (guint8)((map.data[1] & 128) | type);
+    map.data[1] = (guint8)((map.data[1] & 128) | at->rtx_type);
     GST_WRITE_UINT16_BE(map.data + 2, stream->rtx_next++);
     GST_WRITE_UINT32_BE(map.data + 8, stream->rtx_ssrc);
     gst_buffer_unmap(out, &map);
+}
+
+/* What the library takes next. What it passes over, since that does not fit the time, shows in its counts alone. */
+static gint32 retransmit(send_stream *stream, gozdrit_sent *sent, guint8 *octets, gsize room) {
+    gozdrit_send_counts before = GOZDRIT_SEND_COUNTS_INIT, after = GOZDRIT_SEND_COUNTS_INIT;
+    gboolean is_logged = stream->has_rule && gst_debug_category_get_threshold(GST_CAT_DEFAULT) >= GST_LEVEL_DEBUG;
+    if (is_logged) gozdrit_sender_counts(&stream->end, &before);
+    gint32 number = gozdrit_retransmit(&stream->end, sent, octets, room);
+    if (is_logged) gozdrit_sender_counts(&stream->end, &after);
+    if (after.early > before.early || after.expired > before.expired)
+        GST_DEBUG("SSRC %08x: %u are not retransmitted again so early, and %u are past their time", stream->media_ssrc,
+                  (guint)(after.early - before.early), (guint)(after.expired - before.expired));
+    return number;
 }
 
 GstBuffer *stream_retransmission(send_stream *stream, guint64 now, rid_ids *ids) {
@@ -254,11 +273,11 @@ GstBuffer *stream_retransmission(send_stream *stream, guint64 now, rid_ids *ids)
     tell_time(stream, now);
     while (stream->end.held && !out) {
         gozdrit_sent sent = GOZDRIT_SENT_INIT;
-        gint32 number = gozdrit_retransmit(&stream->end, &sent, octets, sizeof octets);
+        gint32 number = retransmit(stream, &sent, octets, sizeof octets);
         if (number != GOZDRIT_OK || sent.length == 0) return NULL;
         const place *at = place_of(stream, sent.sequence);
         out = repair_of(stream, at, octets, sent.length, ids);
-        if (out) write_own(stream, out, at->rtx_type);
+        if (out) write_own(stream, out, at);
     }
     if (out) GST_BUFFER_FLAG_SET(out, GST_RTP_BUFFER_FLAG_RETRANSMISSION);
     return out;

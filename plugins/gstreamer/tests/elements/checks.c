@@ -236,6 +236,7 @@ int main(int count, char **words) {
         {"flushes", test_flushes}, {"caps", test_rtx_caps},      {"silence", test_silence}, {"storm", test_storm},
         {"numbers", test_numbers}, {"metas", test_metas}, {"keyunits", test_key_units},
         {"dropin", test_drop_in}, {"auxiliary", test_auxiliary}, {"histories", test_histories}, {"extensions", test_extensions},
+        {"logs", test_logs},
     };
     gst_init(NULL, NULL);
     for (guint i = 0; i < G_N_ELEMENTS(tests); i++) {

@@ -100,6 +100,7 @@ void test_histories(void);
 void test_feedback(void);
 void test_drop_in(void);
 void test_extensions(void);
+void test_logs(void);
 void test_tail(void);
 void test_key_units(void);
 void test_silence(void);
