@@ -175,6 +175,25 @@ static void test_longest(void) {
     drop_sender(&s);
 }
 
+/* A packet without an extension, whose number and payload look like one: its retransmission has them as they were. */
+static void test_none(void) {
+    static const guint8 look[10] = {0, 1, 0x30, 'a', 0x10, 'b', 0x30, 'c', 0, 0};
+    sender s = make_sender();
+    GstBuffer *sent = make_packet((packet){.sequence = SHORT}), *same = make_repair((packet){.sequence = SHORT}, 0);
+    tell_both(s.element, 3, 5);
+    gst_buffer_fill(sent, 12, look, sizeof look);
+    gst_buffer_fill(same, 14, look, sizeof look);
+    CHECK(gst_harness_push(s.media, sent) == GST_FLOW_OK);
+    gst_buffer_unref(next_buffer(s.media));
+    gst_harness_push(s.feedback, make_nack(SHORT, 0));
+    GstBuffer *came = next_buffer(s.media);
+    if (came) gst_buffer_memset(came, 2, 0, 2);
+    CHECK(came && same_octets(came, same));
+    gst_clear_buffer(&came);
+    gst_buffer_unref(same);
+    drop_sender(&s);
+}
+
 /* ---- the signals */
 
 static guint complaints;
@@ -192,9 +211,10 @@ static void test_signals(void) {
     CHECK(comes_with(&s, (packet){.sequence = 10}, 0, SHORT, &sent));
     tell_both(s.element, 3, 5);
     CHECK(comes_with(&s, (packet){.sequence = 10}, 0, SHORT, &again[0]));
-    GstRTPHeaderExtension *repaired = tell(s.element, REPAIRED_URI, 5);
+    GstRTPHeaderExtension *before = tell(s.element, REPAIRED_URI, 9), *repaired = tell(s.element, REPAIRED_URI, 5);
     tell_both(s.element, 4, 0);
-    CHECK(comes_with(&s, (packet){.sequence = 10}, 0, SHORT, &again[1]));
+    CHECK(comes_with(&s, (packet){.sequence = 10}, 0, SHORT, &again[1]) && GST_OBJECT_REFCOUNT_VALUE(before) == 1);
+    gst_object_unref(before);
     gst_rtp_header_extension_set_id(repaired, 6);
     CHECK(comes_with(&s, (packet){.sequence = 10}, 0, SHORT, &again[2]));
     gst_element_set_state(s.element, GST_STATE_NULL); /* what was told stays */
@@ -379,6 +399,7 @@ void test_extensions(void) {
     gst_object_unref(known);
     test_rows();
     test_longest();
+    test_none();
     test_signals();
     test_refused();
     test_told();

@@ -64,6 +64,17 @@ static void begin_stream(storm *s, guint32 ssrc, guint8 type) {
     g_free(text);
 }
 
+/* An extension of either form, of any octets, most of which are short elements, padding or ids that programs tell. */
+static void draw_extension(GstRTPBuffer *rtp, GRand *drawn) {
+    guint16 profile = g_rand_boolean(drawn) ? 0xbede : 0x1000;
+    guint words = (guint)g_rand_int_range(drawn, 0, g_rand_int_range(drawn, 0, 4) ? 17 : 300);
+    gpointer octets;
+    gst_rtp_buffer_set_extension_data(rtp, profile, (guint16)words);
+    gst_rtp_buffer_get_extension_data(rtp, &profile, &octets, &words);
+    for (guint i = 0; i < 4 * words; i++)
+        ((guint8 *)octets)[i] = (guint8)(g_rand_int_range(drawn, 0, 4) << (g_rand_boolean(drawn) ? 4 : 0) | g_rand_int_range(drawn, 0, 3));
+}
+
 /* A packet with CSRCs, an extension, padding or many octets; or no packet at all. */
 static GstBuffer *make_odd(packet of, GRand *drawn) {
     GstRTPBuffer rtp = GST_RTP_BUFFER_INIT;
@@ -76,7 +87,7 @@ static GstBuffer *make_odd(packet of, GRand *drawn) {
     gst_rtp_buffer_set_ssrc(&rtp, of.ssrc);
     gst_rtp_buffer_set_seq(&rtp, of.sequence);
     gst_rtp_buffer_set_timestamp(&rtp, timestamp_of(of));
-    gst_rtp_buffer_set_extension_data(&rtp, 0xbede, (guint16)g_rand_int_range(drawn, 0, 300));
+    draw_extension(&rtp, drawn);
     gst_rtp_buffer_unmap(&rtp);
     GST_BUFFER_PTS(buffer) = g_rand_boolean(drawn) ? of.pts : (G_GUINT64_CONSTANT(1) << g_rand_int_range(drawn, 60, 64)) + g_rand_int(drawn);
     return buffer;
@@ -204,6 +215,17 @@ static void drop_storm(storm *s) {
     g_mutex_clear(&s->pushing);
 }
 
+/* Tells the sender an extension of a simulcast, at times one that has no place in the short form, or has it forget all. */
+static void tell_extension(GstElement *send, GRand *drawn) {
+    const gchar *uri = g_rand_boolean(drawn) ? GST_RTP_HDREXT_BASE "sdes:rtp-stream-id" : GST_RTP_HDREXT_BASE "sdes:repaired-rtp-stream-id";
+    GstRTPHeaderExtension *extension = gst_rtp_header_extension_create_from_uri(uri);
+    if (g_rand_int_range(drawn, 0, 4) == 0) g_signal_emit_by_name(send, "clear-extensions");
+    if (!extension) return;
+    gst_rtp_header_extension_set_id(extension, (guint)g_rand_int_range(drawn, 1, g_rand_int_range(drawn, 0, 4) ? 4 : 256));
+    g_signal_emit_by_name(send, "add-extension", extension);
+    gst_object_unref(extension);
+}
+
 /* Changes of states and of properties, and looks at what was counted. */
 static void change(storm *s, GRand *drawn) {
     static const GstState states[] = {GST_STATE_PLAYING, GST_STATE_PLAYING, GST_STATE_PAUSED, GST_STATE_READY, GST_STATE_NULL};
@@ -213,6 +235,7 @@ static void change(storm *s, GRand *drawn) {
     g_atomic_int_set(&s->renewed, TRUE);
     g_object_set(s->recv, "latency", g_rand_int_range(drawn, 0, 80), "rtx-retry-timeout", g_rand_int_range(drawn, -1, 8), NULL);
     g_object_set(s->send, "silence-delay", g_rand_int_range(drawn, 0, 20), NULL);
+    tell_extension(s->send, drawn);
     CHECK(count_of(s->recv, "media") != G_MAXUINT64 && count_of(s->send, "sent") != G_MAXUINT64);
     g_usleep((gulong)g_rand_int_range(drawn, 0, 30000));
 }
