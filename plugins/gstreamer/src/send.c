@@ -18,6 +18,9 @@
  * what it lacks of the end of a talk spurt, until the next one. Packets that come slowly, as frames at five a second, are not repeated
  * each time: a gap that ends before four times that delay is no silence, and the next one may be as long and a quarter more.
  *
+ * In a simulcast, where packets name their stream by a header extension (RFC 8852), #GstGozdritSend::add-extension tells by which ones, so that
+ * retransmissions name the stream that they repair.
+ *
  * `feedback_sink` takes the RTCP of the far side, whatever it is: what is no NACK of these streams is passed over. Where an rtpsession
  * stands behind the source pad, its events `GstRTPRetransmissionRequest` are answered as well. PLI and FIR for one of the streams go
  * upstream as events `GstForceKeyUnit`. At the end of the stream the last packet is

@@ -96,6 +96,8 @@ static const row rows[] = {
     {3, 5, SHORT, "106131686900", "106151686900", FALSE}, /* behind another element */
     {3, 5, SHORT, "316869106100", "516869106100", FALSE}, /* before one */
     {3, 5, SHORT, "3061906230639064", "5061906250639064", FALSE}, /* each of two */
+    {3, 5, SHORT, "3468656c6c6f3368656c6c", "5468656c6c6f5368656c6c", FALSE}, /* the second is how the first begins */
+    {3, 5, SHORT, "3468692d6c6f", "5468692d6c6f", FALSE}, /* not letters and digits alone */
     {3, 5, SHORT, "3f" TEXT16 "1061", "5f" TEXT16 "1061", FALSE},
     {3, 14, SHORT, "306100e062", "e061e062", FALSE}, /* without the padding between */
     {3, 5, SHORT, "000030610000001062", "50611062", FALSE},
