@@ -23,7 +23,7 @@ static guint id_at(const reader *from) { return from->head == 1 ? *from->at >> 4
 static gboolean next_element(reader *from, element *next) {
     while (from->at < from->end && id_at(from) == 0) from->at++; /* padding */
     gsize left = (gsize)(from->end - from->at);
-    if (left < from->head) return FALSE;
+    if (left < 2) return FALSE; /* no element of either form is shorter */
     next->octets = from->at;
     next->id = id_at(from);
     next->length = 2u + (from->head == 1 ? *from->at & 15u : from->at[1]); /* the short form has one octet more than it tells */
