@@ -16,19 +16,28 @@ static void on_line(GstDebugCategory *category, GstDebugLevel level, const gchar
 }
 
 /* Whether that was said since the last look. */
-static gboolean says(const gchar *text) {
+static gboolean G_GNUC_PRINTF(1, 2) says(const gchar *format, ...) {
+    va_list values;
+    va_start(values, format);
+    gchar *text = g_strdup_vprintf(format, values);
+    va_end(values);
     g_mutex_lock(&lock);
     gboolean is = strstr(said->str, text) != NULL;
-    if (!is) g_print("not in: %s\n", said->str);
+    if (!is) g_print("%s is not in: %s\n", text, said->str);
     g_string_truncate(said, 0);
     g_mutex_unlock(&lock);
+    g_free(text);
     return is;
 }
 
-static void drop_next(sender *s) {
+/* Takes the next buffer, and gives its number. */
+static guint drop_next(sender *s) {
     GstBuffer *buffer = next_buffer(s->media);
+    guint8 octets[4] = {0};
     CHECK(buffer != NULL);
+    if (buffer) gst_buffer_extract(buffer, 0, octets, sizeof octets);
     gst_clear_buffer(&buffer);
+    return GST_READ_UINT16_BE(octets + 2);
 }
 
 static void test_answers(void) {
@@ -36,8 +45,7 @@ static void test_answers(void) {
     send_five(&s);
     CHECK(says("SSRC 11111111: a history of 1024 packets from 0 on, retransmitted with SSRC 22222222"));
     gst_harness_push(s.feedback, make_nack(3, 0));
-    drop_next(&s);
-    CHECK(says("SSRC 11111111: 3 is retransmitted as "));
+    CHECK(says("SSRC 11111111: 3 is retransmitted as %u of SSRC 22222222\n", drop_next(&s)));
     CHECK(request(&s, MEDIA, 2));
     drop_next(&s);
     CHECK(says("SSRC 11111111: 1 numbers are asked for, 1 more are to be retransmitted"));
@@ -90,11 +98,23 @@ static void test_histories_told(void) {
         gst_harness_push(s.media, make_packet((packet){.ssrc = MEDIA + 1 + i}));
         drop_next(&s);
     }
-    CHECK(says("its history makes room for another one's"));
+    CHECK(says("SSRC 11111111: its history makes room for another one's"));
     gst_harness_set_src_caps_str(s.media, "application/x-rtp,media=video,clock-rate=90000,encoding-name=X,payload=96,ssrc=(uint)286331160");
-    GstStructure *told = gst_structure_new("GstRTPCollision", "ssrc", G_TYPE_UINT, rtx_ssrc_of(s.media), NULL);
+    guint before = rtx_ssrc_of(s.media);
+    GstStructure *told = gst_structure_new("GstRTPCollision", "ssrc", G_TYPE_UINT, before, NULL);
     gst_harness_push_upstream_event(s.media, gst_event_new_custom(GST_EVENT_CUSTOM_UPSTREAM, told));
-    CHECK(says("is another participant's too"));
+    CHECK(says("SSRC %08x is another participant's too: retransmissions have %08x\n", before, rtx_ssrc_of(s.media)));
+    drop_sender(&s);
+}
+
+static void test_silent(void) {
+    sender s = make_sender();
+    g_object_set(s.element, "silence-delay", 100, NULL);
+    gst_harness_push(s.media, make_packet((packet){.sequence = 1}));
+    drop_next(&s);
+    CHECK(gst_harness_wait_for_clock_id_waits(s.media, 1, 2) && gst_harness_crank_single_clock_wait(s.media));
+    drop_next(&s);
+    CHECK(says("SSRC 11111111 is silent: its last packet is repeated"));
     drop_sender(&s);
 }
 
@@ -107,6 +127,7 @@ void test_logs(void) {
     test_answers();
     test_passed_over();
     test_histories_told();
+    test_silent();
     gst_debug_unset_threshold_for_name("gozdrit");
     gst_debug_remove_log_function(on_line);
     gst_debug_add_log_function(gst_debug_log_default, NULL, NULL);
