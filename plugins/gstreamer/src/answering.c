@@ -102,6 +102,7 @@ void sending_feedback(GstGozdritSend *self, GstBuffer *buffer) {
 gboolean sending_request(GstGozdritSend *self, guint32 ssrc, guint16 number) {
     guint8 nack[16] = {0x81, 205, 0, 3};
     gozdrit_outcome outcome = GOZDRIT_OUTCOME_INIT;
+    GST_LOG_OBJECT(self, "SSRC %08x: an event asks for %u", ssrc, number);
     g_mutex_lock(&self->lock);
     send_stream *stream = find_sent(self, ssrc);
     if (stream && stream->end.held) {

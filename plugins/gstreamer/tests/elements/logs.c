@@ -48,7 +48,7 @@ static void test_answers(void) {
     CHECK(says("SSRC 11111111: 3 is retransmitted as %u of SSRC 22222222\n", drop_next(&s)));
     CHECK(request(&s, MEDIA, 2));
     drop_next(&s);
-    CHECK(says("SSRC 11111111: 1 numbers are asked for, 1 more are to be retransmitted"));
+    CHECK(says("SSRC 11111111: an event asks for 2\nSSRC 11111111: 1 numbers are asked for, 1 more are to be retransmitted"));
     gst_harness_push(s.feedback, make_nack(4, 1));
     drop_next(&s);
     CHECK(says("2 numbers are asked for, 1 more are to be retransmitted, 1 are not in the history"));
