@@ -4,6 +4,15 @@
 #define STREAM_URI GST_RTP_HDREXT_BASE "sdes:rtp-stream-id"
 #define REPAIRED_URI GST_RTP_HDREXT_BASE "sdes:repaired-rtp-stream-id"
 
+/* Takes an extension, or none, in the place of the one before. */
+static void replace(GstGozdritSend *self, GstRTPHeaderExtension **known, GstRTPHeaderExtension *extension) {
+    g_mutex_lock(&self->lock);
+    GstRTPHeaderExtension *before = *known;
+    *known = extension ? gst_object_ref(extension) : NULL;
+    g_mutex_unlock(&self->lock);
+    gst_clear_object(&before);
+}
+
 static void add_extension(GstGozdritSend *self, GstRTPHeaderExtension *extension) {
     g_return_if_fail(GST_IS_RTP_HEADER_EXTENSION(extension));
     g_return_if_fail(gst_rtp_header_extension_get_id(extension) > 0);
@@ -15,16 +24,12 @@ static void add_extension(GstGozdritSend *self, GstRTPHeaderExtension *extension
         return;
     }
     GST_DEBUG_OBJECT(self, "%s has the id %u", uri, gst_rtp_header_extension_get_id(extension));
-    g_mutex_lock(&self->lock);
-    gst_object_replace((GstObject **)known, GST_OBJECT(extension));
-    g_mutex_unlock(&self->lock);
+    replace(self, known, extension);
 }
 
 static void clear_extensions(GstGozdritSend *self) {
-    g_mutex_lock(&self->lock);
-    gst_clear_object(&self->stream_id);
-    gst_clear_object(&self->repaired_id);
-    g_mutex_unlock(&self->lock);
+    replace(self, &self->stream_id, NULL); /* first: without it the other one is not looked at */
+    replace(self, &self->repaired_id, NULL);
 }
 
 /* A program may set another id at any time. */
