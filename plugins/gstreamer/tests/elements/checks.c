@@ -213,6 +213,34 @@ gboolean repair_comes(sender *s, packet of) {
     return is;
 }
 
+gboolean make_chain(sender *s, const gchar *first, const gchar *second, GstElement *elements[2]) {
+    static const gchar *const names[] = {"sink", "src"};
+    GstElement *bin = gst_bin_new(NULL);
+    elements[0] = gst_element_factory_make(first, NULL);
+    elements[1] = gst_element_factory_make(second, NULL);
+    for (guint i = 0; i < 2; i++)
+        if (elements[i]) gst_bin_add(GST_BIN(bin), gst_object_ref(elements[i]));
+    if (!elements[0] || !elements[1]) {
+        for (guint i = 0; i < 2; i++) gst_clear_object(&elements[i]);
+        gst_object_unref(gst_object_ref_sink(bin));
+        return FALSE;
+    }
+    CHECK(gst_element_link_pads(elements[0], "src", elements[1], "sink"));
+    for (guint i = 0; i < 2; i++) {
+        GstPad *pad = gst_element_get_static_pad(elements[i], names[i]);
+        gst_element_add_pad(bin, gst_ghost_pad_new(names[i], pad));
+        gst_object_unref(pad);
+    }
+    *s = (sender){.media = gst_harness_new_with_element(bin, "sink", "src"), .element = bin};
+    return TRUE;
+}
+
+void drop_chain(sender *s, GstElement *elements[2]) {
+    gst_harness_teardown(s->media);
+    for (guint i = 0; i < 2; i++) gst_object_unref(elements[i]);
+    gst_object_unref(s->element);
+}
+
 gboolean request(sender *s, guint32 ssrc, guint16 number) {
     GstStructure *told = gst_structure_new("GstRTPRetransmissionRequest", "seqnum", G_TYPE_UINT, (guint)number, "ssrc", G_TYPE_UINT, ssrc,
                                            "payload-type", G_TYPE_UINT, TYPE, NULL);

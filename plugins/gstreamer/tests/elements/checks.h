@@ -88,6 +88,10 @@ void send_five(sender *s);
 /* A repair of that packet comes, without a time. Repairs have numbers of their own. */
 gboolean repair_comes(sender *s, packet of);
 
+/* A bin of two elements, the second behind the first, with a harness of both; or none where one of them is not there. */
+gboolean make_chain(sender *s, const gchar *first, const gchar *second, GstElement *elements[2]);
+void drop_chain(sender *s, GstElement *elements[2]);
+
 /* Asks for a packet as an rtpsession behind the sender does. */
 gboolean request(sender *s, guint32 ssrc, guint16 number);
 /* What the caps that came say of the retransmissions. */

@@ -161,35 +161,6 @@ static void test_flagged(void) {
     drop_sender(&s);
 }
 
-/* A bin of two elements, the second behind the first, with a harness of both; or none where one of them is not there. */
-static gboolean make_chain(sender *s, const gchar *first, const gchar *second, GstElement *elements[2]) {
-    static const gchar *const names[] = {"sink", "src"};
-    GstElement *bin = gst_bin_new(NULL);
-    elements[0] = gst_element_factory_make(first, NULL);
-    elements[1] = gst_element_factory_make(second, NULL);
-    for (guint i = 0; i < 2; i++)
-        if (elements[i]) gst_bin_add(GST_BIN(bin), gst_object_ref(elements[i]));
-    if (!elements[0] || !elements[1]) {
-        for (guint i = 0; i < 2; i++) gst_clear_object(&elements[i]);
-        gst_object_unref(gst_object_ref_sink(bin));
-        return FALSE;
-    }
-    CHECK(gst_element_link_pads(elements[0], "src", elements[1], "sink"));
-    for (guint i = 0; i < 2; i++) {
-        GstPad *pad = gst_element_get_static_pad(elements[i], names[i]);
-        gst_element_add_pad(bin, gst_ghost_pad_new(names[i], pad));
-        gst_object_unref(pad);
-    }
-    *s = (sender){.media = gst_harness_new_with_element(bin, "sink", "src"), .element = bin};
-    return TRUE;
-}
-
-static void drop_chain(sender *s, GstElement *elements[2]) {
-    gst_harness_teardown(s->media);
-    for (guint i = 0; i < 2; i++) gst_object_unref(elements[i]);
-    gst_object_unref(s->element);
-}
-
 /* Behind rtprtxsend itself this one answers what it has, and each request is answered once. */
 static void test_chain(void) {
     GstElement *elements[2];

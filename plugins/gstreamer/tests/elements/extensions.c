@@ -343,6 +343,30 @@ static void test_beside(void) {
     g_rand_free(drawn);
 }
 
+/* Through this one and rtprtxreceive, which is told of both too, each packet of two forms comes again as it was. */
+static void test_far_side(void) {
+    static const guint16 profiles[] = {SHORT, LONG};
+    block blocks[] = {block_of("106131686920"), block_of("0101610302686907026263")};
+    GstElement *elements[2];
+    sender s;
+    if (!make_chain(&s, "gozdritsend", "rtprtxreceive", elements)) return;
+    for (guint i = 0; i < 2; i++) {
+        gst_util_set_object_arg(G_OBJECT(elements[i]), "payload-type-map", "map,96=(uint)97");
+        tell_both(elements[i], 3, 5);
+    }
+    gst_harness_set_src_caps_str(s.media, CAPS);
+    for (guint16 i = 0; i < 8; i++) {
+        packet of = {.sequence = i, .fill = (guint8)i, .marker = i % 4 == 3};
+        push_with(&s, of, i % 3, profiles[i % 2], &blocks[i % 2]);
+        CHECK(request(&s, MEDIA, i));
+        GstBuffer *again = next_buffer(s.media), *same = extend(make_packet(of), i % 3, profiles[i % 2], &blocks[i % 2]);
+        CHECK(again && same_octets(again, same) && GST_BUFFER_FLAG_IS_SET(again, GST_RTP_BUFFER_FLAG_RETRANSMISSION));
+        gst_clear_buffer(&again);
+        gst_buffer_unref(same);
+    }
+    drop_chain(&s, elements);
+}
+
 /* ---- odd extensions */
 
 /* Any octets, of which most are heads of elements, and at times more words than the library takes. */
@@ -407,5 +431,6 @@ void test_extensions(void) {
     test_told();
     test_caps();
     test_beside();
+    test_far_side();
     test_odd();
 }
