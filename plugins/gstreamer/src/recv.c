@@ -391,7 +391,7 @@ static void install_properties(GObjectClass *class) {
                  "rtx-retry-timeout is -1", 0, G_MAXUINT, 20);
     install_int(class, PROP_RETRY, "rtx-retry-timeout", "How long an answer to a NACK is waited for before the next one, in ms "
                 "(-1 == by the round trips that are measured, so that as many NACKs as fit have their answers within the latency)", -1, G_MAXINT);
-    install_uint(class, PROP_NACKS, "rtx-max-retries", "How often one packet is asked for at most", 1, 255, 4);
+    install_uint(class, PROP_NACKS, "rtx-max-retries", "How often one packet is asked for at most", 1, 255, 8);
     install_uint(class, PROP_WINDOW, "max-size-packets", "How many packets are kept while one is missing", 1, GOZDRIT_MAX_STORE,
                  1024);
     install_uint(class, PROP_SSRC, "ssrc", "The SSRC of the media (default == that of the caps or of the first packet)", 0,
@@ -459,7 +459,7 @@ static void init_pads(GstGozdritRecv *self) {
 }
 
 static void gst_gozdrit_recv_init(GstGozdritRecv *self) {
-    self->settings = (recv_settings){.latency = 200, .delay = 20, .retry = -1, .nacks = 4, .window = 1024, .ssrc = SSRC_UNSET,
+    self->settings = (recv_settings){.latency = 200, .delay = 20, .retry = -1, .nacks = 8, .window = 1024, .ssrc = SSRC_UNSET,
                                      .rtx_ssrc = SSRC_UNSET, .receiver_ssrc = SSRC_UNSET, .type = -1, .rtx_type = -1};
     g_mutex_init(&self->starting);
     g_mutex_init(&self->lock);

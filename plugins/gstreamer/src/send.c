@@ -353,7 +353,7 @@ static void install_properties(GObjectClass *class) {
                  "(0 == never)", 0, 60000, 100);
     install_uint(class, PROP_MIN_INTERVAL, "rtx-min-interval",
                  "How long after its last retransmission a packet is not retransmitted again, in ms: about a round trip (0 == as "
-                 "soon as it is asked for)", 0, G_MAXUINT, 0);
+                 "soon as it is asked for)", 0, G_MAXUINT, 10);
     install_uint(class, PROP_MAX_TIME, "max-size-time",
                  "How long after it was sent, and by its timestamp before the newest one, a packet is retransmitted, in ms: about the "
                  "latency of the other end (0 == as long as it is kept)", 0, G_MAXUINT, 0);
@@ -403,7 +403,7 @@ static void gst_gozdrit_send_init(GstGozdritSend *self) {
     self->past = (gozdrit_send_counts)GOZDRIT_SEND_COUNTS_INIT;
     self->settings = (send_settings){.ssrc = SSRC_UNSET, .rtx_ssrc = SSRC_UNSET, .receiver_ssrc = SSRC_UNSET,
                                      .rtx_type = RTX_TYPE, .first = -1, .history = 1024, .repeats = 8, .eos_delay = 500,
-                                     .silence_delay = 100};
+                                     .silence_delay = 100, .min_interval = 10};
     self->sink = add_pad(self, &sink_template);
     self->feedback = add_pad(self, &feedback_template);
     self->src = add_pad(self, &src_template);

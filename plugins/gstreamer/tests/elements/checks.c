@@ -167,12 +167,12 @@ gboolean ticks(receiver *r, guint64 at) {
 
 void set_clock_to(receiver *r, guint64 at) { gst_harness_set_time(r->media, at * GST_MSECOND); }
 
-/* ---- a sender */
+/* ---- a sender. Its clock stands where no test sets it, so a packet may be retransmitted again at once. */
 
 sender make_sender(void) {
     sender s;
     s.element = gst_element_factory_make("gozdritsend", NULL);
-    g_object_set(s.element, "rtx-ssrc", RTX, "silence-delay", 0, NULL);
+    g_object_set(s.element, "rtx-ssrc", RTX, "silence-delay", 0, "rtx-min-interval", 0, NULL);
     s.media = gst_harness_new_with_element(s.element, "sink", "src");
     s.feedback = gst_harness_new_with_element(s.element, "feedback_sink", NULL);
     gst_harness_set_src_caps_str(s.media, CAPS);

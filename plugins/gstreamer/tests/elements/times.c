@@ -97,7 +97,7 @@ static void test_latency(void) {
     CHECK(posted(bus, GST_MESSAGE_LATENCY));
     SEND(&r, .sequence = 0);
     SEND(&r, .sequence = 2);
-    for (guint64 at = 20; at <= 200; at += 60) TICKS(&r, at);
+    for (guint64 at = 20; at <= 440; at += 60) TICKS(&r, at);
     TICKS(&r, 500);
     COMES(r.media, .sequence = 0);
     COMES(r.media, .sequence = 2);
