@@ -94,15 +94,15 @@ static bool is_asked_twice(gozdrit_receiver *r, unsigned turn, bool answers_both
     return length > 0;
 }
 
-/* A sender that answers both copies gets both of three NACKs, and then of one in 16; of each, once it answers one of both, and what came
- * twice before, 13 packets, is one in 16 of what was answered, but for two. */
+/* A sender that answers both copies gets both of three NACKs, and then of one in eight; of each, once it answers one of both, and what came
+ * twice before, 23 packets, is one in eight of what was answered, but for two. */
 static void test_answered_twice(void) {
     gozdrit_receiver r = receiver_of(0, GOZDRIT_ADAPTIVE_OFF);
     ANSWERS(GOZDRIT_OK, gozdrit_reset(&r));
     HEARS_MEDIA(&r, 101, 0, MEDIA(65637));
     PLAYS(&r, 0, GOZDRIT_PACKET, 65637, 101);
-    for (unsigned turn = 0; turn < 163; turn++) CHECK(is_asked_twice(&r, turn, true) == (turn < 3 || turn % 16 == 0));
-    for (unsigned turn = 163; turn < 250; turn++) CHECK(is_asked_twice(&r, turn, false) == (turn >= 176));
+    for (unsigned turn = 0; turn < 163; turn++) CHECK(is_asked_twice(&r, turn, true) == (turn < 3 || turn % 8 == 0));
+    for (unsigned turn = 163; turn < 250; turn++) CHECK(is_asked_twice(&r, turn, false) == (turn >= 168));
     ANSWERS(GOZDRIT_OK, gozdrit_receiver_free(&r));
 }
 

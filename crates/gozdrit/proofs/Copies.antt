@@ -54,7 +54,7 @@ same_copies before mid now most out out' answer asks =
     let follows : mid.follows ≡ before.follows = ap (λ (r : Receiver). r.follows) asks.rest in
     let late : mid.endpoint.kinds.late ≡ before.endpoint.kinds.late = ap (λ (r : Receiver). r.endpoint.kinds.late) asks.rest in
     let duplicate : mid.endpoint.kinds.duplicate ≡ before.endpoint.kinds.duplicate = ap (λ (r : Receiver). r.endpoint.kinds.duplicate) asks.rest in
-    λ i. (copies i == 2) || ((copies i == 0) && follows i && nat_le (late i + duplicate i) (2 + answers i / 16))
+    λ i. (copies i == 2) || ((copies i == 0) && follows i && nat_le (late i + duplicate i) (2 + answers i / 8))
 
 -- What leaves once more behind an ask, where nothing was to before.
 pub again_after : (r mid : Receiver) (now most : ℕ) (out out' : List ℕ) (answer : Result (Option ℕ) TooShort) → r.again ≡ None → AsksNext r.again r now most out answer out' mid

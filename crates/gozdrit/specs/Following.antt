@@ -119,9 +119,9 @@ pub record AsksAs (before : Receiver) (now most : ℕ) (out : List ℕ) (answer 
     meter = meter_of_ask before.follows (core_of after) out' answer now before.meter;
   }
 
--- how often what was asked for may have come once more than it was wanted: twice, and of 16 answers once
+-- how often what was asked for may have come once more than it was wanted: twice, and of eight answers once
 abbrev pub spare_answers : Receiver → ℕ
-spare_answers r = 2 + r.endpoint.endpoint.counts.retransmissions / 16
+spare_answers r = 2 + r.endpoint.endpoint.counts.retransmissions / 8
 
 -- Whether each NACK leaves twice: where two copies of it are wanted, and where nothing is said (0), if the times of asks follow the path, and
 -- the far side does not answer both.

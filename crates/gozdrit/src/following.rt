@@ -111,7 +111,7 @@ impl MeteredReceiver {
         ensures { result ≡ nat_le (self.now.endpoint.kinds.late + self.now.endpoint.kinds.duplicate) (spare_answers self.now) }
     {
         let kinds = self.endpoint.kinds();
-        let spare = 2 + self.endpoint.endpoint().counts().retransmissions / 16;
+        let spare = 2 + self.endpoint.endpoint().counts().retransmissions / 8;
         kinds.late <= spare && kinds.duplicate <= spare - kinds.late
     }
 

@@ -89,5 +89,5 @@ pub fn nacks_leave_twice()
     ensures set_once { (r : Receiver) → r.copies ≡ 1 → leaves_twice r ≡ false }
     ensures set_twice { (r : Receiver) → r.copies ≡ 2 → leaves_twice r ≡ true }
     ensures unset { (r : Receiver) → r.copies ≡ 0 → (leaves_twice r ≡ true)
-        ↔ ((r.follows ≡ true) × (r.endpoint.kinds.late + r.endpoint.kinds.duplicate ≤ 2 + r.endpoint.endpoint.counts.retransmissions / 16)) }
+        ↔ ((r.follows ≡ true) × (r.endpoint.kinds.late + r.endpoint.kinds.duplicate ≤ 2 + r.endpoint.endpoint.counts.retransmissions / 8)) }
 {}
