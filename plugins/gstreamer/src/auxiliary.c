@@ -1,17 +1,12 @@
 /* What a receiver does where nobody takes its feedback: it stands between others, as rtpbin's auxiliary receiver between an rtpsession and a
- * jitter buffer. It asks by events that go upstream, which an rtpsession makes NACKs of, and what is not its stream goes through. */
+ * jitter buffer. It asks by events that go upstream, which an rtpsession makes NACKs of, and what is not its stream goes through. In a jitter
+ * buffer's place it asks the same way, and takes repairs that are media again. */
 #include "recv.h"
 
 #include <gst/rtp/rtp.h>
 #include <string.h>
 
-/* A ghost of the pad that nobody linked takes none either. */
-gboolean auxiliary_is(const GstGozdritRecv *self) {
-    GstPad *peer = gst_pad_is_linked(self->feedback) ? pad_behind(self->feedback) : NULL;
-    gboolean is_taken = peer != NULL;
-    gst_clear_object(&peer);
-    return !is_taken;
-}
+gboolean auxiliary_is(const GstGozdritRecv *self) { return !self->in_place && !feedback_is_taken(self); }
 
 /* ---- other streams. The lock is held. */
 
@@ -33,15 +28,8 @@ gboolean auxiliary_is_repair(const GstGozdritRecv *self, GstBuffer *buffer, cons
            PACKET_SSRC(octets) == self->session.media_ssrc && !receiving_is_rtx_type(self, PACKET_TYPE(octets));
 }
 
-/* How long a packet's header is; 0 where it does not fit. */
-static gsize head_of(const guint8 *octets, gsize length) {
-    gsize head = 12 + 4 * (gsize)(octets[0] & 15);
-    if (octets[0] & 16) head += head + 4 <= length ? 4 + 4 * (gsize)GST_READ_UINT16_BE(octets + head + 2) : length;
-    return head <= length ? head : 0;
-}
-
 guint8 *auxiliary_wrap(GstGozdritRecv *self, const guint8 *octets, gsize length) {
-    gsize head = head_of(octets, length);
+    gsize head = packet_head(octets, length);
     gozdrit_ssrc learnt = {.ssrc = self->session.rtx_ssrc};
     if (head == 0) return NULL;
     gozdrit_rtx_ssrc(&self->end, &learnt);
@@ -78,7 +66,7 @@ static GstEvent *make_request(GstGozdritRecv *self, guint16 number, guint64 now)
     GstStructure *told = gst_structure_new_empty("GstRTPRetransmissionRequest");
     set_uint(told, "seqnum", number);
     set_uint(told, "ssrc", self->session.media_ssrc);
-    set_uint(told, "payload-type", self->session.media_payload_type);
+    set_uint(told, "payload-type", self->in_place ? self->last_type : self->session.media_payload_type);
     set_uint(told, "delay", delay);
     set_uint(told, "retry", at->count);
     set_uint(told, "frequency", times.nack_interval);
@@ -117,7 +105,7 @@ gboolean auxiliary_request(GstGozdritRecv *self, const GstEvent *event) {
     guint ssrc;
     if (!told || !gst_structure_has_name(told, "GstRTPRetransmissionRequest") || !gst_structure_get_uint(told, "ssrc", &ssrc)) return FALSE;
     g_mutex_lock(&self->lock);
-    gboolean is_ours = self->end.held && self->session.media_ssrc == ssrc;
+    gboolean is_ours = self->end.held && !self->in_place && self->session.media_ssrc == ssrc;
     g_mutex_unlock(&self->lock);
     return is_ours;
 }

@@ -24,6 +24,12 @@ gint64 caps_number(const GstCaps *caps, const gchar *field, gint64 otherwise) {
     return text && g_ascii_isdigit(*text) ? (gint64)g_ascii_strtoull(text, NULL, 10) : otherwise;
 }
 
+gsize packet_head(const guint8 *octets, gsize length) {
+    gsize head = 12 + 4 * (gsize)(octets[0] & 15);
+    if (octets[0] & 16) head += head + 4 <= length ? 4 + 4 * (gsize)GST_READ_UINT16_BE(octets + head + 2) : length;
+    return head <= length ? head : 0;
+}
+
 void install_map(GObjectClass *class, guint id, const gchar *name, const gchar *blurb, GParamFlags access) {
     g_object_class_install_property(
         class, id, g_param_spec_boxed(name, NULL, blurb, GST_TYPE_STRUCTURE, access | (GParamFlags)G_PARAM_STATIC_STRINGS));

@@ -33,6 +33,9 @@ gint64 caps_number(const GstCaps *caps, const gchar *field, gint64 otherwise);
 #define PACKET_TIMESTAMP(octets) GST_READ_UINT32_BE((octets) + 4)
 #define PACKET_SSRC(octets) GST_READ_UINT32_BE((octets) + 8)
 
+/* How long a packet's header is, with its extension; 0 where it does not fit. */
+gsize packet_head(const guint8 *octets, gsize length);
+
 /* The elements' time: that of the pipeline's clock, and of the system's until there is one. Where the clock is another
  * one from now on, the time goes on from where it was. */
 typedef struct element_time {

@@ -2,6 +2,14 @@
 
 #include "keyunits.h"
 
+/* A ghost of the pad that nobody linked takes none either. */
+gboolean feedback_is_taken(const GstGozdritRecv *self) {
+    GstPad *peer = gst_pad_is_linked(self->feedback) ? pad_behind(self->feedback) : NULL;
+    gboolean is_taken = peer != NULL;
+    gst_clear_object(&peer);
+    return is_taken;
+}
+
 /* ---- waking the timer. The lock is held. */
 
 void feedback_wake(GstGozdritRecv *self) {
@@ -19,6 +27,7 @@ static gozdrit_timeout next_timeout(GstGozdritRecv *self, guint64 now) {
     if (!self->stalled) gozdrit_next_timeout(&self->end, &next);
     else gozdrit_missing(&self->end, &missing);
     if (missing > 0) next = (gozdrit_timeout){now + receiving_step(self), 1};
+    if (self->npt_due != G_MAXUINT64 && (!next.known || self->npt_due < next.time)) next = (gozdrit_timeout){self->npt_due, 1};
     return next;
 }
 
@@ -29,12 +38,20 @@ void feedback_schedule(GstGozdritRecv *self) {
 
 /* ---- the stream of feedback */
 
+/* The stream's name is made of that of the media, where these have begun. GStreamer makes none where there are two pads that it could be of. */
+static gchar *make_id(GstGozdritRecv *self) {
+    gchar *media = gst_pad_get_stream_id(self->sink);
+    gchar *id = media ? g_strconcat(media, "/feedback", NULL) : g_strdup_printf("%08x%08x/feedback", g_random_int(), g_random_int());
+    g_free(media);
+    return id;
+}
+
 /* Begins the stream. The gap event makes a sink downstream ready, which else were so with the first NACK only: until then
  * a pipeline would know no latency. */
 static void begin_stream(GstGozdritRecv *self) {
     GstSegment segment;
     GstCaps *caps = gst_caps_new_empty_simple("application/x-rtcp");
-    gchar *id = gst_pad_create_stream_id(self->feedback, GST_ELEMENT(self), "feedback");
+    gchar *id = make_id(self);
     gst_segment_init(&segment, GST_FORMAT_TIME);
     gst_pad_push_event(self->feedback, gst_event_new_stream_start(id));
     gst_pad_push_event(self->feedback, gst_event_new_caps(caps));
@@ -56,7 +73,7 @@ static GstBuffer *next_nack(GstGozdritRecv *self, guint64 now) {
 }
 
 gboolean feedback_key_unit(GstGozdritRecv *self, const GstEvent *event) {
-    gboolean is_taken = !auxiliary_is(self), is_full = FALSE;
+    gboolean is_taken = feedback_is_taken(self), is_full = FALSE;
     g_mutex_lock(&self->lock);
     gboolean is_ours = is_taken && self->end.held && key_request_parse(event, self->session.media_ssrc, &is_full);
     is_full = is_full && self->caps.fir;
@@ -116,7 +133,7 @@ static void wait_for_timeout(GstGozdritRecv *self, guint64 now) {
 }
 
 /* What a turn of the task found to do. */
-typedef enum turn { TURN_AGAIN, TURN_BEGIN, TURN_ASK, TURN_SEND, TURN_END, TURN_STOP } turn;
+typedef enum turn { TURN_AGAIN, TURN_BEGIN, TURN_ASK, TURN_SEND, TURN_NPT_STOP, TURN_END, TURN_STOP } turn;
 
 /* One turn: what is due now, and else it waits. The lock is held. */
 static turn take_turn(GstGozdritRecv *self, GstBuffer **asks) {
@@ -134,7 +151,8 @@ static turn take_turn(GstGozdritRecv *self, GstBuffer **asks) {
     if (!self->ended) *asks = next_key_request(self);
     if (*asks) return TURN_SEND;
     if (!self->ended) *asks = next_nack(self, now);
-    if (*asks) return auxiliary_is(self) ? TURN_ASK : TURN_SEND;
+    if (*asks) return feedback_is_taken(self) ? TURN_SEND : TURN_ASK;
+    if (ptmap_is_past(self, now)) return TURN_NPT_STOP;
     wait_for_timeout(self, now);
     return TURN_AGAIN;
 }
@@ -144,11 +162,14 @@ void feedback_task(gpointer pad) {
     GstBuffer *asks = NULL;
     g_mutex_lock(&self->lock);
     turn found = take_turn(self, &asks);
+    GstMessage *dropped = g_steal_pointer(&self->drops.next);
     g_mutex_unlock(&self->lock);
+    if (dropped) gst_element_post_message(GST_ELEMENT(self), dropped);
     switch (found) {
     case TURN_BEGIN: begin_stream(self); break;
     case TURN_ASK: auxiliary_ask(self, asks); break;
     case TURN_SEND: gst_pad_push(self->feedback, asks); break; /* who gets none is asked again */
+    case TURN_NPT_STOP: ptmap_npt_stop(self); break;
     case TURN_END: gst_pad_push_event(self->feedback, gst_event_new_eos()); break;
     case TURN_STOP: gst_pad_pause_task(self->feedback); break;
     case TURN_AGAIN: break;

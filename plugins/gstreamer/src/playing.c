@@ -1,5 +1,7 @@
 #include "recv.h"
 
+#include <gst/rtp/rtp.h>
+
 /* A packet goes out in the buffer that it came in. One that did not come in one of its own, as it was repaired, or that has padding, is
  * played into the middle of a buffer, and its header is written in front of it: so the payload is copied once. */
 enum { FRONT = 12 + 4 * GOZDRIT_MAX_CSRCS + 4 + 4 * GOZDRIT_MAX_EXTENSION_WORDS };
@@ -32,8 +34,9 @@ static void tell_lost(GstGozdritRecv *self, GstClockTime next) {
     if (GST_CLOCK_TIME_IS_VALID(next) && next > from) step = (next - from) / (self->lost + 1);
     if (!GST_CLOCK_TIME_IS_VALID(from)) from = 0;
     for (guint i = 0; self->settings.do_lost && i < self->lost; i++) {
+        GstClockTime at = offset_of(self, from + step * (i + 1));
         GstStructure *told = gst_structure_new("GstRTPPacketLost", "seqnum", G_TYPE_UINT, (guint)(guint16)(self->lost_from + i),
-                                               "timestamp", G_TYPE_UINT64, from + step * (i + 1), "duration", G_TYPE_UINT64,
+                                               "timestamp", G_TYPE_UINT64, at, "duration", G_TYPE_UINT64,
                                                step, "retry", G_TYPE_UINT, self->settings.nacks, NULL);
         push_ready(self, gst_event_new_custom(GST_EVENT_CUSTOM_DOWNSTREAM, told));
     }
@@ -43,6 +46,7 @@ static void tell_lost(GstGozdritRecv *self, GstClockTime next) {
 static void count_lost(GstGozdritRecv *self, guint64 from, guint count) {
     if (self->lost == 0) self->lost_from = (guint16)from;
     self->lost += count;
+    self->given_up += count;
     self->discont = TRUE;
 }
 
@@ -91,11 +95,12 @@ static arrival *arrival_of(GstGozdritRecv *self, const gozdrit_played *played) {
 
 /* The times of a packet: those that it came with, where these are what its timestamp says, and else what that says. All
  * packets with one timestamp have one time. */
-static void set_times(GstGozdritRecv *self, GstBuffer *out, const arrival *came, guint32 timestamp) {
-    GstClockTime own = rtp_times_of(&self->times, timestamp);
+static void set_times(GstGozdritRecv *self, GstBuffer *out, const arrival *came, guint8 type, guint32 timestamp) {
+    const rtp_times *times = ptmap_times(self, type);
+    GstClockTime own = rtp_times_of(times, timestamp);
     if (GST_CLOCK_TIME_IS_VALID(self->last_pts) && self->last_timestamp == timestamp) {
         /* as the one before */
-    } else if (came && !came->is_repair && rtp_times_same(&self->times, came->pts, own)) {
+    } else if (came && !came->is_repair && rtp_times_same(times, came->pts, own)) {
         self->last_pts = came->pts;
         self->last_dts = came->dts;
     } else {
@@ -109,7 +114,7 @@ static void set_times(GstGozdritRecv *self, GstBuffer *out, const arrival *came,
 
 /* Whether a type is not the one that caps or a property say. */
 static gboolean is_unwanted(const GstGozdritRecv *self, guint8 type) {
-    gint64 wanted = self->settings.type >= 0 ? self->settings.type : self->caps.type;
+    gint64 wanted = receiving_wanted_type(self);
     return wanted >= 0 && type != wanted && !auxiliary_is(self);
 }
 
@@ -134,7 +139,7 @@ static gboolean is_whole(const arrival *came) {
 
 /* The buffer that a packet goes out in, which is the one that it came in, or has what is noted of it there. */
 static GstBuffer *make_packet(GstGozdritRecv *self, const gozdrit_played *played, arrival *came, guint8 type) {
-    if (came && is_whole(came)) return gst_buffer_make_writable(g_steal_pointer(&came->buffer));
+    if (came && (came->is_long || is_whole(came))) return gst_buffer_make_writable(g_steal_pointer(&came->buffer));
     GstBuffer *out = finish_packet(self, played, type);
     GstBufferCopyFlags noted = GST_BUFFER_COPY_META;
     if (came && !came->is_repair) noted |= GST_BUFFER_COPY_FLAGS | GST_BUFFER_COPY_TIMESTAMPS;
@@ -159,17 +164,20 @@ static void play_packet(GstGozdritRecv *self, const gozdrit_played *played) {
         return;
     }
     GstBuffer *out = make_packet(self, played, came, type);
-    set_times(self, out, came, played->header.timestamp);
+    set_times(self, out, came, type, played->header.timestamp);
     if (self->lost > 0) {
         GstClockTime pts = self->last_pts;
         self->last_pts = before;
         tell_lost(self, pts);
         self->last_pts = pts;
     }
+    if (came && came->is_repair) set_flag(out, (GstBufferFlags)GST_RTP_BUFFER_FLAG_RETRANSMISSION, FALSE);
     set_flag(out, GST_BUFFER_FLAG_MARKER, played->header.marker);
     set_flag(out, GST_BUFFER_FLAG_DISCONT, self->discont);
     self->discont = FALSE;
+    sync_add_meta(self, out, played->header.timestamp, type);
     push_ready(self, out);
+    jitter_drop_old(self);
 }
 
 static void make_spare(GstGozdritRecv *self) {
@@ -217,7 +225,7 @@ static void release_below(GstGozdritRecv *self, guint64 sequence) {
 void playing_all(GstGozdritRecv *self, guint64 now) {
     gozdrit_played played = GOZDRIT_PLAYED_INIT;
     while (self->end.held) {
-        self->stalled = self->ready_packets >= self->settings.window && now != G_MAXINT64;
+        self->stalled = self->ready_packets >= WINDOW_OF(&self->settings) && now != G_MAXINT64;
         if (self->stalled) return;
         make_spare(self);
         gint32 number = gozdrit_play(&self->end, now, &played, self->map.data + FRONT, GOZDRIT_MAX_PAYLOAD);
@@ -259,7 +267,7 @@ void playing_clear(GstGozdritRecv *self) {
 
 /* The next item, or NULL where the pad is no longer active. */
 static gpointer next_item(GstGozdritRecv *self) {
-    while (self->src_active && gst_queue_array_is_empty(self->ready)) {
+    while (self->src_active && (self->is_held || gst_queue_array_is_empty(self->ready))) {
         self->src_waits = TRUE;
         g_cond_wait(&self->ready_cond, &self->lock);
         self->src_waits = FALSE;
@@ -267,8 +275,10 @@ static gpointer next_item(GstGozdritRecv *self) {
     if (!self->src_active) return NULL;
     gpointer item = gst_queue_array_pop_head(self->ready);
     if (GST_IS_BUFFER(item)) self->ready_packets--;
-    if (self->stalled && self->ready_packets <= self->settings.window / 2) feedback_wake(self);
-    return item;
+    if (self->stalled && self->ready_packets <= WINDOW_OF(&self->settings) / 2) feedback_wake(self);
+    if (!GST_IS_BUFFER(item)) return item;
+    self->pushed++;
+    return offset_onto(self, item);
 }
 
 /* Downstream wants no more of this stream. What is ready of it goes nowhere, but for the events: the end is still told. */

@@ -23,15 +23,25 @@ static void read_group(recv_caps *read, const GstCaps *caps) {
     if (read->rtx_ssrc < 0) read->rtx_ssrc = rtx;
 }
 
-/* The clock rate of a static type, where the caps don't tell it. */
-static gint64 rate_of(gint64 type) {
+/* What the caps don't tell. */
+gint64 receiving_static_rate(gint64 type) {
     const GstRTPPayloadInfo *info = type >= 0 && type < 96 ? gst_rtp_payload_info_for_pt((guint8)type) : NULL;
     return info ? (gint64)info->clock_rate : -1;
 }
 
+gint64 receiving_wanted_type(const GstGozdritRecv *self) {
+    if (self->settings.type >= 0 || self->in_place) return self->settings.type;
+    return self->caps.type;
+}
+
+static gint64 wanted_ssrc(const GstGozdritRecv *self) {
+    if (self->settings.ssrc != SSRC_UNSET) return self->settings.ssrc;
+    return self->in_place ? -1 : self->caps.ssrc;
+}
+
 /* Whether the session has another type or SSRC than the caps want. */
 static gboolean is_other(const GstGozdritRecv *self, const recv_caps *read) {
-    return self->end.held &&
+    return self->end.held && !self->in_place &&
            ((read->type >= 0 && self->settings.type < 0 && read->type != self->session.media_payload_type) ||
             (read->ssrc >= 0 && self->settings.ssrc == SSRC_UNSET && read->ssrc != self->session.media_ssrc));
 }
@@ -50,9 +60,19 @@ static gboolean read_rtx_caps(recv_caps *known, const GstCaps *caps) {
     return TRUE;
 }
 
+/* The clock rate of the caps is that of all types, but in a jitter buffer's place, where each packet's type is asked for. */
+static void read_rate(GstGozdritRecv *self, recv_caps *read) {
+    if (self->in_place) {
+        ptmap_forget(self);
+        return;
+    }
+    if (read->clock_rate <= 0) read->clock_rate = receiving_static_rate(read->type);
+    if (read->clock_rate != self->times.clock_rate) rtp_times_begin(&self->times, read->clock_rate);
+}
+
 gboolean receiving_caps(GstGozdritRecv *self, const GstCaps *caps) {
-    recv_caps read;
-    if (read_rtx_caps(&self->caps, caps)) return FALSE;
+    recv_caps read = {0};
+    if (!self->in_place && read_rtx_caps(&self->caps, caps)) return FALSE;
     read.type = caps_number(caps, "payload", -1);
     read.rtx_type = caps_number(caps, "rtx-payload-type", caps_number(caps, "rtx-payload", self->caps.rtx_type));
     read.ssrc = caps_number(caps, "ssrc", -1);
@@ -64,19 +84,18 @@ gboolean receiving_caps(GstGozdritRecv *self, const GstCaps *caps) {
     read.clock_rate = caps_number(caps, "clock-rate", -1);
     read_group(&read, caps);
     if (read.rtx_ssrc < 0) read.rtx_ssrc = self->caps.rtx_ssrc;
-    if (read.clock_rate <= 0) read.clock_rate = rate_of(read.type);
     if (is_other(self, &read)) receiving_end(self);
-    if (read.clock_rate != self->times.clock_rate) rtp_times_begin(&self->times, read.clock_rate);
+    read_rate(self, &read);
     self->caps = read;
+    ptmap_read_play(self, caps);
+    sync_read_caps(self, caps);
     receiving_set_times(self);
     return TRUE;
 }
 
 /* ---- the session */
 
-static gboolean is_free_ssrc(const GstGozdritRecv *self) {
-    return self->settings.ssrc == SSRC_UNSET && self->caps.ssrc < 0;
-}
+static gboolean is_free_ssrc(const GstGozdritRecv *self) { return wanted_ssrc(self) < 0; }
 
 /* The type of the retransmissions of media of a type. */
 static guint8 rtx_type_of(const GstGozdritRecv *self, guint8 media) {
@@ -86,7 +105,7 @@ static guint8 rtx_type_of(const GstGozdritRecv *self, guint8 media) {
 }
 
 gboolean receiving_is_rtx_type(const GstGozdritRecv *self, guint8 type) {
-    return type == self->rtx_type || self->types.from[type] >= 0;
+    return !self->in_place && (type == self->rtx_type || self->types.from[type] >= 0);
 }
 
 /* The SSRC of the retransmissions of media of an SSRC, as a property or the caps say it; or -1. */
@@ -98,39 +117,54 @@ static gint64 rtx_ssrc_of(const GstGozdritRecv *self, guint32 media) {
 
 /* Whether an SSRC is said to be another stream's: no media begins with it. */
 static gboolean is_taken_ssrc(const GstGozdritRecv *self, guint32 ssrc) {
+    if (self->in_place) return FALSE;
     gint64 rtx = self->settings.rtx_ssrc != SSRC_UNSET ? (gint64)self->settings.rtx_ssrc : self->caps.rtx_ssrc;
     gboolean is_ours = self->settings.receiver_ssrc != SSRC_UNSET && ssrc == self->settings.receiver_ssrc;
     return ssrc == rtx || is_ours || map_leads_to(self->ssrcs, ssrc);
+}
+
+/* The types and the SSRCs of a session in a jitter buffer's place: all packets are media there, but those that are flagged as repairs. Their
+ * types are the element's affair alone, and what the library knows repairs by is no packet's. */
+static void configure_in_place(guint8 type, gozdrit_session *session) {
+    session->media_payload_type = type < 64 || type >= 96 ? type : RTX_TYPE - 1;
+    session->rtx_payload_type = session->media_payload_type == RTX_TYPE ? RTX_TYPE + 1 : RTX_TYPE;
 }
 
 /* A session of what properties and caps say, and, where they say nothing, of the packet that begins it. */
 static void configure(GstGozdritRecv *self, guint8 type, guint32 ssrc, gozdrit_receiver_config *config) {
     const recv_settings *settings = &self->settings;
     gozdrit_session *session = &config->session;
-    gint64 rtx = rtx_ssrc_of(self, ssrc);
+    gint64 rtx = self->in_place ? -1 : rtx_ssrc_of(self, ssrc);
     gozdrit_receiver_defaults(config, sizeof *config);
     session->media_ssrc = ssrc;
     session->media_payload_type = type;
     session->any_media_payload_type = 1;
     session->rtx_payload_type = library_rtx_type(rtx_type_of(self, type), type);
-    config->learn_rtx_ssrc = rtx < 0;
+    if (self->in_place) configure_in_place(type, session);
+    config->learn_rtx_ssrc = rtx < 0 && !self->in_place;
     session->receiver_ssrc = settings->receiver_ssrc;
     if (session->receiver_ssrc == SSRC_UNSET) session->receiver_ssrc = draw_ssrc(ssrc, (guint32)rtx);
     session->rtx_ssrc = rtx < 0 ? draw_ssrc(ssrc, session->receiver_ssrc) : (guint32)rtx;
     config->latency = settings->latency;
     config->reorder_delay = settings->delay;
     config->max_nacks = (guint8)settings->nacks;
-    config->window = settings->window;
+    config->window = WINDOW_OF(settings);
+}
+
+/* Whether a packet may begin a session by its type. Those of 64 to 95 with a marker look as RTCP does (RFC 5761, section 4). */
+static gboolean is_wanted_type(const GstGozdritRecv *self, const guint8 *octets) {
+    gint64 wanted = receiving_wanted_type(self);
+    guint8 type = PACKET_TYPE(octets);
+    gboolean is_odd = type >= 64 && type < 96 && (!self->in_place || octets[1] & 128);
+    if (wanted >= 0 ? type != wanted : is_odd) return FALSE;
+    return self->in_place || !self->types.given || self->types.of[type] >= 0; /* else it has no retransmissions */
 }
 
 /* Begins a session with a packet. FALSE where it is none of a session that could be. */
 static gboolean begin(GstGozdritRecv *self, const guint8 *octets, gsize length) {
-    gint64 type = self->settings.type >= 0 ? self->settings.type : self->caps.type;
-    gint64 ssrc = self->settings.ssrc != SSRC_UNSET ? (gint64)self->settings.ssrc : self->caps.ssrc;
+    gint64 type = receiving_wanted_type(self), ssrc = wanted_ssrc(self);
     gozdrit_receiver_config config;
-    if (length < 12 || octets[0] >> 6 != 2) return FALSE;
-    if (type >= 0 ? type != PACKET_TYPE(octets) : PACKET_TYPE(octets) >= 64 && PACKET_TYPE(octets) < 96) return FALSE;
-    if (self->types.given && self->types.of[PACKET_TYPE(octets)] < 0) return FALSE; /* it has no retransmissions */
+    if (length < 12 || octets[0] >> 6 != 2 || !is_wanted_type(self, octets)) return FALSE;
     configure(self, PACKET_TYPE(octets), ssrc >= 0 ? (guint32)ssrc : PACKET_SSRC(octets), &config);
     if (ssrc >= 0 ? ssrc != PACKET_SSRC(octets) : is_taken_ssrc(self, PACKET_SSRC(octets))) return FALSE;
     /* a repair came first */
@@ -142,21 +176,10 @@ static gboolean begin(GstGozdritRecv *self, const guint8 *octets, gsize length) 
     self->sessions++;
     if (self->caps.first >= 0) gozdrit_begin(&self->end, (guint16)self->caps.first);
     self->caps.first = -1; /* is the first stream's alone */
-    if (self->times.clock_rate == 0) rtp_times_begin(&self->times, rate_of(PACKET_TYPE(octets)));
+    if (self->times.clock_rate == 0 && !self->in_place) rtp_times_begin(&self->times, receiving_static_rate(PACKET_TYPE(octets)));
     playing_begin_stream(self);
     receiving_set_times(self);
     return TRUE;
-}
-
-/* What was counted so far: by the sessions before, and by this one. */
-static void count_all(const GstGozdritRecv *self, gozdrit_receive_counts *counts, gozdrit_probe_counts *probes) {
-    gozdrit_receive_counts more = GOZDRIT_RECEIVE_COUNTS_INIT;
-    gozdrit_probe_counts more_probes = GOZDRIT_PROBE_COUNTS_INIT;
-    *counts = self->past;
-    *probes = self->past_probes;
-    if (gozdrit_receiver_counts(&self->end, &more) == GOZDRIT_OK) add_counts(counts, &more, sizeof more);
-    if (gozdrit_receiver_probe_counts(&self->end, &more_probes) == GOZDRIT_OK)
-        add_counts(probes, &more_probes, sizeof more_probes);
 }
 
 void receiving_end(GstGozdritRecv *self) {
@@ -164,17 +187,19 @@ void receiving_end(GstGozdritRecv *self) {
     if (!self->end.held) return;
     playing_all(self, G_MAXINT64); /* at this time no latency has not passed */
     playing_release(self);
-    count_all(self, &self->past, &self->past_probes);
+    counts_all(self, &self->past, &self->past_probes);
     gozdrit_receiver_free(&self->end);
     g_clear_pointer(&self->asked, g_free);
     playing_forget(self);
-    rtp_times_begin(&self->times, self->times.clock_rate);
+    ptmap_begin_times(self);
+    sync_forget(self);
 }
 
 void receiving_flush(GstGozdritRecv *self) {
     gst_clear_buffer(&self->other.buffer);
     if (self->end.held) gozdrit_reset(&self->end);
-    rtp_times_begin(&self->times, self->times.clock_rate);
+    ptmap_begin_times(self);
+    sync_forget(self);
     playing_clear(self);
     playing_forget(self);
     playing_begin_stream(self);
@@ -194,8 +219,13 @@ static GstClockTime time_of(GstGozdritRecv *self, GstBuffer *buffer) {
     return gst_segment_position_from_running_time(&self->segment, GST_FORMAT_TIME, now);
 }
 
+/* In a jitter buffer's place what the library can't hold keeps its place all the same. */
+static gboolean is_long(const GstGozdritRecv *self, const guint8 *octets, gsize length) {
+    return self->in_place && jitter_is_long(octets, length);
+}
+
 /* Notes how a media packet came that was taken, or held back. */
-static void note_arrival(GstGozdritRecv *self, GstBuffer *buffer, const guint8 *octets, gboolean believed) {
+static void note_arrival(GstGozdritRecv *self, GstBuffer *buffer, const guint8 *octets, gsize length, gboolean believed) {
     arrival *noted = &self->arrivals[PACKET_SEQUENCE(octets) % ARRIVALS];
     gst_buffer_replace(&noted->buffer, buffer);
     noted->pts = time_of(self, buffer);
@@ -205,7 +235,10 @@ static void note_arrival(GstGozdritRecv *self, GstBuffer *buffer, const guint8 *
     noted->type = PACKET_TYPE(octets);
     noted->is_repair = FALSE;
     noted->is_taken = believed;
-    if (believed) rtp_times_arrived(&self->times, noted->timestamp, noted->pts);
+    noted->is_long = is_long(self, octets, length);
+    self->last_type = noted->type;
+    if (believed) rtp_times_arrived(ptmap_times(self, noted->type), noted->timestamp, noted->pts);
+    if (believed) ptmap_note_time(self, noted->timestamp);
 }
 
 /* The type of the media that retransmissions of a type are of: what a map says, or that of the first packet. */
@@ -215,22 +248,23 @@ static guint8 type_behind(const GstGozdritRecv *self, guint8 rtx_type) {
 }
 
 /* Notes the buffer of a packet's repair: when that came says nothing of the packet's time. */
-static void note_repair(GstGozdritRecv *self, GstBuffer *buffer, const guint8 *octets, guint64 sequence) {
+static void note_repair(GstGozdritRecv *self, GstBuffer *buffer, const guint8 *octets, gsize length, guint64 sequence) {
     arrival *noted = &self->arrivals[(guint16)sequence % ARRIVALS];
     gst_buffer_replace(&noted->buffer, buffer);
     noted->timestamp = PACKET_TIMESTAMP(octets);
     noted->number = (guint16)sequence;
     noted->type = PACKET_SSRC(octets) == self->session.media_ssrc ? PACKET_TYPE(octets) : type_behind(self, PACKET_TYPE(octets));
     noted->is_repair = TRUE;
+    noted->is_long = is_long(self, octets, length);
 }
 
 /* The stream goes on elsewhere: what came with the old numbers goes out before it. */
-static void restarted(GstGozdritRecv *self, GstBuffer *buffer, const guint8 *octets) {
+static void restarted(GstGozdritRecv *self, GstBuffer *buffer, const guint8 *octets, gsize length) {
     playing_release(self);
     playing_begin_stream(self);
     playing_forget(self);
-    rtp_times_begin(&self->times, self->times.clock_rate);
-    note_arrival(self, buffer, octets, TRUE);
+    ptmap_begin_times(self);
+    note_arrival(self, buffer, octets, length, TRUE);
 }
 
 static void take(GstGozdritRecv *self, GstBuffer *buffer, const guint8 *octets, gsize length, guint64 now);
@@ -239,7 +273,7 @@ static void take(GstGozdritRecv *self, GstBuffer *buffer, const guint8 *octets, 
  * type. */
 static gboolean is_other_stream(const GstGozdritRecv *self, const guint8 *octets, guint8 refusal) {
     return (refusal == GOZDRIT_UNKNOWN_SSRC || refusal == GOZDRIT_UNKNOWN_PAYLOAD_TYPE) && is_free_ssrc(self) &&
-           PACKET_TYPE(octets) == self->session.media_payload_type && PACKET_SSRC(octets) != self->session.media_ssrc &&
+           (self->in_place || PACKET_TYPE(octets) == self->session.media_payload_type) && PACKET_SSRC(octets) != self->session.media_ssrc &&
            !is_taken_ssrc(self, PACKET_SSRC(octets));
 }
 
@@ -271,7 +305,8 @@ static void take_other(GstGozdritRecv *self, GstBuffer *buffer, const guint8 *oc
 static guint8 library_type(const GstGozdritRecv *self, const guint8 *octets) {
     guint8 type = PACKET_TYPE(octets), known = self->session.rtx_payload_type;
     if (receiving_is_rtx_type(self, type)) return known;
-    if (PACKET_SSRC(octets) == self->session.media_ssrc && (type < 64 || type >= 96)) return self->session.media_payload_type;
+    gboolean may_be_media = self->in_place || type < 64 || type >= 96;
+    if (PACKET_SSRC(octets) == self->session.media_ssrc && may_be_media) return self->session.media_payload_type;
     return type == known ? self->rtx_type : type;
 }
 
@@ -279,9 +314,14 @@ static guint8 library_type(const GstGozdritRecv *self, const guint8 *octets) {
 static guint8 *rewritten(GstGozdritRecv *self, GstBuffer *buffer, const guint8 *octets, gsize *length) {
     guint8 *copy = NULL;
     if (*length < 12) return NULL;
+    gboolean stands_in = is_long(self, octets, *length);
     if (auxiliary_is_repair(self, buffer, octets, *length)) {
-        copy = auxiliary_wrap(self, octets, *length);
+        guint8 *other = stands_in ? jitter_stand_in(octets, PACKET_TYPE(octets), length) : NULL;
+        copy = auxiliary_wrap(self, other ? other : octets, *length);
         if (copy) *length += 2;
+        g_free(other);
+    } else if (stands_in) {
+        copy = jitter_stand_in(octets, library_type(self, octets), length);
     } else if (library_type(self, octets) != PACKET_TYPE(octets)) {
         copy = g_malloc(*length);
         memcpy(copy, octets, *length);
@@ -316,8 +356,18 @@ static void pass_other(GstGozdritRecv *self, GstBuffer *buffer, const guint8 *oc
     }
 }
 
+/* The number of a packet that came too late, and its time. A retransmission has the number of its packet in front of the payload. */
+static void note_late(GstGozdritRecv *self, GstBuffer *buffer, const guint8 *octets, gsize length) {
+    gsize head = packet_head(octets, length);
+    gboolean is_media = PACKET_SSRC(octets) == self->session.media_ssrc;
+    if (!is_media && (head == 0 || length < head + 2)) return;
+    GstClockTime own = rtp_times_of(ptmap_times(self, PACKET_TYPE(octets)), PACKET_TIMESTAMP(octets));
+    jitter_dropped(self, GST_READ_UINT16_BE(octets + (is_media ? 2 : head)), GST_CLOCK_TIME_IS_VALID(own) ? own : GST_BUFFER_PTS(buffer), TRUE);
+}
+
 static void refuse(GstGozdritRecv *self, GstBuffer *buffer, const guint8 *octets, gsize length, guint64 now, guint8 refusal) {
     GST_LOG_OBJECT(self, "not taken: %s", gozdrit_refusal_name(refusal));
+    if (refusal == GOZDRIT_LATE) note_late(self, buffer, octets, length);
     if (refusal == GOZDRIT_TOO_LONG) self->refused = GOZDRIT_TOO_LONG;
     if (auxiliary_is(self) && is_unknown(self, octets, length, refusal)) pass_other(self, buffer, octets, length, now);
     else if (is_other_stream(self, octets, refusal)) take_other(self, buffer, octets, length, now);
@@ -328,10 +378,10 @@ static void take(GstGozdritRecv *self, GstBuffer *buffer, const guint8 *octets, 
     if (receive(self, buffer, octets, length, now, &received) != GOZDRIT_OK) return;
     if (received.kind != GOZDRIT_REFUSED && received.kind != GOZDRIT_RTCP) self->last_media = now;
     switch (received.kind) {
-    case GOZDRIT_MEDIA: note_arrival(self, buffer, octets, TRUE); break;
-    case GOZDRIT_HELD_BACK: note_arrival(self, buffer, octets, FALSE); break;
-    case GOZDRIT_RETRANSMISSION: note_repair(self, buffer, octets, received.sequence); break;
-    case GOZDRIT_RESTARTED: restarted(self, buffer, octets); break;
+    case GOZDRIT_MEDIA: note_arrival(self, buffer, octets, length, TRUE); break;
+    case GOZDRIT_HELD_BACK: note_arrival(self, buffer, octets, length, FALSE); break;
+    case GOZDRIT_RETRANSMISSION: note_repair(self, buffer, octets, length, received.sequence); break;
+    case GOZDRIT_RESTARTED: restarted(self, buffer, octets, length); break;
     case GOZDRIT_REFUSED: refuse(self, buffer, octets, length, now, received.refusal); break;
     default: break;
     }
@@ -351,63 +401,33 @@ static guint64 retry_of(const GstGozdritRecv *self) {
     return self->settings.retry < 0 ? USUAL_TRIP : (guint64)MAX(self->settings.retry, 1);
 }
 
-/* The times in force, and the round trip. */
-static gozdrit_times times_of(const GstGozdritRecv *self) {
+gozdrit_times receiving_times(const GstGozdritRecv *self) {
     gozdrit_times times = GOZDRIT_TIMES_INIT;
     if (self->end.held) gozdrit_receiver_times(&self->end, &times);
     return times;
 }
 
 guint64 receiving_step(const GstGozdritRecv *self) {
-    return MAX(MIN(self->settings.delay, times_of(self).nack_interval), 1);
+    return MAX(MIN(self->settings.delay, receiving_times(self).nack_interval), 1);
+}
+
+/* Whether anything is asked for. In a jitter buffer's place that is a property's to say, unless somebody took the pad of feedback. */
+static gboolean asks(const GstGozdritRecv *self) {
+    if (self->caps.nack == 0) return FALSE;
+    return !self->in_place || self->settings.do_retransmission || feedback_is_taken(self);
+}
+
+/* How long a missing packet is waited for: what goes out later by an offset may come later. */
+static guint64 latency_of(const GstGozdritRecv *self) {
+    gint64 offset = (self->offset.now + self->offset.paused) / (gint64)GST_MSECOND, latency = self->settings.latency;
+    return (guint64)MAX(latency + offset, 0);
 }
 
 /* The times follow what the library measures of the path, and a packet is given up by when it was sent, where no property says how
  * long an answer is waited for. */
 void receiving_set_times(GstGozdritRecv *self) {
-    gboolean wanted = self->caps.nack != 0;
     if (!self->end.held) return;
-    gozdrit_set_times(&self->end, self->settings.latency, wanted ? self->settings.delay : NEVER, retry_of(self));
+    gboolean wanted = asks(self);
+    gozdrit_set_times(&self->end, latency_of(self), wanted ? self->settings.delay : NEVER, retry_of(self));
     gozdrit_set_adaptive(&self->end, wanted && self->settings.retry < 0 ? GOZDRIT_ADAPTIVE_SEND_TIME : GOZDRIT_ADAPTIVE_OFF);
-}
-
-/* ---- counts */
-
-gozdrit_receive_counts receiving_sums(const GstGozdritRecv *self) {
-    gozdrit_receive_counts counts;
-    gozdrit_probe_counts probes;
-    count_all(self, &counts, &probes);
-    return counts;
-}
-
-GstStructure *receiving_counts(GstGozdritRecv *self) {
-    GstStructure *told = gst_structure_new_empty("application/x-gozdrit-receive-counts");
-    gozdrit_receive_counts counts;
-    gozdrit_probe_counts probes;
-    count_all(self, &counts, &probes);
-    ADD_COUNT(told, "media", counts.media);
-    ADD_COUNT(told, "retransmissions", counts.retransmissions);
-    ADD_COUNT(told, "held-back", counts.held_back);
-    ADD_COUNT(told, "restarts", counts.restarts);
-    ADD_COUNT(told, "rtcp", counts.rtcp);
-    ADD_COUNT(told, "padding", probes.padding);
-    ADD_COUNT(told, "unasked", probes.unrequested);
-    ADD_COUNT(told, "duplicate", probes.duplicate);
-    ADD_COUNT(told, "late", probes.late);
-    ADD_COUNT(told, "far", counts.too_far);
-    ADD_COUNT(told, "refused", probes.refused);
-    ADD_COUNT(told, "overrun", counts.overrun);
-    ADD_COUNT(told, "abandoned", counts.abandoned);
-    ADD_COUNT(told, "played", counts.played);
-    ADD_COUNT(told, "gaps", counts.gaps);
-    ADD_COUNT(told, "nacks", counts.nacks);
-    ADD_COUNT(told, "nacked", counts.nacked);
-    ADD_COUNT(told, "strays", self->strays);
-    ADD_COUNT(told, "other-types", self->unwanted);
-    ADD_COUNT(told, "passed", self->passed);
-    ADD_COUNT(told, "dropped", self->dropped);
-    ADD_COUNT(told, "sessions", self->sessions);
-    ADD_COUNT(told, "key-requests", self->key_requests);
-    ADD_COUNT(told, "rtx-round-trip", times_of(self).round_trip * MILLISECOND);
-    return told;
 }

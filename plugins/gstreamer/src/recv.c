@@ -23,6 +23,10 @@
  * `GstRTPRetransmissionRequest` that go upstream, packets of other streams and types go through, and media that are flagged as
  * retransmissions are repairs.
  *
+ * Where somebody answers #GstGozdritRecv::request-pt-map as it begins, or took the pad `sink_rtcp`, it stands in the place of an
+ * rtpjitterbuffer, as an rtpbin has it from `request-jitterbuffer`: all packets of its stream are media, of whatever types, it asks by those
+ * events where #GstGozdritRecv:do-retransmission is set, and tells sender reports by #GstGozdritRecv::handle-sync.
+ *
  * ## Example pipeline
  * |[
  * gst-launch-1.0 udpsrc port=6004 caps=application/x-rtp,media=video,clock-rate=90000,encoding-name=VP8,payload=96
@@ -32,32 +36,15 @@
  */
 #include "recv.h"
 
-enum {
-    PROP_LATENCY = 1,
-    PROP_DELAY,
-    PROP_RETRY,
-    PROP_NACKS,
-    PROP_WINDOW,
-    PROP_SSRC,
-    PROP_RTX_SSRC,
-    PROP_RECEIVER_SSRC,
-    PROP_TYPE,
-    PROP_RTX_TYPE,
-    PROP_DO_LOST,
-    PROP_TYPE_MAP,
-    PROP_SSRC_MAP,
-    PROP_REQUESTS,
-    PROP_PACKETS,
-    PROP_TAKEN,
-    PROP_STATS
-};
-
 static GstStaticPadTemplate sink_template =
     GST_STATIC_PAD_TEMPLATE("sink", GST_PAD_SINK, GST_PAD_ALWAYS, GST_STATIC_CAPS("application/x-rtp"));
 static GstStaticPadTemplate src_template =
     GST_STATIC_PAD_TEMPLATE("src", GST_PAD_SRC, GST_PAD_ALWAYS, GST_STATIC_CAPS("application/x-rtp"));
 static GstStaticPadTemplate feedback_template =
     GST_STATIC_PAD_TEMPLATE("feedback_src", GST_PAD_SRC, GST_PAD_ALWAYS, GST_STATIC_CAPS("application/x-rtcp"));
+
+static GstStaticPadTemplate reports_template =
+    GST_STATIC_PAD_TEMPLATE("sink_rtcp", GST_PAD_SINK, GST_PAD_REQUEST, GST_STATIC_CAPS("application/x-rtcp"));
 
 G_DEFINE_TYPE(GstGozdritRecv, gst_gozdrit_recv, GST_TYPE_ELEMENT)
 
@@ -86,6 +73,7 @@ static GstFlowReturn chain(GstPad *pad, GstObject *parent, GstBuffer *buffer) {
     gsize length = 0;
     GstMapInfo map;
     (void)pad;
+    ptmap_ask(self, buffer);
     g_mutex_lock(&self->lock);
     GstFlowReturn flow = self->flow;
     if (flow == GST_FLOW_OK && gst_buffer_map(buffer, &map, GST_MAP_READ)) {
@@ -101,8 +89,12 @@ static GstFlowReturn chain(GstPad *pad, GstObject *parent, GstBuffer *buffer) {
         self->refused = GOZDRIT_OK;
         self->untold = -1;
     }
+    gboolean reported = self->sync.last.buffer != NULL; /* what came before the first packet */
+    GstMessage *dropped = g_steal_pointer(&self->drops.next);
     g_mutex_unlock(&self->lock);
     gst_clear_buffer(&buffer);
+    if (reported) sync_tell(self);
+    if (dropped) gst_element_post_message(GST_ELEMENT(self), dropped);
     if (other >= 0)
         GST_ELEMENT_WARNING(self, STREAM, WRONG_TYPE, ("A packet of another payload type is dropped, as others may be."),
                             ("its type is %d, and that of the caps or of payload-type is not", other));
@@ -239,10 +231,25 @@ static GstIterator *linked_inside(GstPad *pad, GstObject *parent) {
 
 /* ---- states */
 
+/* What it stands in the place of is seen as it begins: somebody answers what a jitter buffer asks, or took the pad of reports. */
+static void begin_in_place(GstGozdritRecv *self, gboolean is_answered) {
+    self->in_place = is_answered || self->reports != NULL;
+    self->npt_due = G_MAXUINT64;
+    self->last_out = self->offset.frame = GST_CLOCK_TIME_NONE;
+    self->pushed = self->given_up = 0;
+    self->has_dropped = FALSE;
+    g_clear_pointer(&self->drops.next, gst_message_unref);
+    self->drops = (drop_messages){0};
+    ptmap_forget(self);
+    sync_forget(self);
+}
+
 static void begin(GstGozdritRecv *self) {
+    gboolean is_answered = ptmap_is_answered(self);
     g_mutex_lock(&self->lock);
     element_time_begin(&self->time, GST_ELEMENT(self));
-    self->caps = (recv_caps){-1, -1, -1, -1, -1, -1, -1, FALSE, FALSE};
+    begin_in_place(self, is_answered);
+    self->caps = (recv_caps){-1, -1, -1, -1, -1, -1, -1, FALSE, FALSE, -1, 0, -1};
     self->past = (gozdrit_receive_counts)GOZDRIT_RECEIVE_COUNTS_INIT;
     self->past_probes = (gozdrit_probe_counts)GOZDRIT_PROBE_COUNTS_INIT;
     self->sessions = self->strays = self->unwanted = self->key_requests = self->passed = self->dropped = self->rtx_came = 0;
@@ -255,7 +262,11 @@ static void begin(GstGozdritRecv *self) {
     gst_segment_init(&self->segment, GST_FORMAT_UNDEFINED);
     rtp_times_begin(&self->times, 0);
     playing_begin_stream(self);
+    guint window = self->settings.window;
     g_mutex_unlock(&self->lock);
+    if (window == 0 || window > GOZDRIT_MAX_STORE)
+        GST_ELEMENT_WARNING(self, LIBRARY, SETTINGS, ("No more than %d packets are kept while one is missing.", GOZDRIT_MAX_STORE),
+                            ("max-size-packets is %u, and that is the most that the library keeps", window));
 }
 
 /* The counts can still be read. */
@@ -296,63 +307,6 @@ static gboolean set_clock(GstElement *element, GstClock *clock) {
     return GST_ELEMENT_CLASS(gst_gozdrit_recv_parent_class)->set_clock(element, clock);
 }
 
-/* ---- properties */
-
-static void set_property(GObject *object, guint id, const GValue *value, GParamSpec *spec) {
-    GstGozdritRecv *self = GST_GOZDRIT_RECV(object);
-    recv_settings *settings = &self->settings;
-    g_mutex_lock(&self->lock);
-    switch (id) {
-    case PROP_LATENCY: settings->latency = g_value_get_uint(value); break;
-    case PROP_DELAY: settings->delay = g_value_get_uint(value); break;
-    case PROP_RETRY: settings->retry = g_value_get_int(value); break;
-    case PROP_NACKS: settings->nacks = g_value_get_uint(value); break;
-    case PROP_WINDOW: settings->window = g_value_get_uint(value); break;
-    case PROP_SSRC: settings->ssrc = g_value_get_uint(value); break;
-    case PROP_RTX_SSRC: settings->rtx_ssrc = g_value_get_uint(value); break;
-    case PROP_RECEIVER_SSRC: settings->receiver_ssrc = g_value_get_uint(value); break;
-    case PROP_TYPE: settings->type = g_value_get_int(value); break;
-    case PROP_RTX_TYPE: settings->rtx_type = g_value_get_int(value); break;
-    case PROP_DO_LOST: settings->do_lost = g_value_get_boolean(value); break;
-    case PROP_TYPE_MAP: type_map_set(&self->types, g_value_get_boxed(value)); break;
-    case PROP_SSRC_MAP:
-        g_clear_pointer(&self->ssrcs, gst_structure_free);
-        self->ssrcs = g_value_dup_boxed(value);
-        break;
-    default: G_OBJECT_WARN_INVALID_PROPERTY_ID(object, id, spec);
-    }
-    receiving_set_times(self);
-    feedback_wake(self);
-    g_mutex_unlock(&self->lock);
-    if (id == PROP_LATENCY) gst_element_post_message(GST_ELEMENT(self), gst_message_new_latency(GST_OBJECT(self)));
-}
-
-static void get_property(GObject *object, guint id, GValue *value, GParamSpec *spec) {
-    GstGozdritRecv *self = GST_GOZDRIT_RECV(object);
-    const recv_settings *settings = &self->settings;
-    g_mutex_lock(&self->lock);
-    switch (id) {
-    case PROP_LATENCY: g_value_set_uint(value, settings->latency); break;
-    case PROP_DELAY: g_value_set_uint(value, settings->delay); break;
-    case PROP_RETRY: g_value_set_int(value, settings->retry); break;
-    case PROP_NACKS: g_value_set_uint(value, settings->nacks); break;
-    case PROP_WINDOW: g_value_set_uint(value, settings->window); break;
-    case PROP_SSRC: g_value_set_uint(value, settings->ssrc); break;
-    case PROP_RTX_SSRC: g_value_set_uint(value, settings->rtx_ssrc); break;
-    case PROP_RECEIVER_SSRC: g_value_set_uint(value, settings->receiver_ssrc); break;
-    case PROP_TYPE: g_value_set_int(value, settings->type); break;
-    case PROP_RTX_TYPE: g_value_set_int(value, settings->rtx_type); break;
-    case PROP_DO_LOST: g_value_set_boolean(value, settings->do_lost); break;
-    case PROP_TYPE_MAP: g_value_set_boxed(value, self->types.given); break;
-    case PROP_REQUESTS: g_value_set_uint(value, (guint)MIN(receiving_sums(self).nacked, G_MAXUINT)); break;
-    case PROP_PACKETS: g_value_set_uint(value, (guint)MIN(self->rtx_came, G_MAXUINT)); break;
-    case PROP_TAKEN: g_value_set_uint(value, (guint)MIN(receiving_sums(self).retransmissions, G_MAXUINT)); break;
-    case PROP_STATS: g_value_take_boxed(value, receiving_counts(self)); break;
-    default: G_OBJECT_WARN_INVALID_PROPERTY_ID(object, id, spec);
-    }
-    g_mutex_unlock(&self->lock);
-}
-
 static void finalize(GObject *object) {
     GstGozdritRecv *self = GST_GOZDRIT_RECV(object);
     gst_clear_buffer(&self->other.buffer);
@@ -361,6 +315,9 @@ static void finalize(GObject *object) {
     element_time_end(&self->time);
     gst_queue_array_free(self->ready);
     playing_forget(self);
+    sync_forget(self);
+    g_clear_pointer(&self->sync.names, g_hash_table_destroy);
+    g_clear_pointer(&self->drops.next, gst_message_unref);
     type_map_set(&self->types, NULL);
     g_clear_pointer(&self->ssrcs, gst_structure_free);
     g_free(self->asked);
@@ -374,62 +331,24 @@ static void finalize(GObject *object) {
 
 /* ---- the class */
 
-static void install_uint(GObjectClass *class, guint id, const gchar *name, const gchar *blurb, guint least, guint most,
-                         guint otherwise) {
-    g_object_class_install_property(
-        class, id, g_param_spec_uint(name, NULL, blurb, least, most, otherwise, PROPERTY_FLAGS));
-}
-
-static void install_int(GObjectClass *class, guint id, const gchar *name, const gchar *blurb, gint least, gint most) {
-    g_object_class_install_property(class, id, g_param_spec_int(name, NULL, blurb, least, most, -1, PROPERTY_FLAGS));
-}
-
-static void install_properties(GObjectClass *class) {
-    install_uint(class, PROP_LATENCY, "latency", "How long a missing packet is waited for, in ms", 0, G_MAXUINT, 200);
-    install_uint(class, PROP_DELAY, "rtx-delay", "How long a missing packet is waited for before the first NACK, in ms: as long as "
-                 "the network holds packets back behind later ones, which takes its place once a round trip was measured, where "
-                 "rtx-retry-timeout is -1", 0, G_MAXUINT, 20);
-    install_int(class, PROP_RETRY, "rtx-retry-timeout", "How long an answer to a NACK is waited for before the next one, in ms "
-                "(-1 == by the round trips that are measured, so that as many NACKs as fit have their answers within the latency)", -1, G_MAXINT);
-    install_uint(class, PROP_NACKS, "rtx-max-retries", "How often one packet is asked for at most", 1, 255, 8);
-    install_uint(class, PROP_WINDOW, "max-size-packets", "How many packets are kept while one is missing", 1, GOZDRIT_MAX_STORE,
-                 1024);
-    install_uint(class, PROP_SSRC, "ssrc", "The SSRC of the media (default == that of the caps or of the first packet)", 0,
-                 G_MAXUINT32, SSRC_UNSET);
-    install_uint(class, PROP_RTX_SSRC, "rtx-ssrc", "The SSRC of the retransmissions (default == that of the caps, or learnt)", 0,
-                 G_MAXUINT32, SSRC_UNSET);
-    install_uint(class, PROP_RECEIVER_SSRC, "receiver-ssrc", "The SSRC that NACKs are sent from (default == random)", 0,
-                 G_MAXUINT32, SSRC_UNSET);
-    install_int(class, PROP_TYPE, "payload-type", "The payload type of the media (-1 == that of the caps or of the first packet)",
-                -1, 127);
-    install_int(class, PROP_RTX_TYPE, "rtx-payload-type", "The payload type of the retransmissions (-1 == that of the caps, or 97)",
-                -1, 127);
-    install_map(class, PROP_TYPE_MAP, "payload-type-map", "The payload types of media, and of their retransmissions: with it, no stream of "
-                "other types begins (default == all, and rtx-payload-type)", G_PARAM_READWRITE);
-    install_map(class, PROP_SSRC_MAP, "ssrc-map", "SSRCs of media, and of their retransmissions (default == learnt)", G_PARAM_WRITABLE);
-    install_count(class, PROP_REQUESTS, "num-rtx-requests", "How many packets were asked for, each as often as it was");
-    install_count(class, PROP_PACKETS, "num-rtx-packets", "How many retransmissions came");
-    install_count(class, PROP_TAKEN, "num-rtx-assoc-packets", "How many of these were taken");
-    g_object_class_install_property(
-        class, PROP_DO_LOST, g_param_spec_boolean("do-lost", NULL, "Send an event GstRTPPacketLost downstream for each packet that "
-                                                  "is lost for good", FALSE, PROPERTY_FLAGS));
-    g_object_class_install_property(
-        class, PROP_STATS, g_param_spec_boxed("stats", NULL, "What was counted since the element began: the library's counts",
-                                              GST_TYPE_STRUCTURE, (GParamFlags)(G_PARAM_READABLE | G_PARAM_STATIC_STRINGS)));
-}
-
 static void gst_gozdrit_recv_class_init(GstGozdritRecvClass *class) {
     GstElementClass *element = GST_ELEMENT_CLASS(class);
     GObjectClass *object = G_OBJECT_CLASS(class);
-    object->set_property = set_property;
-    object->get_property = get_property;
+    object->set_property = properties_set;
+    object->get_property = properties_get;
     object->finalize = finalize;
     element->change_state = change_state;
     element->set_clock = set_clock;
-    install_properties(object);
+    element->request_new_pad = sync_request_pad;
+    element->release_pad = sync_release_pad;
+    properties_install(object);
+    ptmap_install(object);
+    sync_install(object);
+    jitter_install(object);
     gst_element_class_add_static_pad_template(element, &sink_template);
     gst_element_class_add_static_pad_template(element, &src_template);
     gst_element_class_add_static_pad_template(element, &feedback_template);
+    gst_element_class_add_static_pad_template(element, &reports_template);
     gst_element_class_set_static_metadata(element, "RTP receiver that asks for what was lost", "Codec/Network/RTP",
                                           "Receives RTP packets, and asks for the lost ones by generic NACK (RFC 4585, RFC 4588)",
                                           "Gozdrit maintainers");
@@ -460,7 +379,8 @@ static void init_pads(GstGozdritRecv *self) {
 
 static void gst_gozdrit_recv_init(GstGozdritRecv *self) {
     self->settings = (recv_settings){.latency = 200, .delay = 20, .retry = -1, .nacks = 8, .window = 1024, .ssrc = SSRC_UNSET,
-                                     .rtx_ssrc = SSRC_UNSET, .receiver_ssrc = SSRC_UNSET, .type = -1, .rtx_type = -1};
+                                     .rtx_ssrc = SSRC_UNSET, .receiver_ssrc = SSRC_UNSET, .type = -1, .rtx_type = -1,
+                                     .drops_interval = 200, .most_ahead = 1000, .mode = MODE_SLAVE};
     g_mutex_init(&self->starting);
     g_mutex_init(&self->lock);
     g_cond_init(&self->ready_cond);

@@ -1,9 +1,11 @@
-/* gozdritrecv, the receiving element. recv.c is the element: its pads, properties and states. receiving.c takes packets into
- * the session, playing.c makes of what the session plays what goes out, feedback.c has the timer, tasks.c
- * tells when each of them runs, and auxiliary.c is for where nobody takes feedback.
+/* gozdritrecv, the receiving element. recv.c is the element: its pads and states; properties.c has its properties. receiving.c takes
+ * packets into the session, playing.c makes of what the session plays what goes out, feedback.c has the timer, tasks.c
+ * tells when each of them runs, and auxiliary.c is for where nobody takes feedback. What a jitter buffer has beside that is in jitter.c,
+ * ptmap.c, sync.c and offset.c.
  *
  * Three threads run in it. The one that packets come by takes them, and never waits. The source pad's task pushes what
- * was played, and waits for what is behind it. The feedback pad's task waits for the session's next timeout, and asks. */
+ * was played, and waits for what is behind it. The feedback pad's task waits for the session's next timeout, and asks. Reports come by a
+ * fourth one. Signals are emitted without the lock. */
 #ifndef GOZDRIT_GST_RECV_H
 #define GOZDRIT_GST_RECV_H
 
@@ -28,13 +30,31 @@ typedef struct recv_settings {
     gint type;             /* -1: that of the caps or of the first packet */
     gint rtx_type;         /* -1: that of the caps, or RTX_TYPE */
     gboolean do_lost;
+    gboolean do_retransmission; /* looked at in a jitter buffer's place alone */
+    gboolean drop_on_latency;
+    gboolean tells_drops;
+    guint drops_interval; /* from one such message to the next */
+    gint most_ahead;      /* of a report's timestamp before the newest packet's; -1: any */
+    guint sync_interval;
+    guint64 offset_step; /* nanoseconds by which ts-offset moves with each frame; 0: at once */
+    gboolean adds_meta;
+    gint mode;
 } recv_settings;
+
+/* What there is no more of, or is the most that there is of it, in the library. */
+#define WINDOW_OF(settings) ((settings)->window == 0 || (settings)->window > GOZDRIT_MAX_STORE ? GOZDRIT_MAX_STORE : (settings)->window)
+
+/* The values of the property `mode`, as rtpjitterbuffer has them. The times of packets follow the far clock, or, where both clocks are said to
+ * be one, the first packet alone. */
+enum { MODE_NONE = 0, MODE_SLAVE = 1, MODE_BUFFER = 2, MODE_SYNCED = 4 };
 
 /* What the caps say of the session; -1 where they don't. */
 typedef struct recv_caps {
     gint64 type, rtx_type, ssrc, rtx_ssrc, first, clock_rate;
     gint64 nack; /* 0: NACKs are not wanted */
     gboolean pli, fir; /* those requests for a key frame are */
+    gint64 clock_base; /* the timestamp at which the stream begins, */
+    gint64 npt_start, npt_stop; /* and its times of play, in nanoseconds */
 } recv_caps;
 
 /* How a packet came: its buffer, and of a media packet the times and the payload type. A packet with another number or timestamp is not the
@@ -47,6 +67,7 @@ typedef struct arrival {
     guint8 type;
     gboolean is_repair; /* the buffer is that of its retransmission */
     gboolean is_taken;  /* the library took what is in the buffer, and held nothing back of it */
+    gboolean is_long;   /* the library has another packet in its place: what goes out is in the buffer alone */
 } arrival;
 
 /* Both the window and what is held back after a jump have a place: twice the largest window. */
@@ -69,6 +90,44 @@ typedef struct candidate {
     guint16 next;
 } candidate;
 
+/* The clock rates of payload types in a jitter buffer's place, and the times of packets that have another rate than the first one, by that
+ * rate. */
+enum { OTHER_RATES = 7 };
+typedef struct type_rates {
+    gint64 of[128]; /* 0: not asked for so far; -1: nobody knows it */
+    rtp_times others[OTHER_RATES];
+} type_rates;
+
+/* A sender report: which time of the far clock a timestamp of which stream is. */
+typedef struct sender_report {
+    GstBuffer *buffer; /* NULL where it was told, or dropped */
+    guint32 ssrc, timestamp;
+    GstClockTime ntp; /* nanoseconds since 1900 */
+} sender_report;
+
+typedef struct sync_state {
+    sender_report last;
+    gboolean is_known; /* there was one */
+    GstClockTime told; /* the time of the last one that was told, or GST_CLOCK_TIME_NONE */
+    GHashTable *names; /* the CNAMEs of streams, by their SSRCs */
+} sync_state;
+
+/* What is added to the times of what goes out, in nanoseconds. */
+typedef struct out_offset {
+    gint64 now, wanted; /* of ts-offset */
+    gint64 paused;      /* the time that the element stood still on behalf of set-active */
+    gboolean has_moved; /* which the next packet tells */
+    GstClockTime frame; /* of the last packet, before the offset */
+} out_offset;
+
+/* Messages of what was dropped. */
+typedef struct drop_messages {
+    GstMessage *next; /* to be posted without the lock, or NULL */
+    guint late, on_latency; /* since the last message */
+    guint64 last; /* when it was, in milliseconds, where */
+    gboolean has_told;
+} drop_messages;
+
 /* The stream of feedback ends with that of the media, and begins anew with the next one. */
 typedef enum feedback_stage { FEEDBACK_TO_BEGIN, FEEDBACK_GOES, FEEDBACK_HAS_ENDED } feedback_stage;
 
@@ -77,6 +136,7 @@ struct _GstGozdritRecv {
     GstPad *sink;
     GstPad *src;
     GstPad *feedback;
+    GstPad *reports; /* NULL where it was not requested */
 
     GMutex starting; /* one start of a task at a time, and whether its pad is open; taken before the lock */
     GMutex lock;     /* one call of the library at a time, and all that follows */
@@ -105,6 +165,15 @@ struct _GstGozdritRecv {
     guint64 rtx_came;   /* retransmissions, taken or not */
     asked *asked;       /* GOZDRIT_MAX_STORE of them, or NULL where none was needed */
 
+    gboolean in_place; /* it stands in a jitter buffer's place */
+    type_rates rates;
+    guint8 last_type; /* of the last packet that came as media */
+    sync_state sync;
+    out_offset offset;
+    drop_messages drops;
+    guint64 pushed, given_up; /* packets */
+    guint64 npt_due;  /* when what is before npt-stop has gone out, in milliseconds; or G_MAXUINT64 */
+
     rtp_times times;
     arrival *arrivals; /* ARRIVALS of them, by the sequence number */
     GQueue held;       /* held_event */
@@ -120,6 +189,9 @@ struct _GstGozdritRecv {
     GstQueueArray *ready; /* buffers and events, in the order in which they go out */
     guint ready_packets;  /* how many of them are buffers: events have no part in the window */
     GCond ready_cond;     /* for the source pad's task */
+    gboolean is_held; /* on behalf of set-active nothing goes out */
+    GstClockTime last_out; /* of the last packet that went out, with its offset */
+    gboolean has_dropped; /* packets before the next one that goes out */
     gboolean src_open, src_active; /* the pad is active; and the stream is not flushed */
     gboolean src_waits, stalled;   /* stalled: what could be played was not, since too much is ready */
     GstFlowReturn flow;   /* how the last push went */
@@ -145,6 +217,10 @@ gboolean receiving_is_rtx(const GstCaps *caps);
 gboolean receiving_caps(GstGozdritRecv *self, const GstCaps *caps);
 /* Takes a packet; what can be played then is still to be. */
 void receiving_packet(GstGozdritRecv *self, GstBuffer *buffer, const guint8 *octets, gsize length, guint64 now);
+/* The type and the SSRC that a property or the caps want; or -1, as in a jitter buffer's place, where what the caps say is not looked at. */
+gint64 receiving_wanted_type(const GstGozdritRecv *self);
+/* The clock rate of a static type, or -1. */
+gint64 receiving_static_rate(gint64 type);
 /* Whether packets of a type are retransmissions. */
 gboolean receiving_is_rtx_type(const GstGozdritRecv *self, guint8 type);
 /* Gives up what is missing, plays all else, and ends the session. */
@@ -154,9 +230,16 @@ void receiving_flush(GstGozdritRecv *self);
 void receiving_set_times(GstGozdritRecv *self);
 /* The least time between two asks, in milliseconds. */
 guint64 receiving_step(const GstGozdritRecv *self);
+/* The library's times in force, and the round trip. */
+gozdrit_times receiving_times(const GstGozdritRecv *self);
+
+/* ---- counts.c. The lock is held in all of these. */
+
+/* What was counted so far: by the sessions before, and by this one. */
+void counts_all(const GstGozdritRecv *self, gozdrit_receive_counts *counts, gozdrit_probe_counts *probes);
 /* The library's counts, of all sessions; and these with the element's own. */
-gozdrit_receive_counts receiving_sums(const GstGozdritRecv *self);
-GstStructure *receiving_counts(GstGozdritRecv *self);
+gozdrit_receive_counts counts_sums(const GstGozdritRecv *self);
+GstStructure *counts_told(GstGozdritRecv *self);
 
 /* ---- playing.c. The lock is held in all but the task. */
 
@@ -190,9 +273,69 @@ gboolean tasks_activate(GstPad *pad, GstObject *parent, GstPadMode mode, gboolea
 void tasks_start(GstGozdritRecv *self);
 void tasks_halt(GstGozdritRecv *self);
 
+/* ---- properties.c */
+
+void properties_install(GObjectClass *class);
+void properties_set(GObject *object, guint id, const GValue *value, GParamSpec *spec);
+void properties_get(GObject *object, guint id, GValue *value, GParamSpec *spec);
+
+/* ---- jitter.c: what a jitter buffer does beside. The lock is held in these. */
+
+void jitter_install(GObjectClass *class);
+/* Whether a packet is more than the library takes. */
+gboolean jitter_is_long(const guint8 *octets, gsize length);
+/* A packet with the header of that one, which stands in the library for it and is to be freed, with its length. */
+guint8 *jitter_stand_in(const guint8 *octets, guint8 type, gsize *length);
+/* A packet was dropped, and where is the reason; a message of it may be due. */
+void jitter_dropped(GstGozdritRecv *self, guint number, GstClockTime at, gboolean late);
+/* Drops the oldest of what is ready, where that and the newest packet are farther apart than the latency, by drop-on-latency. */
+void jitter_drop_old(GstGozdritRecv *self);
+
+/* ---- ptmap.c: payload types in a jitter buffer's place. The lock is held in all but the one that asks. */
+
+void ptmap_install(GObjectClass *class);
+gboolean ptmap_is_answered(GstGozdritRecv *self);
+/* Asks for the caps of a packet's type, where nobody said its clock rate. */
+void ptmap_ask(GstGozdritRecv *self, GstBuffer *buffer);
+void ptmap_forget(GstGozdritRecv *self);
+/* The times of packets of a type; and forgets all times, but not the rate. */
+rtp_times *ptmap_times(GstGozdritRecv *self, guint8 type);
+void ptmap_begin_times(GstGozdritRecv *self);
+/* Caps tell where the stream begins and ends. */
+void ptmap_read_play(GstGozdritRecv *self, const GstCaps *caps);
+/* A packet that came has this timestamp: npt-stop comes nearer. */
+void ptmap_note_time(GstGozdritRecv *self, guint32 timestamp);
+/* Whether npt-stop is past, which is so once; and when it will be, if nothing more comes. */
+gboolean ptmap_is_past(GstGozdritRecv *self, guint64 now);
+/* Emits on-npt-stop. The lock is not held. */
+void ptmap_npt_stop(GstGozdritRecv *self);
+
+/* ---- sync.c: sender reports. The lock is held where it says so. */
+
+void sync_install(GObjectClass *class);
+GstPad *sync_request_pad(GstElement *element, GstPadTemplate *template, const gchar *name, const GstCaps *caps);
+void sync_release_pad(GstElement *element, GstPad *pad);
+/* Forgets what was reported. The lock is held, as in the next two. */
+void sync_forget(GstGozdritRecv *self);
+/* The caps tell the CNAMEs of streams. */
+void sync_read_caps(GstGozdritRecv *self, const GstCaps *caps);
+/* Adds the time of the far clock to a packet that goes out. */
+void sync_add_meta(GstGozdritRecv *self, GstBuffer *out, guint32 timestamp, guint8 type);
+/* Tells what is to be told. The lock is not held. */
+void sync_tell(GstGozdritRecv *self);
+
+/* ---- offset.c. The lock is held in all of these. */
+
+void offset_set(GstGozdritRecv *self, gint64 wanted);
+void offset_pause(GstGozdritRecv *self, guint64 paused);
+GstClockTime offset_of(const GstGozdritRecv *self, GstClockTime at);
+/* Gives a buffer that goes out its times. It takes the reference, and gives one. */
+GstBuffer *offset_onto(GstGozdritRecv *self, GstBuffer *out);
+
 /* ---- auxiliary.c */
 
-/* Whether nobody takes feedback. */
+/* Whether somebody takes feedback; and whether nobody does, and this is no jitter buffer's place. */
+gboolean feedback_is_taken(const GstGozdritRecv *self);
 gboolean auxiliary_is(const GstGozdritRecv *self);
 /* Whether a packet of another stream, which follows another one of it, takes the place of the stream, which is gone. The lock is held, as in
  * the next two. */

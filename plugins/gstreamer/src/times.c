@@ -10,11 +10,11 @@
 #define SPAN (2 * GST_SECOND)
 
 void rtp_times_begin(rtp_times *times, gint64 clock_rate) {
-    *times = (rtp_times){.clock_rate = clock_rate > 0 ? clock_rate : 0, .newest = G_GUINT64_CONSTANT(1) << 40};
+    *times = (rtp_times){.clock_rate = clock_rate > 0 ? clock_rate : 0, .newest = G_GUINT64_CONSTANT(1) << 40,
+                         .is_fixed = times->is_fixed, .last = GST_CLOCK_TIME_NONE};
 }
 
-/* The timestamp that is the nearest to the newest one, of those that have these lowest 32 bits. */
-static guint64 extended_of(const rtp_times *times, guint32 timestamp) {
+guint64 rtp_times_extended(const rtp_times *times, guint32 timestamp) {
     return times->newest + (guint64)(gint64)(gint32)(timestamp - (guint32)times->newest);
 }
 
@@ -25,6 +25,7 @@ static gint64 nanoseconds(const rtp_times *times, guint64 extended) {
 static void set_base(rtp_times *times, guint64 extended, GstClockTime at) {
     times->based = TRUE;
     times->base = (gint64)at - nanoseconds(times, extended);
+    times->first = extended;
     times->least = G_MAXINT64;
     times->began = at;
 }
@@ -36,14 +37,27 @@ static void end_span(rtp_times *times, GstClockTime at) {
     times->began = at;
 }
 
+gint64 rtp_times_apart(const rtp_times *times, guint64 from, guint64 to) { return nanoseconds(times, to) - nanoseconds(times, from); }
+
+/* By how much packets are nearer to each other, or farther apart, than when they were sent. */
+static void note_jitter(rtp_times *times, guint64 extended, GstClockTime at) {
+    gint64 apart = rtp_times_apart(times, times->newest, extended);
+    gint64 differs = GST_CLOCK_TIME_IS_VALID(times->last) ? (gint64)at - (gint64)times->last - apart : 0;
+    times->jitter = ((GstClockTime)ABS(differs) + 15 * times->jitter) / 16;
+    times->last = at;
+}
+
 void rtp_times_arrived(rtp_times *times, guint32 timestamp, GstClockTime at) {
     if (times->clock_rate == 0 || at > LATEST) return;
-    guint64 extended = extended_of(times, timestamp);
+    guint64 extended = rtp_times_extended(times, timestamp);
     gint64 late = (gint64)at - times->base - nanoseconds(times, extended);
     gint64 unit = (gint64)GST_SECOND / times->clock_rate;
+    note_jitter(times, extended, at);
     times->newest = extended;
     if (!times->based || late < -JUMP || late > JUMP) {
         set_base(times, extended, at);
+    } else if (times->is_fixed) {
+        /* as the first */
     } else if (late < -unit) { /* no packet is earlier than its time */
         times->base += late;
         times->least = 0;
@@ -55,7 +69,7 @@ void rtp_times_arrived(rtp_times *times, guint32 timestamp, GstClockTime at) {
 
 GstClockTime rtp_times_of(const rtp_times *times, guint32 timestamp) {
     if (!times->based) return GST_CLOCK_TIME_NONE;
-    gint64 at = times->base + nanoseconds(times, extended_of(times, timestamp));
+    gint64 at = times->base + nanoseconds(times, rtp_times_extended(times, timestamp));
     return at > 0 ? (GstClockTime)at : 0;
 }
 

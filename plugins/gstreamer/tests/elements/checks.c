@@ -167,6 +167,31 @@ gboolean ticks(receiver *r, guint64 at) {
 
 void set_clock_to(receiver *r, guint64 at) { gst_harness_set_time(r->media, at * GST_MSECOND); }
 
+/* ---- a receiver in a jitter buffer's place */
+
+static GstCaps *answer(GstElement *element, guint type, place *p) {
+    (void)element;
+    g_atomic_int_inc(&p->asked[type & 127]);
+    return p->answers[type & 127] ? gst_caps_from_string(p->answers[type & 127]) : NULL;
+}
+
+void make_place(place *p) {
+    *p = (place){.r.element = gst_element_factory_make("gozdritrecv", NULL)};
+    p->answers[TYPE] = "application/x-rtp,media=video,payload=96,clock-rate=90000,encoding-name=X";
+    g_object_set(p->r.element, "rtx-retry-timeout", 60, NULL);
+    g_signal_connect(p->r.element, "request-pt-map", G_CALLBACK(answer), p);
+    p->r.media = gst_harness_new_with_element(p->r.element, "sink", "src");
+    p->reports = gst_harness_new_with_element(p->r.element, "sink_rtcp", NULL);
+    gst_harness_set_src_caps_str(p->r.media, PLACE_CAPS);
+    gst_harness_set_src_caps_str(p->reports, "application/x-rtcp");
+}
+
+void drop_place(place *p) {
+    gst_harness_teardown(p->reports);
+    gst_harness_teardown(p->r.media);
+    gst_object_unref(p->r.element);
+}
+
 /* ---- a sender. Its clock stands where no test sets it, so a packet may be retransmitted again at once. */
 
 sender make_sender(void) {
@@ -263,6 +288,7 @@ int main(int count, char **words) {
         {"times", test_times},     {"streams", test_streams},   {"restarts", test_restarts}, {"states", test_states},
         {"flushes", test_flushes}, {"caps", test_rtx_caps},      {"silence", test_silence}, {"storm", test_storm},
         {"numbers", test_numbers}, {"metas", test_metas}, {"keyunits", test_key_units},
+        {"place", test_place}, {"ptmap", test_pt_map}, {"reports", test_reports}, {"offsets", test_offsets},
         {"dropin", test_drop_in}, {"auxiliary", test_auxiliary}, {"histories", test_histories}, {"extensions", test_extensions},
         {"logs", test_logs},
     };

@@ -74,6 +74,18 @@ void drop_receiver(receiver *r);
 gboolean ticks(receiver *r, guint64 at);
 void set_clock_to(receiver *r, guint64 at);
 
+/* A receiver in a jitter buffer's place, whose caps tell nothing: what answers for a type is `answers`, which also counts how often it was asked.
+ * It has the pad of reports. */
+typedef struct place {
+    receiver r;
+    GstHarness *reports;
+    gint asked[128];
+    const gchar *answers[128]; /* caps, or NULL */
+} place;
+#define PLACE_CAPS "application/x-rtp"
+void make_place(place *p);
+void drop_place(place *p);
+
 /* A sender with a harness of its feedback, whose clock is the test's. It does nothing in a silence. */
 typedef struct sender {
     GstHarness *media, *feedback;
@@ -111,6 +123,10 @@ void test_silence(void);
 void test_receive(void);
 void test_metas(void);
 void test_auxiliary(void);
+void test_place(void);
+void test_pt_map(void);
+void test_reports(void);
+void test_offsets(void);
 void test_times(void);
 void test_streams(void);
 void test_flushes(void);

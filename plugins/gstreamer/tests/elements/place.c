@@ -1,0 +1,417 @@
+/* A receiver in a jitter buffer's place: what it asks for, keeps, drops and counts. */
+#include "checks.h"
+
+#include <string.h>
+
+#define MS(n) ((n) * (GstClockTime)GST_MSECOND)
+
+/* ---- repairs */
+
+static guint upstream_requests(receiver *r) {
+    guint count = 0;
+    for (GstEvent *event; (event = gst_harness_try_pull_upstream_event(r->media)); gst_event_unref(event))
+        if (gst_event_has_name(event, "GstRTPRetransmissionRequest")) count++;
+    return count;
+}
+
+/* The next request that comes upstream, or NULL. */
+static GstEvent *next_request(receiver *r) {
+    for (gint i = 0; i < 2000; i++) {
+        GstEvent *event = gst_harness_try_pull_upstream_event(r->media);
+        if (event && gst_event_has_name(event, "GstRTPRetransmissionRequest")) return event;
+        if (event) gst_event_unref(event);
+        else g_usleep(1000);
+    }
+    return NULL;
+}
+
+static guint field_of(const GstStructure *told, const gchar *name) {
+    guint value = G_MAXUINT;
+    if (told) gst_structure_get_uint(told, name, &value);
+    return value;
+}
+
+/* A packet that rtprtxreceive made of a retransmission. */
+static GstBuffer *flagged(packet of) {
+    GstBuffer *buffer = make_packet(of);
+    GST_BUFFER_PTS(buffer) = GST_BUFFER_DTS(buffer) = 999 * GST_SECOND;
+    GST_BUFFER_FLAG_SET(buffer, GST_RTP_BUFFER_FLAG_RETRANSMISSION);
+    return buffer;
+}
+
+/* Without do-retransmission nothing is asked for; but what is repaired all the same is taken. */
+static void test_silent(void) {
+    place p;
+    make_place(&p);
+    SEND(&p.r, .sequence = 10);
+    SEND(&p.r, .sequence = 12, .pts = MS(40));
+    SEND(&p.r, .sequence = 14, .pts = MS(80), .type = 97);
+    gst_harness_push(p.r.media, flagged((packet){.sequence = 11, .pts = MS(20), .type = 97, .marker = TRUE}));
+    COMES(p.r.media, .sequence = 10);
+    GstBuffer *out = next_buffer(p.r.media);
+    CHECK(is_packet(out, (packet){.sequence = 11, .pts = MS(20), .type = 97, .marker = TRUE}));
+    CHECK(out && !GST_BUFFER_FLAG_IS_SET(out, GST_RTP_BUFFER_FLAG_RETRANSMISSION));
+    gst_clear_buffer(&out);
+    COMES(p.r.media, .sequence = 12, .pts = MS(40));
+    TICKS(&p.r, 200); /* the first thing that its timer waits for */
+    COMES(p.r.media, .sequence = 14, .pts = MS(80), .type = 97);
+    CHECK(upstream_requests(&p.r) == 0);
+    CHECK(count_of(p.r.element, "num-lost") == 1 && count_of(p.r.element, "rtx-success-count") == 1);
+    drop_place(&p);
+}
+
+/* With it, by events, with the type of the last packet that came. */
+static void test_asks(void) {
+    place p;
+    make_place(&p);
+    g_object_set(p.r.element, "do-retransmission", TRUE, NULL);
+    SEND(&p.r, .sequence = 10);
+    SEND(&p.r, .sequence = 12, .type = 98);
+    TICKS(&p.r, 20);
+    GstEvent *request = next_request(&p.r);
+    const GstStructure *told = request ? gst_event_get_structure(request) : NULL;
+    CHECK(field_of(told, "seqnum") == 11 && field_of(told, "ssrc") == MEDIA && field_of(told, "payload-type") == 98);
+    CHECK(field_of(told, "delay") == 20 && field_of(told, "deadline") == 200);
+    if (request) gst_event_unref(request);
+    gst_harness_push(p.r.media, flagged((packet){.sequence = 11}));
+    for (guint16 i = 10; i < 13; i++) COMES(p.r.media, .sequence = i, .type = i == 12 ? 98 : 96);
+    g_object_set(p.r.element, "do-retransmission", FALSE, NULL);
+    SEND(&p.r, .sequence = 14);
+    TICKS(&p.r, 220);
+    COMES(p.r.media, .sequence = 14);
+    CHECK(upstream_requests(&p.r) == 0);
+    drop_place(&p);
+}
+
+/* Who took the pad of feedback is asked, whatever do-retransmission says. */
+static void test_feedback_is_taken(void) {
+    receiver r = {.element = gst_element_factory_make("gozdritrecv", NULL)};
+    r.media = gst_harness_new_with_element(r.element, "sink", "src");
+    r.feedback = gst_harness_new_with_element(r.element, NULL, "feedback_src");
+    GstPad *pad = gst_element_request_pad_simple(r.element, "sink_rtcp");
+    gst_harness_set_src_caps_str(r.media, CAPS);
+    SEND(&r, .sequence = 10);
+    SEND(&r, .sequence = 12, .type = 98);
+    TICKS(&r, 20);
+    GstBuffer *nack = next_buffer(r.feedback);
+    CHECK(is_nack(nack, 11, 0));
+    gst_clear_buffer(&nack);
+    gst_harness_push(r.media, flagged((packet){.sequence = 11}));
+    for (guint16 i = 10; i < 13; i++) COMES(r.media, .sequence = i, .type = i == 12 ? 98 : 96);
+    CHECK(upstream_requests(&r) == 0);
+    gst_element_release_request_pad(r.element, pad);
+    gst_object_unref(pad);
+    drop_receiver(&r);
+}
+
+/* ---- what is more than the library takes */
+
+static GstBuffer *long_packet(guint16 sequence, gint kind) {
+    GstBuffer *buffer = make_packet((packet){.sequence = sequence, .fill = 7, .length = kind == 0 ? GOZDRIT_MAX_PAYLOAD + 1 : 9000});
+    GstRTPBuffer rtp = GST_RTP_BUFFER_INIT;
+    if (kind < 2) return buffer;
+    gst_buffer_unref(buffer);
+    buffer = make_packet((packet){.sequence = sequence, .fill = 7});
+    gst_rtp_buffer_map(buffer, GST_MAP_READWRITE, &rtp);
+    gst_rtp_buffer_set_extension_data(&rtp, 0xbede, GOZDRIT_MAX_EXTENSION_WORDS + 1);
+    gst_rtp_buffer_unmap(&rtp);
+    GST_BUFFER_PTS(buffer) = 0;
+    return buffer;
+}
+
+static gboolean is_same(GstHarness *harness, GstBuffer *sent) {
+    GstBuffer *out = next_buffer(harness);
+    gboolean is = out && same_octets(out, sent) && GST_BUFFER_PTS(out) == 0 && !GST_BUFFER_FLAG_IS_SET(out, GST_RTP_BUFFER_FLAG_RETRANSMISSION);
+    gst_clear_buffer(&out);
+    return is;
+}
+
+/* Such a packet keeps its place, as it came, also where it was repaired, or is the first one; and nothing is told of it. */
+static void test_long(void) {
+    for (gint kind = 0; kind < 3; kind++) {
+        GstBuffer *first = long_packet(10, kind), *second = long_packet(12, kind), *repair = long_packet(11, kind);
+        place p;
+        make_place(&p);
+        GstBus *bus = bus_of(p.r.element);
+        GST_BUFFER_FLAG_SET(repair, GST_RTP_BUFFER_FLAG_RETRANSMISSION);
+        gst_harness_push(p.r.media, gst_buffer_ref(first));
+        CHECK(is_same(p.r.media, first));
+        gst_harness_push(p.r.media, gst_buffer_ref(second));
+        SEND(&p.r, .sequence = 13);
+        CHECK(is_silent(p.r.media));
+        gst_harness_push(p.r.media, gst_buffer_ref(repair));
+        CHECK(is_same(p.r.media, repair));
+        CHECK(is_same(p.r.media, second));
+        COMES(p.r.media, .sequence = 13);
+        CHECK(!posted(bus, GST_MESSAGE_WARNING) && count_of(p.r.element, "refused") == 0 && count_of(p.r.element, "num-lost") == 0);
+        drop_bus(p.r.element, bus);
+        drop_place(&p);
+        gst_buffer_unref(first);
+        gst_buffer_unref(second);
+        gst_buffer_unref(repair);
+    }
+}
+
+/* What is long and no RTP packet is dropped. */
+static void test_long_noise(void) {
+    static const guint8 firsts[] = {0x00, 0xa0, 0x9f};
+    place p;
+    make_place(&p);
+    SEND(&p.r, .sequence = 9);
+    COMES(p.r.media, .sequence = 9);
+    for (guint i = 0; i < G_N_ELEMENTS(firsts); i++) {
+        GstBuffer *buffer = make_packet((packet){.sequence = 10, .length = 2000});
+        gst_buffer_memset(buffer, 0, firsts[i], 1);
+        if (i == 2) gst_buffer_memset(buffer, 12 + 60, 255, 4); /* an extension that is longer than the packet */
+        gst_harness_push(p.r.media, buffer);
+    }
+    CHECK(is_silent(p.r.media) && count_of(p.r.element, "refused") == 3);
+    drop_place(&p);
+}
+
+/* ---- what is dropped */
+
+static gboolean tells(GstBus *bus, guint number, GstClockTime at, const gchar *reason, guint late, guint on_latency) {
+    GstMessage *message = gst_bus_timed_pop_filtered(bus, 2 * GST_SECOND, GST_MESSAGE_ELEMENT);
+    const GstStructure *told = message ? gst_message_get_structure(message) : NULL;
+    GstClockTime timestamp = 0;
+    if (!told) return FALSE;
+    gboolean is = gst_structure_has_name(told, "drop-msg") && gst_structure_get_clock_time(told, "timestamp", &timestamp) && timestamp == at &&
+                  field_of(told, "seqnum") == number && field_of(told, "num-too-late") == late &&
+                  field_of(told, "num-drop-on-latency") == on_latency &&
+                  g_strcmp0(gst_structure_get_string(told, "reason"), reason) == 0;
+    if (!is) {
+        gchar *text = gst_structure_to_string(told);
+        g_print("%s\n", text);
+        g_free(text);
+    }
+    gst_message_unref(message);
+    return is;
+}
+
+/* What came too late is told where that is wanted, the first and then one message in each interval. */
+static void test_late(void) {
+    place p;
+    make_place(&p);
+    GstBus *bus = bus_of(p.r.element);
+    for (guint turn = 0; turn < 2; turn++) {
+        for (guint16 i = 0; i < 3; i++) SEND(&p.r, .sequence = 10, .pts = MS(1000));
+        COMES(p.r.media, .sequence = 10, .pts = MS(1000));
+        if (turn == 0) CHECK(!posted(bus, GST_MESSAGE_ELEMENT));
+        else CHECK(tells(bus, 10, MS(1000), "too-late", 1, 0) && !posted(bus, GST_MESSAGE_ELEMENT));
+        if (turn == 1) break;
+        gst_element_set_state(p.r.element, GST_STATE_NULL);
+        g_object_set(p.r.element, "post-drop-messages", TRUE, "drop-messages-interval", 100, NULL);
+        gst_element_set_state(p.r.element, GST_STATE_PLAYING);
+        gst_harness_set_src_caps_str(p.r.media, PLACE_CAPS);
+    }
+    set_clock_to(&p.r, 99);
+    SEND(&p.r, .sequence = 9, .pts = MS(980));
+    CHECK(!posted(bus, GST_MESSAGE_ELEMENT));
+    set_clock_to(&p.r, 100);
+    SEND(&p.r, .sequence = 8, .pts = MS(960));
+    CHECK(tells(bus, 8, MS(960), "too-late", 3, 0));
+    CHECK(count_of(p.r.element, "num-late") == 4);
+    drop_bus(p.r.element, bus);
+    drop_place(&p);
+}
+
+static GstPadProbeReturn hold(GstPad *pad, GstPadProbeInfo *info, gpointer data) {
+    (void)pad, (void)info, (void)data;
+    return GST_PAD_PROBE_OK;
+}
+
+/* While downstream stands still no more than the latency is kept by drop-on-latency, and all without it. Events stay. */
+static void test_drop_on_latency(void) {
+    for (guint drops = 0; drops < 2; drops++) {
+        place p;
+        make_place(&p);
+        GstBus *bus = bus_of(p.r.element);
+        g_object_set(p.r.element, "drop-on-latency", drops, "post-drop-messages", TRUE, NULL);
+        SEND(&p.r, .sequence = 9);
+        COMES(p.r.media, .sequence = 9);
+        GstPad *src = gst_element_get_static_pad(p.r.element, "src");
+        gulong probe = gst_pad_add_probe(src, GST_PAD_PROBE_TYPE_BLOCK | GST_PAD_PROBE_TYPE_BUFFER, hold, NULL, NULL);
+        SEND(&p.r, .sequence = 10, .pts = MS(20)); /* is on its way */
+        g_usleep(20000);
+        gst_harness_push_event(p.r.media, gst_event_new_custom(GST_EVENT_CUSTOM_DOWNSTREAM, gst_structure_new_empty("mark")));
+        for (guint16 i = 11; i < 41; i++) SEND(&p.r, .sequence = i, .pts = MS(20) * (i - 9u));
+        CHECK(count_of(p.r.element, "dropped") == (drops ? 20 : 0));
+        gst_pad_remove_probe(src, probe);
+        COMES(p.r.media, .sequence = 10, .pts = MS(20));
+        for (guint16 i = drops ? 31 : 11; i < 41; i++) {
+            GstBuffer *out = next_buffer(p.r.media);
+            CHECK(is_packet(out, (packet){.sequence = i, .pts = MS(20) * (i - 9u)}));
+            CHECK(out && GST_BUFFER_FLAG_IS_SET(out, GST_BUFFER_FLAG_DISCONT) == (drops && i == 31));
+            gst_clear_buffer(&out);
+        }
+        GstEvent *mark = next_event(p.r.media, GST_EVENT_CUSTOM_DOWNSTREAM);
+        CHECK(mark != NULL);
+        if (mark) gst_event_unref(mark);
+        if (drops) CHECK(tells(bus, 11, MS(40), "drop-on-latency", 0, 1));
+        CHECK(!posted(bus, GST_MESSAGE_ELEMENT));
+        gst_object_unref(src);
+        drop_bus(p.r.element, bus);
+        drop_place(&p);
+    }
+}
+
+/* ---- set-active */
+
+static guint64 set_active(place *p, gboolean active, guint64 offset) {
+    guint64 last = 0;
+    g_signal_emit_by_name(p->r.element, "set-active", active, offset, &last);
+    return last;
+}
+
+/* Nothing goes out while it is not active, and what does then is later by the offset. It answers when the next packet goes out, or the last
+ * one did. */
+static void test_active(void) {
+    place p;
+    make_place(&p);
+    CHECK(set_active(&p, TRUE, MS(3)) == GST_CLOCK_TIME_NONE); /* it is so already */
+    SEND(&p.r, .sequence = 10, .pts = MS(20));
+    COMES(p.r.media, .sequence = 10, .pts = MS(20));
+    CHECK(set_active(&p, FALSE, 0) == MS(20));
+    SEND(&p.r, .sequence = 11, .pts = MS(40));
+    SEND(&p.r, .sequence = 12, .pts = MS(60));
+    CHECK(is_silent(p.r.media) && set_active(&p, FALSE, MS(5)) == MS(40));
+    CHECK(set_active(&p, TRUE, MS(500)) == MS(540));
+    SEND(&p.r, .sequence = 13, .pts = MS(80));
+    for (guint16 i = 11; i < 14; i++) {
+        GstBuffer *out = next_buffer(p.r.media);
+        CHECK(out && GST_BUFFER_PTS(out) == MS(500) + MS(20) * (i - 9u));
+        gst_clear_buffer(&out);
+    }
+    CHECK(set_active(&p, FALSE, 0) == MS(580));
+    drop_place(&p); /* while it is held */
+}
+
+/* ---- properties and counts */
+
+static guint warnings_of(GstBus *bus) {
+    guint count = 0;
+    while (posted(bus, GST_MESSAGE_WARNING)) count++;
+    return count;
+}
+
+/* What is not here is refused, and all else stays as it is set. */
+static void test_refused(void) {
+    static const gchar *const refused[][3] = {{"mode", "buffer", "slave"}, {"mode", "none", "slave"}, {"rfc7273-sync", "true", "false"},
+                                              {"max-dropout-time", "59999", "60000"}, {"max-misorder-time", "1", "2000"}};
+    static const gchar *const taken[][2] = {{"mode", "synced"}, {"mode", "slave"}, {"rfc7273-sync", "false"}, {"max-dropout-time", "60000"},
+                                            {"max-misorder-time", "2000"}, {"do-retransmission", "true"}, {"ts-offset", "-5"},
+                                            {"drop-on-latency", "true"}, {"max-rtcp-rtp-time-diff", "-1"}, {"sync-interval", "7"},
+                                            {"max-ts-offset-adjustment", "0"}, {"add-reference-timestamp-meta", "true"},
+                                            {"post-drop-messages", "true"}, {"drop-messages-interval", "9"}, {"do-lost", "true"}};
+    place p;
+    make_place(&p);
+    GstBus *bus = bus_of(p.r.element);
+    for (guint i = 0; i < G_N_ELEMENTS(refused); i++) {
+        GValue value = G_VALUE_INIT;
+        gst_util_set_object_arg(G_OBJECT(p.r.element), refused[i][0], refused[i][1]);
+        g_object_get_property(G_OBJECT(p.r.element), refused[i][0], &value);
+        gchar *text = gst_value_serialize(&value);
+        if (!CHECK(warnings_of(bus) == 1 && g_str_equal(text, refused[i][2]))) g_print("%s is %s\n", refused[i][0], text);
+        g_free(text);
+        g_value_unset(&value);
+    }
+    for (guint i = 0; i < G_N_ELEMENTS(taken); i++) {
+        GValue value = G_VALUE_INIT;
+        gst_util_set_object_arg(G_OBJECT(p.r.element), taken[i][0], taken[i][1]);
+        g_object_get_property(G_OBJECT(p.r.element), taken[i][0], &value);
+        gchar *text = gst_value_serialize(&value);
+        if (!CHECK(warnings_of(bus) == 0 && g_str_equal(text, taken[i][1]))) g_print("%s is %s\n", taken[i][0], text);
+        g_free(text);
+        g_value_unset(&value);
+    }
+    gint percent = 0;
+    g_object_get(p.r.element, "percent", &percent, NULL);
+    CHECK(percent == 100);
+    drop_bus(p.r.element, bus);
+    drop_place(&p);
+}
+
+/* A window of any number, and of more than the library keeps, is the most that it keeps. */
+static void test_window(void) {
+    static const guint windows[] = {0, GOZDRIT_MAX_STORE + 1, GOZDRIT_MAX_STORE};
+    for (guint i = 0; i < G_N_ELEMENTS(windows); i++) {
+        receiver r = make_receiver(CAPS);
+        GstBus *bus = bus_of(r.element);
+        gst_element_set_state(r.element, GST_STATE_NULL);
+        g_object_set(r.element, "max-size-packets", windows[i], "latency", 60000, NULL);
+        gst_element_set_state(r.element, GST_STATE_PLAYING);
+        gst_harness_set_src_caps_str(r.media, CAPS);
+        SEND(&r, .sequence = 0);
+        for (guint k = 2; k < 8190; k++) SEND(&r, .sequence = (guint16)k);
+        CHECK(count_of(r.element, "overrun") == 0 && warnings_of(bus) == (i < 2));
+        SEND(&r, .sequence = 8200);
+        CHECK(count_of(r.element, "overrun") > 0);
+        drop_bus(r.element, bus);
+        drop_receiver(&r);
+    }
+}
+
+/* The counts that rtpjitterbuffer has, of its types. */
+static void test_counts(void) {
+    static const gchar *const names[] = {"num-pushed", "num-lost", "num-late", "num-duplicates", "avg-jitter", "rtx-count", "rtx-success-count",
+                                         "rtx-rtt"};
+    place p;
+    make_place(&p);
+    g_object_set(p.r.element, "do-retransmission", TRUE, "rtx-retry-timeout", -1, NULL);
+    SEND(&p.r, .sequence = 10, .pts = MS(1000));
+    GstBuffer *late = make_packet((packet){.sequence = 12, .pts = MS(1040)});
+    GST_BUFFER_PTS(late) = GST_BUFFER_DTS(late) = MS(1056);
+    gst_harness_push(p.r.media, late);
+    SEND(&p.r, .sequence = 12, .pts = MS(1040)); /* is there twice */
+    TICKS(&p.r, 20);
+    GstEvent *request = next_request(&p.r);
+    CHECK(request != NULL);
+    if (request) gst_event_unref(request);
+    set_clock_to(&p.r, 60);
+    gst_harness_push(p.r.media, flagged((packet){.sequence = 11, .pts = MS(1020)}));
+    for (guint16 i = 10; i < 13; i++) COMES(p.r.media, .sequence = i, .pts = MS(1000) + MS(20) * (i - 10u));
+    SEND(&p.r, .sequence = 14, .pts = MS(1080));
+    SEND(&p.r, .sequence = 9, .pts = MS(980)); /* too late */
+    for (gint i = 0; i < 2000 && count_of(p.r.element, "num-lost") == 0; i++) {
+        gst_harness_crank_single_clock_wait(p.r.media);
+        g_usleep(100);
+    }
+    COMES(p.r.media, .sequence = 14, .pts = MS(1080));
+    CHECK(count_of(p.r.element, "num-pushed") == 4 && count_of(p.r.element, "num-lost") == 1 && count_of(p.r.element, "num-late") == 1);
+    CHECK(count_of(p.r.element, "num-duplicates") == 1 && count_of(p.r.element, "rtx-success-count") == 1);
+    guint64 asked = count_of(p.r.element, "rtx-count");
+    CHECK(asked >= 2 && asked == count_of(p.r.element, "nacked"));
+    CHECK(count_of(p.r.element, "rtx-rtt") == MS(40));
+    /* 16 ms late, and then 16 ms early of 24 (RFC 3550, section 6.4.1): see rtpjitterbuffer's */
+    GstStructure *stats, *theirs;
+    GstElement *other = gst_element_factory_make("rtpjitterbuffer", NULL);
+    gdouble each = -1;
+    g_object_get(p.r.element, "stats", &stats, NULL);
+    CHECK(gst_structure_get_double(stats, "rtx-per-packet", &each) && each == (gdouble)asked);
+    CHECK(count_of(p.r.element, "avg-jitter") > MS(1) && count_of(p.r.element, "avg-jitter") < MS(3));
+    if (other) {
+        g_object_get(other, "stats", &theirs, NULL);
+        for (guint i = 0; i < G_N_ELEMENTS(names); i++)
+            CHECK(gst_structure_get_field_type(stats, names[i]) == gst_structure_get_field_type(theirs, names[i]));
+        CHECK(gst_structure_n_fields(theirs) == G_N_ELEMENTS(names) + 1);
+        gst_structure_free(theirs);
+        gst_object_unref(other);
+    }
+    gst_structure_free(stats);
+    drop_place(&p);
+}
+
+void test_place(void) {
+    test_silent();
+    test_asks();
+    test_feedback_is_taken();
+    test_long();
+    test_long_noise();
+    test_late();
+    test_drop_on_latency();
+    test_active();
+    test_refused();
+    test_window();
+    test_counts();
+}
