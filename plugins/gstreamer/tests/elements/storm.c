@@ -1,5 +1,6 @@
 /* Both elements where everything happens at once: odd packets, losses, reordering before and behind the sender, strangers, streams that end
- * or begin anew, other caps and properties, flushes, changes of state, and the end, each at a drawn moment. What comes out has to be RTP. Who
+ * or begin anew, other caps and properties, flushes, changes of state, reports and the end, each at a drawn moment; half of the receivers are in a
+ * jitter buffer's place. What comes out has to be RTP. Who
  * hangs is killed after a while, and what sanitizers find ends the program. STORM is for how many seconds (else 2), and SEED draws. */
 #include "checks.h"
 
@@ -17,6 +18,7 @@ typedef struct storm {
     GRand *drawn;
     GstBuffer *behind; /* a packet that the next one overtakes */
     gint stopped, renewed; /* renewed: the next packet wants the events of a stream before it */
+    gboolean in_place;     /* the receiver is a jitter buffer's */
     gint wrong;
     guint32 seed;
 } storm;
@@ -144,6 +146,58 @@ static gpointer flush(gpointer data) {
     return NULL;
 }
 
+/* ---- reports, which come by a pad that comes and goes */
+
+static void push_reports(GstPad *from, GRand *drawn) {
+    GstSegment segment;
+    gst_segment_init(&segment, GST_FORMAT_TIME);
+    gst_pad_push_event(from, gst_event_new_stream_start("reports"));
+    gst_pad_push_event(from, gst_event_new_segment(&segment));
+    for (gint i = g_rand_int_range(drawn, 0, 20); i > 0; i--) {
+        guint8 octets[28] = {0x80, 200, 0, 6, 0x11, 0x11, 0x11, 0x11};
+        GST_WRITE_UINT32_BE(octets + 8, g_rand_int(drawn));
+        GST_WRITE_UINT32_BE(octets + 16, (guint32)g_rand_int_range(drawn, 0, 900000));
+        if (g_rand_int_range(drawn, 0, 10) == 0) octets[g_rand_int_range(drawn, 0, 28)] = (guint8)g_rand_int(drawn);
+        gst_pad_push(from, gst_buffer_new_memdup(octets, sizeof octets));
+    }
+}
+
+static gpointer report(gpointer data) {
+    storm *s = data;
+    GRand *drawn = g_rand_new_with_seed(s->seed + 3);
+    while (s->in_place && !g_atomic_int_get(&s->stopped)) {
+        GstPad *to = gst_element_request_pad_simple(s->recv, "sink_rtcp"), *from = gst_pad_new(NULL, GST_PAD_SRC);
+        guint64 last;
+        gst_pad_link_full(from, to, GST_PAD_LINK_CHECK_NOTHING);
+        gst_pad_set_active(from, TRUE);
+        push_reports(from, drawn);
+        gst_element_release_request_pad(s->recv, to);
+        gst_pad_set_active(from, FALSE);
+        gst_object_unref(from);
+        gst_object_unref(to);
+        if (g_rand_int_range(drawn, 0, 20) == 0) g_signal_emit_by_name(s->recv, "clear-pt-map");
+        if (g_rand_int_range(drawn, 0, 20) == 0) g_signal_emit_by_name(s->recv, "set-active", g_rand_boolean(drawn), (guint64)5, &last);
+        g_usleep((gulong)g_rand_int_range(drawn, 0, 3000));
+    }
+    g_rand_free(drawn);
+    return NULL;
+}
+
+static GstCaps *answer(GstElement *element, guint type, gpointer data) {
+    (void)element, (void)data;
+    if (type == TYPE + 1) return NULL;
+    return gst_caps_new_simple("application/x-rtp", "clock-rate", G_TYPE_INT, type == TYPE ? RATE : 8000, "clock-base", G_TYPE_UINT, 0, "npt-stop",
+                               G_TYPE_UINT64, (guint64)GST_SECOND, NULL);
+}
+
+/* What an rtpbin does with what it is told. */
+static void on_sync(GstElement *element, GstStructure *told, gpointer data) {
+    guint64 base = 0;
+    (void)data;
+    gst_structure_get_uint64(told, "base-rtptime", &base);
+    g_object_set(element, "ts-offset", (gint64)(base % 1000) * 1000, NULL);
+}
+
 /* ---- what comes */
 
 static void on_packet(GstElement *sink, GstBuffer *buffer, GstPad *pad, storm *s) {
@@ -178,6 +232,11 @@ static void make_pads(storm *s) {
     gst_pad_set_event_function(s->back[0], go_back_event);
     link_pads(s->source, pads[0]);
     link_pads(s->back[1], pads[1]);
+    s->in_place = g_rand_boolean(s->drawn);
+    if (s->in_place) {
+        g_signal_connect(s->recv, "request-pt-map", G_CALLBACK(answer), s);
+        g_signal_connect(s->recv, "handle-sync", G_CALLBACK(on_sync), s);
+    }
     if (g_rand_boolean(s->drawn)) link_pads(pads[2], s->back[0]); /* else what is asked for goes upstream by events */
     gst_pad_add_probe(pads[3], GST_PAD_PROBE_TYPE_BUFFER, pass_path, s, NULL);
     gst_pad_set_active(s->source, TRUE);
@@ -234,6 +293,9 @@ static void change(storm *s, GRand *drawn) {
     CHECK(GST_STATE_RETURN(s->send) != GST_STATE_CHANGE_FAILURE && GST_STATE_RETURN(s->recv) != GST_STATE_CHANGE_FAILURE);
     g_atomic_int_set(&s->renewed, TRUE);
     g_object_set(s->recv, "latency", g_rand_int_range(drawn, 0, 80), "rtx-retry-timeout", g_rand_int_range(drawn, -1, 8), NULL);
+    g_object_set(s->recv, "do-retransmission", g_rand_boolean(drawn), "drop-on-latency", g_rand_boolean(drawn), "post-drop-messages",
+                 g_rand_boolean(drawn), "drop-messages-interval", g_rand_int_range(drawn, 0, 50), "add-reference-timestamp-meta",
+                 g_rand_boolean(drawn), "max-ts-offset-adjustment", (guint64)g_rand_int_range(drawn, 0, 1000), NULL);
     g_object_set(s->send, "silence-delay", g_rand_int_range(drawn, 0, 20), NULL);
     tell_extension(s->send, drawn);
     CHECK(count_of(s->recv, "media") != G_MAXUINT64 && count_of(s->send, "sent") != G_MAXUINT64);
@@ -245,7 +307,7 @@ static void run_storm(guint32 seed) {
     GRand *drawn = g_rand_new_with_seed(seed);
     make_storm(&s, seed);
     CHECK(gst_element_set_state(s.pipeline, GST_STATE_PLAYING) != GST_STATE_CHANGE_FAILURE);
-    GThread *threads[] = {g_thread_new("feed", feed, &s), g_thread_new("flush", flush, &s)};
+    GThread *threads[] = {g_thread_new("feed", feed, &s), g_thread_new("flush", flush, &s), g_thread_new("report", report, &s)};
     for (gint i = g_rand_int_range(drawn, 1, 12); i > 0; i--) change(&s, drawn);
     gboolean stops_first = g_rand_boolean(drawn);
     if (!stops_first) CHECK(gst_element_set_state(s.pipeline, GST_STATE_NULL) == GST_STATE_CHANGE_SUCCESS);
