@@ -153,6 +153,7 @@ static turn take_turn(GstGozdritRecv *self, GstBuffer **asks) {
     if (!self->ended) *asks = next_nack(self, now);
     if (*asks) return feedback_is_taken(self) ? TURN_SEND : TURN_ASK;
     if (ptmap_is_past(self, now)) return TURN_NPT_STOP;
+    if (self->drops.next) return TURN_AGAIN; /* it is told at once */
     wait_for_timeout(self, now);
     return TURN_AGAIN;
 }

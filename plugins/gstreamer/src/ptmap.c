@@ -36,10 +36,11 @@ static void read_answer(GstGozdritRecv *self, const GstCaps *caps, guint8 type) 
 void ptmap_forget(GstGozdritRecv *self) { memset(self->rates.of, 0, sizeof self->rates.of); }
 
 rtp_times *ptmap_times(GstGozdritRecv *self, guint8 type) {
-    gint64 rate = self->rates.of[type];
-    if (!self->in_place || rate <= 0) return &self->times;
+    gint64 rate = MAX(self->rates.of[type], 0);
+    if (!self->in_place) return &self->times;
     if (self->times.clock_rate == 0) rtp_times_begin(&self->times, rate);
     if (self->times.clock_rate == rate) return &self->times;
+    if (rate == 0) return &self->rates.unknown;
     rtp_times *other = &self->rates.others[rate % OTHER_RATES]; /* 8, 16, 32, 44.1, 48 and 90 kHz have places of their own but the last two */
     other->is_fixed = self->times.is_fixed;
     if (other->clock_rate != rate) rtp_times_begin(other, rate);

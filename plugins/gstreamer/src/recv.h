@@ -96,6 +96,7 @@ enum { OTHER_RATES = 7 };
 typedef struct type_rates {
     gint64 of[128]; /* 0: not asked for so far; -1: nobody knows it */
     rtp_times others[OTHER_RATES];
+    rtp_times unknown; /* tells no times */
 } type_rates;
 
 /* A sender report: which time of the far clock a timestamp of which stream is. */

@@ -88,6 +88,24 @@ static void test_latency(void) {
     drop_place(&p);
 }
 
+/* So is what is missing already, where the offset moves as a frame goes out. */
+static void test_moving(void) {
+    guint64 last;
+    place p;
+    make_place(&p);
+    g_signal_emit_by_name(p.r.element, "set-active", FALSE, (guint64)0, &last);
+    SEND(&p.r, .sequence = 1, .pts = MS(1000));
+    SEND(&p.r, .sequence = 3, .pts = MS(1040));
+    g_object_set(p.r.element, "max-ts-offset-adjustment", (guint64)MS(100), "ts-offset", -(gint64)MS(150), NULL);
+    g_usleep(20000); /* its timer waits for the latency as it was */
+    g_signal_emit_by_name(p.r.element, "set-active", TRUE, (guint64)0, &last);
+    CHECK(comes_at(&p, 1, MS(900), TRUE));
+    g_usleep(20000);
+    TICKS(&p.r, 100);
+    CHECK(comes_at(&p, 3, MS(890), FALSE));
+    drop_place(&p);
+}
+
 /* One clock: no packet moves the times but the first. Else the earliest does. */
 static void test_synced(void) {
     for (guint synced = 0; synced < 2; synced++) {
@@ -139,6 +157,7 @@ void test_offsets(void) {
     test_offset();
     test_steps();
     test_latency();
+    test_moving();
     test_synced();
     test_stop();
 }

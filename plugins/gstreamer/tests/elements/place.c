@@ -43,6 +43,7 @@ static GstBuffer *flagged(packet of) {
 static void test_silent(void) {
     place p;
     make_place(&p);
+    p.answers[97] = "application/x-rtp,media=video,payload=97,clock-rate=90000,encoding-name=Y";
     SEND(&p.r, .sequence = 10);
     SEND(&p.r, .sequence = 12, .pts = MS(40));
     SEND(&p.r, .sequence = 14, .pts = MS(80), .type = 97);
@@ -57,6 +58,18 @@ static void test_silent(void) {
     COMES(p.r.media, .sequence = 14, .pts = MS(80), .type = 97);
     CHECK(upstream_requests(&p.r) == 0);
     CHECK(count_of(p.r.element, "num-lost") == 1 && count_of(p.r.element, "rtx-success-count") == 1);
+    drop_place(&p);
+}
+
+/* What somebody behind it asks for all the same goes on upstream. */
+static void test_asked_behind(void) {
+    place p;
+    make_place(&p);
+    SEND(&p.r, .sequence = 10);
+    COMES(p.r.media, .sequence = 10);
+    GstStructure *told = gst_structure_new("GstRTPRetransmissionRequest", "seqnum", G_TYPE_UINT, 11, "ssrc", G_TYPE_UINT, MEDIA, NULL);
+    CHECK(gst_harness_push_upstream_event(p.r.media, gst_event_new_custom(GST_EVENT_CUSTOM_UPSTREAM, told)));
+    CHECK(upstream_requests(&p.r) == 1);
     drop_place(&p);
 }
 
@@ -106,12 +119,13 @@ static void test_feedback_is_taken(void) {
 
 /* ---- what is more than the library takes */
 
+/* Of two lengths, and with an extension. It ends its frame. */
 static GstBuffer *long_packet(guint16 sequence, gint kind) {
-    GstBuffer *buffer = make_packet((packet){.sequence = sequence, .fill = 7, .length = kind == 0 ? GOZDRIT_MAX_PAYLOAD + 1 : 9000});
+    GstBuffer *buffer = make_packet((packet){.sequence = sequence, .fill = 7, .marker = TRUE, .length = kind == 0 ? GOZDRIT_MAX_PAYLOAD + 1 : 9000});
     GstRTPBuffer rtp = GST_RTP_BUFFER_INIT;
     if (kind < 2) return buffer;
     gst_buffer_unref(buffer);
-    buffer = make_packet((packet){.sequence = sequence, .fill = 7});
+    buffer = make_packet((packet){.sequence = sequence, .fill = 7, .marker = TRUE});
     gst_rtp_buffer_map(buffer, GST_MAP_READWRITE, &rtp);
     gst_rtp_buffer_set_extension_data(&rtp, 0xbede, GOZDRIT_MAX_EXTENSION_WORDS + 1);
     gst_rtp_buffer_unmap(&rtp);
@@ -121,7 +135,8 @@ static GstBuffer *long_packet(guint16 sequence, gint kind) {
 
 static gboolean is_same(GstHarness *harness, GstBuffer *sent) {
     GstBuffer *out = next_buffer(harness);
-    gboolean is = out && same_octets(out, sent) && GST_BUFFER_PTS(out) == 0 && !GST_BUFFER_FLAG_IS_SET(out, GST_RTP_BUFFER_FLAG_RETRANSMISSION);
+    gboolean is = out && same_octets(out, sent) && GST_BUFFER_PTS(out) == 0 && !GST_BUFFER_FLAG_IS_SET(out, GST_RTP_BUFFER_FLAG_RETRANSMISSION) &&
+                  GST_BUFFER_FLAG_IS_SET(out, GST_BUFFER_FLAG_MARKER);
     gst_clear_buffer(&out);
     return is;
 }
@@ -201,8 +216,10 @@ static void test_late(void) {
         else CHECK(tells(bus, 10, MS(1000), "too-late", 1, 0) && !posted(bus, GST_MESSAGE_ELEMENT));
         if (turn == 1) break;
         gst_element_set_state(p.r.element, GST_STATE_NULL);
+        CHECK(count_of(p.r.element, "num-pushed") == 1);
         g_object_set(p.r.element, "post-drop-messages", TRUE, "drop-messages-interval", 100, NULL);
         gst_element_set_state(p.r.element, GST_STATE_PLAYING);
+        CHECK(count_of(p.r.element, "num-pushed") == 0);
         gst_harness_set_src_caps_str(p.r.media, PLACE_CAPS);
     }
     set_clock_to(&p.r, 99);
@@ -256,6 +273,28 @@ static void test_drop_on_latency(void) {
     }
 }
 
+/* The same where it is the timer that has more to go out: then no packet comes that tells it. */
+static void test_dropped_by_timer(void) {
+    place p;
+    make_place(&p);
+    GstBus *bus = bus_of(p.r.element);
+    g_object_set(p.r.element, "drop-on-latency", TRUE, "post-drop-messages", TRUE, NULL);
+    SEND(&p.r, .sequence = 9);
+    COMES(p.r.media, .sequence = 9);
+    GstPad *src = gst_element_get_static_pad(p.r.element, "src");
+    gulong probe = gst_pad_add_probe(src, GST_PAD_PROBE_TYPE_BLOCK | GST_PAD_PROBE_TYPE_BUFFER, hold, NULL, NULL);
+    SEND(&p.r, .sequence = 10, .pts = MS(20)); /* is on its way */
+    g_usleep(20000);
+    for (guint16 i = 12; i < 24; i++) SEND(&p.r, .sequence = i, .pts = MS(20) * (i - 9u));
+    CHECK(!posted(bus, GST_MESSAGE_ELEMENT));
+    TICKS(&p.r, 200);
+    CHECK(tells(bus, 12, MS(60), "drop-on-latency", 0, 1));
+    gst_pad_remove_probe(src, probe);
+    gst_object_unref(src);
+    drop_bus(p.r.element, bus);
+    drop_place(&p);
+}
+
 /* ---- set-active */
 
 static guint64 set_active(place *p, gboolean active, guint64 offset) {
@@ -273,12 +312,14 @@ static void test_active(void) {
     SEND(&p.r, .sequence = 10, .pts = MS(20));
     COMES(p.r.media, .sequence = 10, .pts = MS(20));
     CHECK(set_active(&p, FALSE, 0) == MS(20));
+    for (GstEvent *began; (began = gst_harness_try_pull_event(p.r.media));) gst_event_unref(began);
+    gst_harness_push_event(p.r.media, gst_event_new_custom(GST_EVENT_CUSTOM_DOWNSTREAM, gst_structure_new_empty("mark")));
     SEND(&p.r, .sequence = 11, .pts = MS(40));
     SEND(&p.r, .sequence = 12, .pts = MS(60));
-    CHECK(is_silent(p.r.media) && set_active(&p, FALSE, MS(5)) == MS(40));
+    CHECK(is_silent(p.r.media) && gst_harness_events_in_queue(p.r.media) == 0 && set_active(&p, FALSE, MS(5)) == MS(40));
     CHECK(set_active(&p, TRUE, MS(500)) == MS(540));
-    SEND(&p.r, .sequence = 13, .pts = MS(80));
     for (guint16 i = 11; i < 14; i++) {
+        if (i == 13) SEND(&p.r, .sequence = 13, .pts = MS(80));
         GstBuffer *out = next_buffer(p.r.media);
         CHECK(out && GST_BUFFER_PTS(out) == MS(500) + MS(20) * (i - 9u));
         gst_clear_buffer(&out);
@@ -404,12 +445,14 @@ static void test_counts(void) {
 
 void test_place(void) {
     test_silent();
+    test_asked_behind();
     test_asks();
     test_feedback_is_taken();
     test_long();
     test_long_noise();
     test_late();
     test_drop_on_latency();
+    test_dropped_by_timer();
     test_active();
     test_refused();
     test_window();

@@ -58,7 +58,8 @@ static void test_first(void) {
 static void test_rates(void) {
     static const struct { guint8 type; guint rate; gboolean is_late; } packets[] = {
         {96, 90000, FALSE}, {98, 48000, FALSE}, {98, 48000, TRUE}, {96, 90000, TRUE}, {8, 8000, FALSE}, {8, 8000, TRUE}, {98, 48000, TRUE},
-        {99, 1000, FALSE}};
+        {99, 1000, FALSE}, {99, 1000, TRUE}};
+    GstSegment segment;
     place p;
     make_place(&p);
     p.answers[98] = "application/x-rtp,media=audio,payload=98,clock-rate=48000";
@@ -68,9 +69,53 @@ static void test_rates(void) {
         GstBuffer *sent = at_rate(of, packets[i].rate);
         if (packets[i].is_late) GST_BUFFER_PTS(sent) += MS(7); /* the network held it back */
         gst_harness_push(p.r.media, gst_buffer_ref(sent));
-        if (!CHECK(is_same(p.r.media, sent, of.pts))) g_print("packet %u\n", i);
+        GstClockTime at = of.pts + (packets[i].is_late && packets[i].type == 99 ? MS(7) : 0);
+        if (!CHECK(is_same(p.r.media, sent, at))) g_print("packet %u\n", i);
         gst_buffer_unref(sent);
     }
+    gst_segment_init(&segment, GST_FORMAT_TIME);
+    gst_harness_push_event(p.r.media, gst_event_new_flush_start());
+    gst_harness_push_event(p.r.media, gst_event_new_flush_stop(TRUE));
+    gst_harness_push_event(p.r.media, gst_event_new_segment(&segment));
+    for (guint i = 0; i < 3; i++) { /* what the times were is forgotten for each rate */
+        GstBuffer *sent = at_rate((packet){.sequence = (guint16)(500 + i), .type = packets[i].type, .pts = MS(1000)}, packets[i].rate);
+        GST_BUFFER_PTS(sent) = MS(1500);
+        gst_harness_push(p.r.media, gst_buffer_ref(sent));
+        CHECK(is_same(p.r.media, sent, MS(1500)));
+        gst_buffer_unref(sent);
+    }
+    drop_place(&p);
+}
+
+/* What was answered holds until the element begins anew. */
+static void test_anew(void) {
+    GstSegment segment;
+    place p;
+    make_place(&p);
+    gst_segment_init(&segment, GST_FORMAT_TIME);
+    for (gint turn = 1; turn < 3; turn++) {
+        SEND(&p.r, .sequence = 1);
+        COMES(p.r.media, .sequence = 1);
+        CHECK(p.asked[96] == turn);
+        gst_element_set_state(p.r.element, GST_STATE_NULL);
+        gst_element_set_state(p.r.element, GST_STATE_PLAYING);
+        gst_harness_push_event(p.r.media, gst_event_new_stream_start("anew"));
+        gst_harness_push_event(p.r.media, gst_event_new_segment(&segment));
+    }
+    drop_place(&p);
+}
+
+/* What looks as RTCP does begins none; and a map of types is that of an element that makes media of retransmissions, as this one does not here. */
+static void test_none_first(void) {
+    place p;
+    make_place(&p);
+    gst_util_set_object_arg(G_OBJECT(p.r.element), "payload-type-map", "map,98=(uint)99");
+    SEND(&p.r, .sequence = 5, .type = 72, .marker = TRUE);
+    CHECK(is_silent(p.r.media) && count_of(p.r.element, "sessions") == 0 && count_of(p.r.element, "strays") == 1);
+    SEND(&p.r, .sequence = 6);
+    SEND(&p.r, .sequence = 7, .type = 99);
+    COMES(p.r.media, .sequence = 6);
+    COMES(p.r.media, .sequence = 7, .type = 99);
     drop_place(&p);
 }
 
@@ -102,7 +147,39 @@ static void test_caps(void) {
     drop_place(&p);
 }
 
-/* The pad of reports alone makes it one, and so does a handler alone; the first packets that are lost are known by what is answered. */
+static GstCaps *answer_nothing(GstElement *element, guint type, gpointer data) {
+    (void)element, (void)type, (void)data;
+    return NULL;
+}
+
+/* A handler alone makes it one, or the pad alone that was requested before it began; and it is none any more where both are gone. */
+static void test_known_before(void) {
+    for (guint pads = 0; pads < 2; pads++) {
+        receiver r = {.element = gst_element_factory_make("gozdritrecv", NULL)};
+        GstPad *pad = pads ? gst_element_request_pad_simple(r.element, "sink_rtcp") : NULL;
+        gulong handler = pads ? 0 : g_signal_connect(r.element, "request-pt-map", G_CALLBACK(answer_nothing), NULL);
+        r.media = gst_harness_new_with_element(r.element, "sink", "src");
+        gst_harness_set_src_caps_str(r.media, CAPS);
+        SEND(&r, .sequence = 10);
+        SEND(&r, .sequence = 11, .type = 97);
+        COMES(r.media, .sequence = 10);
+        COMES(r.media, .sequence = 11, .type = 97);
+        gst_element_set_state(r.element, GST_STATE_NULL);
+        if (pad) gst_element_release_request_pad(r.element, pad);
+        else g_signal_handler_disconnect(r.element, handler);
+        g_clear_object(&pad);
+        gst_element_set_state(r.element, GST_STATE_PLAYING);
+        gst_harness_set_src_caps_str(r.media, CAPS);
+        SEND(&r, .sequence = 10);
+        SEND(&r, .sequence = 11, .type = 97);
+        COMES(r.media, .sequence = 10);
+        CHECK(is_silent(r.media));
+        gst_harness_teardown(r.media);
+        gst_object_unref(r.element);
+    }
+}
+
+/* The pad makes it one where it is requested before the first packet. The first packets that are lost are known by what is answered. */
 static void test_known(void) {
     receiver r = {.element = gst_element_factory_make("gozdritrecv", NULL)};
     r.media = gst_harness_new_with_element(r.element, "sink", "src");
@@ -153,7 +230,10 @@ void test_pt_map(void) {
     test_order();
     test_first();
     test_rates();
+    test_anew();
+    test_none_first();
     test_caps();
+    test_known_before();
     test_known();
     test_other_stream();
 }

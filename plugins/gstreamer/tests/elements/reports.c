@@ -158,6 +158,22 @@ static void test_limits(void) {
     drop_place(&p);
 }
 
+/* How far that is, is by the clock rate. */
+static void test_rate(void) {
+    heard h = {0};
+    place p;
+    make_place(&p);
+    p.answers[96] = "application/x-rtp,payload=96,clock-rate=45000";
+    g_signal_connect(p.r.element, "handle-sync", G_CALLBACK(on_sync), &h);
+    SEND(&p.r, .sequence = 1, .pts = MS(1000));
+    REPORT(&p, .timestamp = RATE + 45000);
+    CHECK(number_of(&h, "clock-rate") == 45000 && number_of(&h, "sr-ext-rtptime") != G_MAXUINT64 && time_of(&h) == MS(2000));
+    REPORT(&p, .timestamp = RATE + 45001);
+    CHECK(h.count == 2 && number_of(&h, "sr-ext-rtptime") == G_MAXUINT64);
+    drop_heard(&h);
+    drop_place(&p);
+}
+
 /* ---- beside GStreamer's own */
 
 /* What an element tells of one stream and its reports, by handle-sync: four numbers for each. */
@@ -273,6 +289,7 @@ void test_reports(void) {
     test_names();
     test_early();
     test_limits();
+    test_rate();
     test_as_theirs();
     test_meta();
     test_release();
