@@ -93,10 +93,24 @@ static arrival *arrival_of(GstGozdritRecv *self, const gozdrit_played *played) {
     return came->buffer && is_it ? came : NULL;
 }
 
+/* So many packets behind one that was repaired are looked at. */
+enum { FAR_BEHIND = 64 };
+
+/* When the next packet came that came by itself: where there is no clock rate, one that was repaired is told to have come then. It is no earlier
+ * than that of its frame was, as who follows the earliest packets would else follow it. */
+static GstClockTime time_behind(const GstGozdritRecv *self, guint16 number) {
+    for (guint i = 1; i <= FAR_BEHIND; i++) {
+        const arrival *next = &self->arrivals[(guint16)(number + i) % ARRIVALS];
+        if (next->buffer && next->number == (guint16)(number + i) && !next->is_repair) return next->pts;
+    }
+    return GST_CLOCK_TIME_NONE;
+}
+
 /* The times of a packet: those that it came with, where these are what its timestamp says, and else what that says. All
  * packets with one timestamp have one time. */
-static void set_times(GstGozdritRecv *self, GstBuffer *out, const arrival *came, guint8 type, guint32 timestamp) {
+static void set_times(GstGozdritRecv *self, GstBuffer *out, const arrival *came, const gozdrit_played *played, guint8 type) {
     const rtp_times *times = ptmap_times(self, type);
+    guint32 timestamp = played->header.timestamp;
     GstClockTime own = rtp_times_of(times, timestamp);
     if (GST_CLOCK_TIME_IS_VALID(self->last_pts) && self->last_timestamp == timestamp) {
         /* as the one before */
@@ -104,6 +118,7 @@ static void set_times(GstGozdritRecv *self, GstBuffer *out, const arrival *came,
         self->last_pts = came->pts;
         self->last_dts = came->dts;
     } else {
+        if (times->clock_rate == 0) own = time_behind(self, (guint16)played->sequence);
         self->last_pts = GST_CLOCK_TIME_IS_VALID(own) ? own : self->last_pts;
         self->last_dts = GST_CLOCK_TIME_NONE;
     }
@@ -164,7 +179,7 @@ static void play_packet(GstGozdritRecv *self, const gozdrit_played *played) {
         return;
     }
     GstBuffer *out = make_packet(self, played, came, type);
-    set_times(self, out, came, type, played->header.timestamp);
+    set_times(self, out, came, played, type);
     if (self->lost > 0) {
         GstClockTime pts = self->last_pts;
         self->last_pts = before;

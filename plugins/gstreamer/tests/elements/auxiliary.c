@@ -190,6 +190,25 @@ static void test_flagged(void) {
     drop_auxiliary(&r);
 }
 
+/* Where the caps tell no clock rate, one that was repaired has the time of the next one that came, also if it is of the frame before: no
+ * jitter buffer behind takes it for an early one. */
+static void test_no_rate(void) {
+    receiver r = make_auxiliary("application/x-rtp");
+    SEND(&r, .sequence = 10, .pts = MS(1000));
+    SEND(&r, .sequence = 13, .pts = MS(1060));
+    SEND(&r, .sequence = 14, .pts = MS(1060));
+    TICKS(&r, 20);
+    CHECK(asks_upstream(&r, 11, 20, 0) && asks_upstream(&r, 12, 20, 0));
+    REPAIR(&r, 7, .sequence = 11, .pts = MS(1020));
+    REPAIR(&r, 8, .sequence = 12, .pts = MS(1060));
+    for (guint16 i = 10; i < 15; i++) {
+        GstBuffer *out = next_buffer(r.media);
+        CHECK(out && GST_BUFFER_PTS(out) == (i == 10 ? MS(1000) : MS(1060)));
+        gst_clear_buffer(&out);
+    }
+    drop_auxiliary(&r);
+}
+
 /* Maps say of which types and SSRCs the retransmissions are. */
 static void test_maps(void) {
     receiver r = make_auxiliary(FREE_CAPS);
@@ -270,6 +289,7 @@ void test_auxiliary(void) {
     test_before();
     test_gone();
     test_flagged();
+    test_no_rate();
     test_maps();
     test_behind();
     test_standstill();
