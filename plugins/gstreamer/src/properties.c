@@ -214,7 +214,7 @@ static void install_own(GObjectClass *class) {
                 G_MAXINT, -1);
     install_uint(class, PROP_NACKS, "rtx-max-retries", "How often one packet is asked for at most", 1, 255, 8);
     install_uint(class, PROP_WINDOW, "max-size-packets", "How many packets are kept while one is missing (0, and more than 8192 == 8192)",
-                 0, G_MAXINT16, 1024);
+                 0, G_MAXUINT, 1024);
     install_uint(class, PROP_SSRC, "ssrc", "The SSRC of the media (default == that of the caps or of the first packet)", 0,
                  G_MAXUINT32, SSRC_UNSET);
     install_uint(class, PROP_RTX_SSRC, "rtx-ssrc", "The SSRC of the retransmissions (default == that of the caps, or learnt)", 0,

@@ -16,7 +16,6 @@ static gint64 rate_of_caps(const GstGozdritRecv *self, guint8 type) {
 
 /* Whether a type is to be asked for. */
 static gboolean is_unknown(GstGozdritRecv *self, guint8 type) {
-    if (!self->in_place) return FALSE;
     if (self->rates.of[type] == 0) self->rates.of[type] = rate_of_caps(self, type);
     return self->rates.of[type] == 0;
 }
@@ -66,7 +65,7 @@ void ptmap_read_play(GstGozdritRecv *self, const GstCaps *caps) {
 /* The packet of npt-stop comes as much later as its timestamp is above this one's, and goes out within the latency. */
 void ptmap_note_time(GstGozdritRecv *self, guint32 timestamp) {
     const recv_caps *caps = &self->caps;
-    if (caps->npt_stop < caps->npt_start || caps->clock_base < 0) return;
+    if (!self->is_playing || caps->npt_stop < caps->npt_start || caps->clock_base < 0) return;
     const rtp_times *times = ptmap_times(self, self->last_type);
     if (!times->based) return;
     gint64 units = (gint64)(rtp_times_extended(times, timestamp) - times->first) + (gint32)((guint32)times->first - (guint32)caps->clock_base);
@@ -82,23 +81,20 @@ gboolean ptmap_is_past(GstGozdritRecv *self, guint64 now) {
     return TRUE;
 }
 
-/* ---- signals. The lock is not held. */
+/* ---- signals, which are emitted without the lock */
 
 gboolean ptmap_is_answered(GstGozdritRecv *self) { return g_signal_has_handler_pending(self, request_signal, 0, TRUE); }
 
 void ptmap_ask(GstGozdritRecv *self, GstBuffer *buffer) {
     guint8 octets[2];
-    if (gst_buffer_extract(buffer, 0, octets, sizeof octets) < sizeof octets) return;
+    if (!self->in_place || gst_buffer_extract(buffer, 0, octets, sizeof octets) < sizeof octets) return;
     guint8 type = PACKET_TYPE(octets);
-    g_mutex_lock(&self->lock);
-    gboolean unknown = is_unknown(self, type);
-    g_mutex_unlock(&self->lock);
-    if (!unknown) return;
+    if (!is_unknown(self, type)) return;
     GstCaps *caps = NULL;
+    g_mutex_unlock(&self->lock);
     g_signal_emit(self, request_signal, 0, (guint)type, &caps);
     g_mutex_lock(&self->lock);
     read_answer(self, caps, type);
-    g_mutex_unlock(&self->lock);
     gst_clear_caps(&caps);
 }
 

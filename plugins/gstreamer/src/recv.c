@@ -73,8 +73,8 @@ static GstFlowReturn chain(GstPad *pad, GstObject *parent, GstBuffer *buffer) {
     gsize length = 0;
     GstMapInfo map;
     (void)pad;
-    ptmap_ask(self, buffer);
     g_mutex_lock(&self->lock);
+    ptmap_ask(self, buffer);
     GstFlowReturn flow = self->flow;
     if (flow == GST_FLOW_OK && gst_buffer_map(buffer, &map, GST_MAP_READ)) {
         guint64 now = receiving_now(self);
@@ -234,6 +234,7 @@ static GstIterator *linked_inside(GstPad *pad, GstObject *parent) {
 /* What it stands in the place of is seen as it begins: somebody answers what a jitter buffer asks, or took the pad of reports. */
 static void begin_in_place(GstGozdritRecv *self, gboolean is_answered) {
     self->in_place = is_answered || self->reports != NULL;
+    self->is_playing = FALSE;
     self->npt_due = G_MAXUINT64;
     self->last_out = self->offset.frame = GST_CLOCK_TIME_NONE;
     self->pushed = self->given_up = 0;
@@ -288,9 +289,20 @@ static void wait_for_feedback_sink(GstGozdritRecv *self) {
     gst_clear_object(&peer);
 }
 
+/* What stands still on behalf of a pause comes to no end meanwhile. */
+static void set_playing(GstGozdritRecv *self, gboolean is_playing) {
+    g_mutex_lock(&self->lock);
+    self->is_playing = is_playing;
+    self->npt_due = G_MAXUINT64;
+    feedback_wake(self);
+    g_mutex_unlock(&self->lock);
+}
+
 static GstStateChangeReturn change_state(GstElement *element, GstStateChange change) {
     GstGozdritRecv *self = GST_GOZDRIT_RECV(element);
     if (change == GST_STATE_CHANGE_READY_TO_PAUSED) begin(self);
+    if (change == GST_STATE_CHANGE_PAUSED_TO_PLAYING || change == GST_STATE_CHANGE_PLAYING_TO_PAUSED)
+        set_playing(self, change == GST_STATE_CHANGE_PAUSED_TO_PLAYING);
     GstStateChangeReturn done = GST_ELEMENT_CLASS(gst_gozdrit_recv_parent_class)->change_state(element, change);
     if (change == GST_STATE_CHANGE_READY_TO_PAUSED) wait_for_feedback_sink(self);
     if (change == GST_STATE_CHANGE_PAUSED_TO_READY) end(self);

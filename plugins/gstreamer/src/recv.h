@@ -173,6 +173,7 @@ struct _GstGozdritRecv {
     out_offset offset;
     drop_messages drops;
     guint64 pushed, given_up; /* packets */
+    gboolean is_playing; /* else the stream may stand still */
     guint64 npt_due;  /* when what is before npt-stop has gone out, in milliseconds; or G_MAXUINT64 */
 
     rtp_times times;
@@ -292,11 +293,12 @@ void jitter_dropped(GstGozdritRecv *self, guint number, GstClockTime at, gboolea
 /* Drops the oldest of what is ready, where that and the newest packet are farther apart than the latency, by drop-on-latency. */
 void jitter_drop_old(GstGozdritRecv *self);
 
-/* ---- ptmap.c: payload types in a jitter buffer's place. The lock is held in all but the one that asks. */
+/* ---- ptmap.c: payload types in a jitter buffer's place. The lock is held where nothing else is said. */
 
 void ptmap_install(GObjectClass *class);
+/* Whether somebody answers. The lock is not held. */
 gboolean ptmap_is_answered(GstGozdritRecv *self);
-/* Asks for the caps of a packet's type, where nobody said its clock rate. */
+/* Asks for the caps of a packet's type, where nobody said its clock rate, and lets the lock go meanwhile. */
 void ptmap_ask(GstGozdritRecv *self, GstBuffer *buffer);
 void ptmap_forget(GstGozdritRecv *self);
 /* The times of packets of a type; and forgets all times, but not the rate. */

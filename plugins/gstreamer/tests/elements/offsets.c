@@ -153,6 +153,27 @@ static void test_stop(void) {
     }
 }
 
+/* While the stream is paused no end comes nearer. */
+static void test_pause(void) {
+    gint stops = 0;
+    place p;
+    make_place(&p);
+    p.answers[96] = "application/x-rtp,payload=96,clock-rate=90000,clock-base=(uint)0,npt-stop=(guint64)1000000000";
+    g_signal_connect(p.r.element, "on-npt-stop", G_CALLBACK(count), &stops);
+    SEND(&p.r, .sequence = 0);
+    gst_element_set_state(p.r.element, GST_STATE_PAUSED);
+    SEND(&p.r, .sequence = 1, .pts = MS(100));
+    set_clock_to(&p.r, 5000);
+    gst_element_set_state(p.r.element, GST_STATE_PLAYING);
+    g_usleep(20000);
+    CHECK(g_atomic_int_get(&stops) == 0);
+    SEND(&p.r, .sequence = 2, .pts = MS(200));
+    TICKS(&p.r, 6000);
+    for (gint i = 0; i < 2000 && g_atomic_int_get(&stops) == 0; i++) g_usleep(1000);
+    CHECK(g_atomic_int_get(&stops) == 1);
+    drop_place(&p);
+}
+
 void test_offsets(void) {
     test_offset();
     test_steps();
@@ -160,4 +181,5 @@ void test_offsets(void) {
     test_moving();
     test_synced();
     test_stop();
+    test_pause();
 }

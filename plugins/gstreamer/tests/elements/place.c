@@ -375,7 +375,7 @@ static void test_refused(void) {
 
 /* A window of any number, and of more than the library keeps, is the most that it keeps. */
 static void test_window(void) {
-    static const guint windows[] = {0, GOZDRIT_MAX_STORE + 1, GOZDRIT_MAX_STORE};
+    static const guint windows[] = {0, G_MAXUINT, GOZDRIT_MAX_STORE + 1, GOZDRIT_MAX_STORE};
     for (guint i = 0; i < G_N_ELEMENTS(windows); i++) {
         receiver r = make_receiver(CAPS);
         GstBus *bus = bus_of(r.element);
@@ -385,7 +385,7 @@ static void test_window(void) {
         gst_harness_set_src_caps_str(r.media, CAPS);
         SEND(&r, .sequence = 0);
         for (guint k = 2; k < 8190; k++) SEND(&r, .sequence = (guint16)k);
-        CHECK(count_of(r.element, "overrun") == 0 && warnings_of(bus) == (i < 2));
+        CHECK(count_of(r.element, "overrun") == 0 && warnings_of(bus) == (i < 3));
         SEND(&r, .sequence = 8200);
         CHECK(count_of(r.element, "overrun") > 0);
         drop_bus(r.element, bus);
