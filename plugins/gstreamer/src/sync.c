@@ -50,7 +50,7 @@ void sync_forget(GstGozdritRecv *self) {
 }
 
 /* So many names are kept at most: who invents SSRCs fills no memory. */
-enum { MOST_NAMES = 64 };
+enum { MOST_NAMES = 1024 };
 
 static void note_name(GstGozdritRecv *self, guint32 ssrc, gchar *name) {
     if (!self->sync.names) self->sync.names = g_hash_table_new_full(NULL, NULL, NULL, g_free);
@@ -139,6 +139,14 @@ void sync_tell(GstGozdritRecv *self) {
     gst_structure_free(told);
 }
 
+/* The lock is held. */
+static void take_report(GstGozdritRecv *self, GstBuffer *buffer, const sender_report *read) {
+    gst_clear_buffer(&self->sync.last.buffer);
+    self->sync.last = *read;
+    self->sync.last.buffer = gst_buffer_ref(buffer);
+    self->sync.is_known = TRUE;
+}
+
 static GstFlowReturn chain(GstPad *pad, GstObject *parent, GstBuffer *buffer) {
     GstGozdritRecv *self = GST_GOZDRIT_RECV(parent);
     sender_report read = {0};
@@ -150,11 +158,9 @@ static GstFlowReturn chain(GstPad *pad, GstObject *parent, GstBuffer *buffer) {
     }
     g_mutex_lock(&self->lock);
     if (name) note_name(self, read.ssrc, name);
-    gst_clear_buffer(&self->sync.last.buffer);
-    self->sync.last = read;
-    self->sync.last.buffer = buffer;
-    self->sync.is_known = TRUE;
+    if (!self->end.held || read.ssrc == self->session.media_ssrc) take_report(self, buffer, &read);
     g_mutex_unlock(&self->lock);
+    gst_buffer_unref(buffer);
     sync_tell(self);
     return GST_FLOW_OK;
 }

@@ -199,8 +199,8 @@ static void test_no_rate(void) {
     SEND(&r, .sequence = 14, .pts = MS(1060));
     TICKS(&r, 20);
     CHECK(asks_upstream(&r, 11, 20, 0) && asks_upstream(&r, 12, 20, 0));
-    REPAIR(&r, 7, .sequence = 11, .pts = MS(1020));
     REPAIR(&r, 8, .sequence = 12, .pts = MS(1060));
+    REPAIR(&r, 7, .sequence = 11, .pts = MS(1020));
     for (guint16 i = 10; i < 15; i++) {
         GstBuffer *out = next_buffer(r.media);
         CHECK(out && GST_BUFFER_PTS(out) == (i == 10 ? MS(1000) : MS(1060)));

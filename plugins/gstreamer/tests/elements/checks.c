@@ -170,7 +170,8 @@ void set_clock_to(receiver *r, guint64 at) { gst_harness_set_time(r->media, at *
 /* ---- a receiver in a jitter buffer's place */
 
 static GstCaps *answer(GstElement *element, guint type, place *p) {
-    (void)element;
+    guint latency;
+    g_object_get(element, "latency", &latency, NULL); /* who answers may ask the element */
     g_atomic_int_inc(&p->asked[type & 127]);
     return p->answers[type & 127] ? gst_caps_from_string(p->answers[type & 127]) : NULL;
 }

@@ -163,6 +163,10 @@ static void test_pause(void) {
     SEND(&p.r, .sequence = 0);
     gst_element_set_state(p.r.element, GST_STATE_PAUSED);
     SEND(&p.r, .sequence = 1, .pts = MS(100));
+    g_usleep(20000);
+    GstTestClock *clock = gst_harness_get_testclock(p.r.media);
+    CHECK(gst_test_clock_peek_id_count(clock) == 0); /* its timer waits for nothing */
+    gst_object_unref(clock);
     set_clock_to(&p.r, 5000);
     gst_element_set_state(p.r.element, GST_STATE_PLAYING);
     g_usleep(20000);

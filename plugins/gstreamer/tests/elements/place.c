@@ -387,7 +387,7 @@ static void test_window(void) {
         for (guint k = 2; k < 8190; k++) SEND(&r, .sequence = (guint16)k);
         CHECK(count_of(r.element, "overrun") == 0 && warnings_of(bus) == (i < 3));
         SEND(&r, .sequence = 8200);
-        CHECK(count_of(r.element, "overrun") > 0);
+        CHECK(count_of(r.element, "overrun") > 0 && count_of(r.element, "num-lost") == 8); /* 1 to 8 had to go */
         drop_bus(r.element, bus);
         drop_receiver(&r);
     }
@@ -412,17 +412,17 @@ static void test_counts(void) {
     set_clock_to(&p.r, 60);
     gst_harness_push(p.r.media, flagged((packet){.sequence = 11, .pts = MS(1020)}));
     for (guint16 i = 10; i < 13; i++) COMES(p.r.media, .sequence = i, .pts = MS(1000) + MS(20) * (i - 10u));
-    SEND(&p.r, .sequence = 14, .pts = MS(1080));
+    SEND(&p.r, .sequence = 15, .pts = MS(1080));
     SEND(&p.r, .sequence = 9, .pts = MS(980)); /* too late */
-    for (gint i = 0; i < 2000 && count_of(p.r.element, "num-lost") == 0; i++) {
+    for (gint i = 0; i < 2000 && count_of(p.r.element, "num-lost") < 2; i++) {
         gst_harness_crank_single_clock_wait(p.r.media);
         g_usleep(100);
     }
-    COMES(p.r.media, .sequence = 14, .pts = MS(1080));
-    CHECK(count_of(p.r.element, "num-pushed") == 4 && count_of(p.r.element, "num-lost") == 1 && count_of(p.r.element, "num-late") == 1);
+    COMES(p.r.media, .sequence = 15, .pts = MS(1080));
+    CHECK(count_of(p.r.element, "num-pushed") == 4 && count_of(p.r.element, "num-lost") == 2 && count_of(p.r.element, "num-late") == 1);
     CHECK(count_of(p.r.element, "num-duplicates") == 1 && count_of(p.r.element, "rtx-success-count") == 1);
     guint64 asked = count_of(p.r.element, "rtx-count");
-    CHECK(asked >= 2 && asked == count_of(p.r.element, "nacked"));
+    CHECK(asked > count_of(p.r.element, "nacks") && asked == count_of(p.r.element, "nacked"));
     CHECK(count_of(p.r.element, "rtx-rtt") == MS(40));
     /* 16 ms late, and then 16 ms early of 24 (RFC 3550, section 6.4.1): see rtpjitterbuffer's */
     GstStructure *stats, *theirs;

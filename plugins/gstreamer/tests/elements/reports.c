@@ -39,8 +39,10 @@ typedef struct heard {
     guint count;
 } heard;
 
+/* Who hears it may ask the element, as an rtpbin does. */
 static void on_sync(GstElement *element, GstStructure *told, heard *h) {
-    (void)element;
+    gint64 offset;
+    g_object_get(element, "ts-offset", &offset, NULL);
     if (h->last) gst_structure_free(h->last);
     h->last = gst_structure_copy(told);
     h->count++;
@@ -232,6 +234,7 @@ static void test_meta(void) {
     g_object_set(p.r.element, "add-reference-timestamp-meta", TRUE, NULL);
     for (guint16 i = 0; i < G_N_ELEMENTS(at); i++) {
         if (i == 1) REPORT(&p, .timestamp = timestamp_of((packet){.pts = MS(1550)}), .seconds = 10);
+        if (i == 2) REPORT(&p, .ssrc = 7, .timestamp = 5, .seconds = 11); /* another stream's */
         if (i == 3) g_object_set(p.r.element, "add-reference-timestamp-meta", FALSE, NULL);
         SEND(&p.r, .sequence = i, .pts = MS(at[i]));
         GstBuffer *out = next_buffer(p.r.media);
