@@ -41,7 +41,7 @@ typedef struct recv_settings {
     gint mode;
 } recv_settings;
 
-/* What there is no more of, or is the most that there is of it, in the library. */
+/* How many packets are kept while one is missing: 0, and more than the library keeps, is as many as that. */
 #define WINDOW_OF(settings) ((settings)->window == 0 || (settings)->window > GOZDRIT_MAX_STORE ? GOZDRIT_MAX_STORE : (settings)->window)
 
 /* The values of the property `mode`, as rtpjitterbuffer has them. The times of packets follow the far clock, or, where both clocks are said to
@@ -219,7 +219,7 @@ gboolean receiving_is_rtx(const GstCaps *caps);
 gboolean receiving_caps(GstGozdritRecv *self, const GstCaps *caps);
 /* Takes a packet; what can be played then is still to be. */
 void receiving_packet(GstGozdritRecv *self, GstBuffer *buffer, const guint8 *octets, gsize length, guint64 now);
-/* The type and the SSRC that a property or the caps want; or -1, as in a jitter buffer's place, where what the caps say is not looked at. */
+/* The type that a property or the caps want, or -1. In a jitter buffer's place what the caps say of it is not looked at. */
 gint64 receiving_wanted_type(const GstGozdritRecv *self);
 /* The clock rate of a static type, or -1. */
 gint64 receiving_static_rate(gint64 type);
@@ -258,6 +258,8 @@ void playing_task(gpointer pad);
 
 /* ---- feedback.c */
 
+/* Whether somebody takes feedback. */
+gboolean feedback_is_taken(const GstGozdritRecv *self);
 /* Wakes the timer, where the session wants to be called earlier than it waits for. The lock is held. */
 void feedback_schedule(GstGozdritRecv *self);
 void feedback_wake(GstGozdritRecv *self);
@@ -308,7 +310,7 @@ void ptmap_begin_times(GstGozdritRecv *self);
 void ptmap_read_play(GstGozdritRecv *self, const GstCaps *caps);
 /* A packet that came has this timestamp: npt-stop comes nearer. */
 void ptmap_note_time(GstGozdritRecv *self, guint32 timestamp);
-/* Whether npt-stop is past, which is so once; and when it will be, if nothing more comes. */
+/* Whether npt-stop is past, which is so once. */
 gboolean ptmap_is_past(GstGozdritRecv *self, guint64 now);
 /* Emits on-npt-stop. The lock is not held. */
 void ptmap_npt_stop(GstGozdritRecv *self);
@@ -337,8 +339,7 @@ GstBuffer *offset_onto(GstGozdritRecv *self, GstBuffer *out);
 
 /* ---- auxiliary.c */
 
-/* Whether somebody takes feedback; and whether nobody does, and this is no jitter buffer's place. */
-gboolean feedback_is_taken(const GstGozdritRecv *self);
+/* Whether nobody takes feedback, and this is no jitter buffer's place. The lock is held. */
 gboolean auxiliary_is(const GstGozdritRecv *self);
 /* Whether a packet of another stream, which follows another one of it, takes the place of the stream, which is gone. The lock is held, as in
  * the next two. */
