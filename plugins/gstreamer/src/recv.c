@@ -239,7 +239,6 @@ static void begin_in_place(GstGozdritRecv *self, gboolean is_answered) {
     self->last_out = self->offset.frame = GST_CLOCK_TIME_NONE;
     self->pushed = self->given_up = 0;
     self->has_dropped = FALSE;
-    g_clear_pointer(&self->drops.next, gst_message_unref);
     self->drops = (drop_messages){0};
     ptmap_forget(self);
     sync_forget(self);
@@ -270,13 +269,15 @@ static void begin(GstGozdritRecv *self) {
                             ("max-size-packets is %u, and that is the most that the library keeps", window));
 }
 
-/* The counts can still be read. */
+/* The counts can still be read. A message has a reference of the element, and is not kept by it. */
 static void end(GstGozdritRecv *self) {
     g_mutex_lock(&self->lock);
     receiving_end(self);
     playing_clear(self);
     element_time_end(&self->time);
+    GstMessage *dropped = g_steal_pointer(&self->drops.next);
     g_mutex_unlock(&self->lock);
+    if (dropped) gst_element_post_message(GST_ELEMENT(self), dropped);
 }
 
 /* A sink that is not yet PAUSED when a live pipeline goes on to PLAYING stays behind until all sinks are PAUSED, that of the media
@@ -329,7 +330,6 @@ static void finalize(GObject *object) {
     playing_forget(self);
     sync_forget(self);
     g_clear_pointer(&self->sync.names, g_hash_table_destroy);
-    g_clear_pointer(&self->drops.next, gst_message_unref);
     type_map_set(&self->types, NULL);
     g_clear_pointer(&self->ssrcs, gst_structure_free);
     g_free(self->asked);

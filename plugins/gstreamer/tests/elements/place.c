@@ -295,6 +295,25 @@ static void test_dropped_by_timer(void) {
     drop_place(&p);
 }
 
+/* And where it is the end that has: the message, which has a reference of the element, does not keep it alive. */
+static void test_dropped_at_end(void) {
+    place p;
+    make_place(&p);
+    gpointer element = p.r.element;
+    g_object_add_weak_pointer(G_OBJECT(element), &element);
+    g_object_set(p.r.element, "drop-on-latency", TRUE, "post-drop-messages", TRUE, NULL);
+    SEND(&p.r, .sequence = 9);
+    COMES(p.r.media, .sequence = 9);
+    GstPad *src = gst_element_get_static_pad(p.r.element, "src");
+    gst_pad_add_probe(src, GST_PAD_PROBE_TYPE_BLOCK | GST_PAD_PROBE_TYPE_BUFFER, hold, NULL, NULL);
+    SEND(&p.r, .sequence = 10, .pts = MS(20)); /* is on its way */
+    g_usleep(20000);
+    for (guint16 i = 12; i < 24; i++) SEND(&p.r, .sequence = i, .pts = MS(20) * (i - 9u));
+    gst_object_unref(src);
+    drop_place(&p);
+    CHECK(element == NULL);
+}
+
 /* ---- set-active */
 
 static guint64 set_active(place *p, gboolean active, guint64 offset) {
@@ -453,6 +472,7 @@ void test_place(void) {
     test_late();
     test_drop_on_latency();
     test_dropped_by_timer();
+    test_dropped_at_end();
     test_active();
     test_refused();
     test_window();
