@@ -23,9 +23,10 @@
  * `GstRTPRetransmissionRequest` that go upstream, packets of other streams and types go through, and media that are flagged as
  * retransmissions are repairs.
  *
- * Where somebody answers #GstGozdritRecv::request-pt-map as it begins, or took the pad `sink_rtcp`, it stands in the place of an
- * rtpjitterbuffer, as an rtpbin has it from `request-jitterbuffer`: all packets of its stream are media, of whatever types, it asks by those
- * events where #GstGozdritRecv:do-retransmission is set, and tells sender reports by #GstGozdritRecv::handle-sync.
+ * Where somebody answers #GstGozdritRecv::request-pt-map as it begins, or took the pad `sink_rtcp` and not `feedback_src`, it stands in the
+ * place of an rtpjitterbuffer, as an rtpbin has it from `request-jitterbuffer`: all packets of its stream are media, of whatever types, it asks by those
+ * events where #GstGozdritRecv:do-retransmission is set. Wherever it stands, it tells sender reports that come by `sink_rtcp` by
+ * #GstGozdritRecv::handle-sync.
  *
  * ## Example pipeline
  * |[
@@ -231,9 +232,10 @@ static GstIterator *linked_inside(GstPad *pad, GstObject *parent) {
 
 /* ---- states */
 
-/* What it stands in the place of is seen as it begins: somebody answers what a jitter buffer asks, or took the pad of reports. */
+/* What it stands in the place of is seen as it begins: somebody answers what a jitter buffer asks, or took the pad of reports, and not that of
+ * feedback. */
 static void begin_in_place(GstGozdritRecv *self, gboolean is_answered) {
-    self->in_place = is_answered || self->reports != NULL;
+    self->in_place = is_answered || (self->reports && !feedback_is_taken(self));
     self->is_playing = FALSE;
     self->npt_due = G_MAXUINT64;
     self->last_out = self->offset.frame = GST_CLOCK_TIME_NONE;

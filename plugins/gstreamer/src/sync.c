@@ -1,4 +1,4 @@
-/* Sender reports (RFC 3550, section 6.4.1) in a jitter buffer's place: they say what time of the far side's clock a timestamp is, and that is
+/* Sender reports (RFC 3550, section 6.4.1), as a jitter buffer takes them: they say what time of the far side's clock a timestamp is, and that is
  * told with how timestamps become times here. From what an rtpbin is told so of all streams of one CNAME it has their ts-offset. */
 #include "recv.h"
 
@@ -61,7 +61,7 @@ static void note_name(GstGozdritRecv *self, guint32 ssrc, gchar *name) {
 /* Caps have the attributes of SDP as fields "ssrc-1234-cname" (RFC 5576). */
 void sync_read_caps(GstGozdritRecv *self, const GstCaps *caps) {
     const GstStructure *said = gst_caps_get_structure(caps, 0);
-    for (gint i = 0; self->in_place && i < gst_structure_n_fields(said); i++) {
+    for (gint i = 0; i < gst_structure_n_fields(said); i++) {
         const gchar *field = gst_structure_nth_field_name(said, (guint)i), *name = gst_structure_get_string(said, field);
         if (!name || !g_str_has_prefix(field, "ssrc-") || !g_str_has_suffix(field, "-cname")) continue;
         note_name(self, (guint32)g_ascii_strtoull(field + 5, NULL, 10), g_strdup(name));
@@ -177,7 +177,8 @@ static GstIterator *linked_nowhere(GstPad *pad, GstObject *parent) {
     return NULL;
 }
 
-/* A session that goes on stays what it is: one that has begun without this pad takes reports, and is no jitter buffer. */
+/* A session that goes on stays what it is: one that has begun without this pad takes reports, and is no jitter buffer, and so is one whose
+ * feedback is taken. */
 GstPad *sync_request_pad(GstElement *element, GstPadTemplate *template, const gchar *name, const GstCaps *caps) {
     GstGozdritRecv *self = GST_GOZDRIT_RECV(element);
     GstPad *pad = gst_pad_new_from_template(template, "sink_rtcp");
@@ -185,7 +186,7 @@ GstPad *sync_request_pad(GstElement *element, GstPadTemplate *template, const gc
     g_mutex_lock(&self->lock);
     gboolean is_first = self->reports == NULL;
     if (is_first) self->reports = pad;
-    if (is_first && !self->end.held) self->in_place = TRUE;
+    if (is_first && !self->end.held && !feedback_is_taken(self)) self->in_place = TRUE;
     g_mutex_unlock(&self->lock);
     if (!is_first) {
         gst_object_unref(gst_object_ref_sink(pad));

@@ -98,23 +98,20 @@ static void test_asks(void) {
 
 /* Who took the pad of feedback is asked, whatever do-retransmission says. */
 static void test_feedback_is_taken(void) {
-    receiver r = {.element = gst_element_factory_make("gozdritrecv", NULL)};
-    r.media = gst_harness_new_with_element(r.element, "sink", "src");
-    r.feedback = gst_harness_new_with_element(r.element, NULL, "feedback_src");
-    GstPad *pad = gst_element_request_pad_simple(r.element, "sink_rtcp");
-    gst_harness_set_src_caps_str(r.media, CAPS);
-    SEND(&r, .sequence = 10);
-    SEND(&r, .sequence = 12, .type = 98);
-    TICKS(&r, 20);
-    GstBuffer *nack = next_buffer(r.feedback);
+    place p;
+    make_place(&p);
+    p.r.feedback = gst_harness_new_with_element(p.r.element, NULL, "feedback_src");
+    SEND(&p.r, .sequence = 10);
+    SEND(&p.r, .sequence = 12, .type = 98);
+    TICKS(&p.r, 20);
+    GstBuffer *nack = next_buffer(p.r.feedback);
     CHECK(is_nack(nack, 11, 0));
     gst_clear_buffer(&nack);
-    gst_harness_push(r.media, flagged((packet){.sequence = 11}));
-    for (guint16 i = 10; i < 13; i++) COMES(r.media, .sequence = i, .type = i == 12 ? 98 : 96);
-    CHECK(upstream_requests(&r) == 0);
-    gst_element_release_request_pad(r.element, pad);
-    gst_object_unref(pad);
-    drop_receiver(&r);
+    gst_harness_push(p.r.media, flagged((packet){.sequence = 11}));
+    for (guint16 i = 10; i < 13; i++) COMES(p.r.media, .sequence = i, .type = i == 12 ? 98 : 96);
+    CHECK(upstream_requests(&p.r) == 0);
+    gst_harness_teardown(p.r.feedback);
+    drop_place(&p);
 }
 
 /* ---- what is more than the library takes */

@@ -160,6 +160,34 @@ static void test_limits(void) {
     drop_place(&p);
 }
 
+/* A receiver whose feedback is taken is no jitter buffer for its pad of reports: it takes retransmissions, and tells reports all the same. */
+static void test_alone(void) {
+    for (guint late = 0; late < 2; late++) { /* the pad is there as it begins, or behind that */
+        heard h = {0};
+        receiver r = make_receiver(CAPS);
+        place p = {.reports = gst_harness_new_with_element(r.element, "sink_rtcp", NULL)};
+        if (!late) gst_element_set_state(r.element, GST_STATE_NULL);
+        gst_element_set_state(r.element, GST_STATE_PLAYING);
+        gst_harness_set_src_caps_str(p.reports, "application/x-rtcp");
+        g_signal_connect(r.element, "handle-sync", G_CALLBACK(on_sync), &h);
+        gst_harness_set_src_caps_str(r.media, CAPS ",ssrc-286331153-cname=(string)c");
+        SEND(&r, .sequence = 10, .pts = MS(1000));
+        SEND(&r, .sequence = 12, .pts = MS(1040));
+        TICKS(&r, 20);
+        GstBuffer *nack = next_buffer(r.feedback);
+        CHECK(is_nack(nack, 11, 0));
+        gst_clear_buffer(&nack);
+        for (guint16 i = 0; i < 3; i++) REPAIR(&r, (guint16)(7 + i), .sequence = 11, .pts = MS(1020));
+        for (guint16 i = 10; i < 13; i++) COMES(r.media, .sequence = i, .pts = MS(1000) + MS(20) * (i - 10u));
+        REPORT(&p, .timestamp = timestamp_of((packet){.pts = MS(1030)}), .seconds = 3);
+        CHECK(h.count == 1 && time_of(&h) == MS(1030) && g_strcmp0(gst_structure_get_string(h.last, "cname"), "c") == 0);
+        CHECK(count_of(r.element, "sessions") == 1);
+        drop_heard(&h);
+        gst_harness_teardown(p.reports);
+        drop_receiver(&r);
+    }
+}
+
 /* How far that is, is by the clock rate. */
 static void test_rate(void) {
     heard h = {0};
@@ -292,6 +320,7 @@ void test_reports(void) {
     test_names();
     test_early();
     test_limits();
+    test_alone();
     test_rate();
     test_as_theirs();
     test_meta();
