@@ -244,7 +244,7 @@ static void install_jitter(GObjectClass *class) {
                   "the newest one are farther apart than the latency");
     install_truth(class, PROP_POST_DROPS, "post-drop-messages", "Post a message drop-msg on the bus where a packet was dropped, since it "
                   "came too late, or by drop-on-latency");
-    install_uint(class, PROP_DROPS_INTERVAL, "drop-messages-interval", "The least time between two such messages, in ms", 0, G_MAXUINT, 200);
+    install_uint(class, PROP_DROPS_INTERVAL, "drop-messages-interval", "The least time between two messages drop-msg, in ms", 0, G_MAXUINT, 200);
     g_object_class_install_property(
         class, PROP_TS_OFFSET, g_param_spec_int64("ts-offset", NULL, "What is added to the times of packets that go out, in ns", G_MININT64,
                                                   G_MAXINT64, 0, PROPERTY_FLAGS));
@@ -265,8 +265,8 @@ static void install_jitter(GObjectClass *class) {
                                               (GParamFlags)(G_PARAM_READABLE | G_PARAM_STATIC_STRINGS)));
     install_uint(class, PROP_MAX_DROPOUT, "max-dropout-time", "Not here: other than 60000 is refused. Gaps are bridged up to 3000 packets or "
                  "max-size-packets", 0, G_MAXINT32, USUAL_DROPOUT);
-    install_uint(class, PROP_MAX_MISORDER, "max-misorder-time", "Not here: other than 2000 is refused. Packets come late by up to 100", 0,
-                 G_MAXUINT, USUAL_MISORDER);
+    install_uint(class, PROP_MAX_MISORDER, "max-misorder-time", "Not here: other than 2000 is refused. What is missing is taken however far "
+                 "behind it comes, within the latency", 0, G_MAXUINT, USUAL_MISORDER);
     install_truth(class, PROP_RFC7273, "rfc7273-sync", "Not here: true is refused");
 }
 
