@@ -289,7 +289,7 @@ int main(int count, char **words) {
         {"times", test_times},     {"streams", test_streams},   {"restarts", test_restarts}, {"states", test_states},
         {"flushes", test_flushes}, {"caps", test_rtx_caps},      {"silence", test_silence}, {"storm", test_storm},
         {"numbers", test_numbers}, {"metas", test_metas}, {"keyunits", test_key_units},
-        {"place", test_place}, {"ptmap", test_pt_map}, {"reports", test_reports}, {"offsets", test_offsets},
+        {"place", test_place}, {"drops", test_drops}, {"ptmap", test_pt_map}, {"reports", test_reports}, {"offsets", test_offsets},
         {"dropin", test_drop_in}, {"auxiliary", test_auxiliary}, {"histories", test_histories}, {"extensions", test_extensions},
         {"logs", test_logs},
     };

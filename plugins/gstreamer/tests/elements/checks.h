@@ -124,6 +124,7 @@ void test_receive(void);
 void test_metas(void);
 void test_auxiliary(void);
 void test_place(void);
+void test_drops(void);
 void test_pt_map(void);
 void test_reports(void);
 void test_offsets(void);
