@@ -363,7 +363,7 @@ static void gst_gozdrit_recv_class_init(GstGozdritRecvClass *class) {
     gst_element_class_add_static_pad_template(element, &src_template);
     gst_element_class_add_static_pad_template(element, &feedback_template);
     gst_element_class_add_static_pad_template(element, &reports_template);
-    gst_element_class_set_static_metadata(element, "RTP receiver that asks for what was lost", "Codec/Network/RTP",
+    gst_element_class_set_static_metadata(element, "RTP receiver that asks for what was lost", "Filter/Network/RTP",
                                           "Receives RTP packets, and asks for the lost ones by generic NACK (RFC 4585, RFC 4588)",
                                           "Gozdrit maintainers");
 }
