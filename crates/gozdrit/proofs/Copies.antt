@@ -1,6 +1,6 @@
 -- A NACK has 268 octets at most, so that there is room for a copy of it; and an ask behind it writes that.
 use Rattle.std.proofs.Common.{◌≡◌, ℕ, ◌+◌, ◌*◌, ◌/◌, ◌≤◌, ◌==◌, ◌&&◌, nat_le, Bool, true, List, [], ◌∷◌, length, take, Option, Some, None, Result, Ok, Err, refl, sym, ap, subst, arith, ◌∙◌}
-use Rattle.std.specs.Prelude.{◌||◌}
+use Rattle.std.specs.Prelude.{◌||◌, IsSome}
 use Rattle.std.specs.List.{flat_map}
 use Rattle.std.proofs.lemmas.List.{length-take-le, take_at}
 use Rattle.std.proofs.lemmas.Option.{none-some}
@@ -14,7 +14,7 @@ use Rattle.receiver.specs.Receiver.{state_of}
 use Rattle.receiver.specs.Window.{ReceiverState}
 use Rattle.endpoint.specs.declared.receive_counts.ReceiveCounts.{ReceiveCounts}
 use Rattle.gozdrit.specs.Ends.{Receiver}
-use Rattle.gozdrit.specs.Following.{AsksAs, AsksNext, again_of, core_of, leaves_twice}
+use Rattle.gozdrit.specs.Following.{AsksAgain, AsksAs, AsksNext, again_of, core_of, leaves_twice}
 
 pairs_length : (pairs : List Pair) → length (flat_map pair_octets pairs) ≡ 4 * length pairs
 pairs_length [] = refl
@@ -80,3 +80,9 @@ second_copy r mid after now later most next_most len out out' next next' answer 
     let copied = subst (λ (a : Option (ArrayVec ℕ)). AsksNext a mid later next_most next answer next' after) kept second in
     let done = copied.fits (subst (λ (n : ℕ). n ≤ length next) (sym whole) room) in
     (done.0 ∙ ap (λ (n : ℕ). Ok (Some n)) whole, ap (take len) done.1 ∙ take_at (take len out') _ len whole, done.2)
+
+-- Where something is to leave once more, that is what is asked next.
+pub asks_copy : (again : Option (ArrayVec ℕ)) (before after : Receiver) (now most : ℕ) (out out' : List ℕ) (answer : Result (Option ℕ) TooShort) → IsSome again
+    → ((copy : ArrayVec ℕ) → again ≡ Some copy → AsksAgain copy.items before out answer out' after) → AsksNext again before now most out answer out' after
+asks_copy None before after now most out out' answer is asks = let never = is in absurd (cc)
+asks_copy (Some copy) before after now most out out' answer is asks = asks copy refl

@@ -1,10 +1,11 @@
 //! The receiving end for C, and what it measures of the path.
-ghost use Rattle.std.specs.Prelude.{◌≡◌, ◌↔◌, ◌^◌, ℕ, ◌<◌, ◌≤◌, ◌+◌, nat_le, false, Some, None, IsSome, Ok};
+ghost use Rattle.std.specs.Prelude.{◌≡◌, ◌↔◌, ◌^◌, ℕ, ◌<◌, ◌≤◌, ◌+◌, nat_le, false, length, Some, None, IsSome, Ok};
+ghost use Rattle.arrayvec.specs.ArrayVec.{ArrayVec};
 ghost use Rattle.endpoint.specs.Measuring.{meter_heard};
 ghost use Rattle.receiver.specs.Receiver.{state_of};
 ghost use Rattle.receiver.specs.Waking.{IsQuiet};
 ghost use Rattle.stores.specs.Asking.{has_come};
-ghost use Rattle.gozdrit.specs.Following.{AsksAs, AsksNext, HearsAs, HearsOwn, PassesAs, core_of, leaves_twice, patience_of, spare_answers, timed_where};
+ghost use Rattle.gozdrit.specs.Following.{AsksAgain, AsksAs, AsksNext, HearsAs, HearsOwn, PassesAs, core_of, leaves_twice, patience_of, spare_answers, timed_where};
 
 use crate::again::{Again, MAX_NACK, copy_of, write_copy};
 use endpoint::{AskingEndpoint, Heard, PathMeter, Standing};
@@ -72,18 +73,36 @@ impl MeteredReceiver {
     ) -> Result<Option<usize>, TooShort>
         ensures { AsksNext self.old.again self.old now most out.old result out.new self.new }
     {
-        if let Some(again) = &self.again {
-            let len = write_copy(again.as_slice(), out)?;
-            self.again = None;
-            return Ok(Some(len));
+        if self.again.is_some() {
+            return self.ask_again(out);
         }
         let asked = self.ask_due(out, now, most);
         if let Ok(Some(len)) = asked
             && self.leaves_twice()
         {
-            self.again = Some(copy_of(&out[..len]));
+            self.keep(&out[..len]);
         }
         asked
+    }
+
+    /// Writes the NACK that is to leave once more. By itself, as is what keeps it, so that an ask for nothing blanks no room for one.
+    #[inline(never)]
+    fn ask_again(&mut self, out: &mut [u8]) -> Result<Option<usize>, TooShort>
+        requires { IsSome self.old.again }
+        ensures { (copy : ArrayVec ℕ) → self.old.again ≡ Some copy → AsksAgain copy.items self.old out.old result out.new self.new }
+    {
+        let len = write_copy(self.again.as_ref().unwrap().as_slice(), out)?;
+        self.again = None;
+        Ok(Some(len))
+    }
+
+    /// Has a NACK leave once more.
+    #[inline(never)]
+    fn keep(&mut self, octets: &[u8])
+        requires { length octets.now ≤ MAX_NACK }
+        ensures { self.new ≡ record self.old { again = Some (record { items = octets.now }) } }
+    {
+        self.again = Some(copy_of(octets));
     }
 
     /// `AskingEndpoint::ask_most_into`, which is measured.
