@@ -272,7 +272,7 @@ typedef struct gozdrit_receiver_config {
 } gozdrit_receiver_config;
 
 /* What of a receiver follows what it measures of the path. */
-#define GOZDRIT_ADAPTIVE_OFF 0 /* all times stay as they are set; but where `nack_interval` is 0, it is as GOZDRIT_ADAPTIVE_SEND_TIME */
+#define GOZDRIT_ADAPTIVE_OFF 0 /* all times stay as they are set; in a configuration whose `nack_interval` is 0, as GOZDRIT_ADAPTIVE_SEND_TIME */
 /* `reorder_delay` and `nack_interval` hold until a round trip was measured, and follow the path from then on: the first
  * NACK waits as long as packets were seen to come behind later ones, and as many NACKs follow as have their answers within
  * the latency, no closer than the round trip with its variation (RFC 6298, section 2). */
@@ -623,9 +623,9 @@ int32_t gozdrit_play(gozdrit_receiver *receiver, uint64_t now, gozdrit_played *p
  * call it until then, or as often as feedback may be sent (RFC 4585, section 3.5).
  *
  * Where the times of NACKs follow the path each leaves twice, so that the loss of one of both costs no time: the next call
- * writes the same octets once more, also where they name more than `most`, and counts nothing. That ends while more than
- * one in 8 retransmissions come a second time, as from a sender that answers both copies. gozdrit_set_nack_copies says
- * otherwise.
+ * writes the same octets once more, also where they name more than `most`, and counts nothing. That ends while `late` and
+ * `duplicate` of gozdrit_probe_counts together are more than 2 and an eighth of the retransmissions that were taken, as they
+ * are of a sender that answers both copies. gozdrit_set_nack_copies says otherwise.
  *
  *   75  room is less than the datagram has; GOZDRIT_MAX_NACK_DATAGRAM is enough for any
  */
