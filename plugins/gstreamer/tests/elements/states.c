@@ -17,7 +17,6 @@ typedef struct pair {
     GstPad *back[2]; /* the way of feedback, which is in no bin: a bin warns of a loop */
     guint32 drawn[2];
     guint64 came, wrong, next;
-    gint64 held_up; /* for how long at most the machine held the source up, in microseconds */
 } pair;
 
 static void on_packet(GstElement *sink, GstBuffer *buffer, GstPad *pad, pair *p) {
@@ -96,7 +95,6 @@ static void make_pair(pair *p, guint32 seed) {
 static gpointer feed(gpointer data) {
     pair *p = data;
     GstFlowReturn flow;
-    gint64 last = g_get_monotonic_time();
     for (guint64 i = 0; i < PACKETS; i++) {
         GstBuffer *buffer = make_packet((packet){.sequence = (guint16)(65000 + i), .pts = i * GST_MSECOND});
         guint8 octets[8];
@@ -105,9 +103,6 @@ static gpointer feed(gpointer data) {
         g_signal_emit_by_name(p->source, "push-buffer", buffer, &flow);
         gst_buffer_unref(buffer);
         g_usleep(500);
-        gint64 now = g_get_monotonic_time();
-        p->held_up = MAX(p->held_up, now - last);
-        last = now;
     }
     g_signal_emit_by_name(p->source, "end-of-stream", &flow);
     return NULL;
@@ -119,9 +114,7 @@ static void finish_pair(pair *p) {
     CHECK(message && GST_MESSAGE_TYPE(message) == GST_MESSAGE_EOS);
     if (message) gst_message_unref(message);
     guint64 gaps = count_of(p->recv, "gaps"), repaired = count_of(p->recv, "retransmissions");
-    gboolean is_busy = p->held_up > 50000; /* then what was missing may have been given up before it could be asked for */
-    if (is_busy) g_print("busy: a source was held up for %d ms\n", (gint)(p->held_up / 1000));
-    if (!CHECK(p->came + gaps == PACKETS && (gaps <= 5 || is_busy) && repaired >= 100 && p->wrong == 0))
+    if (!CHECK(p->came + gaps == PACKETS && gaps <= 5 && repaired >= 100 && p->wrong == 0))
         g_print("came %u, gaps %u, repaired %u, wrong %u\n", (guint)p->came, (guint)gaps, (guint)repaired, (guint)p->wrong);
     CHECK(count_of(p->recv, "overrun") == 0 && count_of(p->send, "sent") == PACKETS);
     gst_object_unref(bus);
