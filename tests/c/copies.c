@@ -116,8 +116,8 @@ static void test_reset(void) {
     ANSWERS(GOZDRIT_OK, gozdrit_receiver_free(&r));
 }
 
-/* Until a round trip was measured, 40 ms lie between two NACKs. Its measurement is 40 ms, and its variation half of that: an answer
- * takes 40 + 4 * 20 ms at most (RFC 6298, section 2), in which two more have room behind the first. */
+/* Until a round trip was measured, 40 ms lie between two NACKs. It is 40 ms: asks lie no closer than that and five, and three more have their
+ * answers in time behind the first. */
 static void test_defaults_follow(void) {
     gozdrit_receiver r = receiver_of(0, GOZDRIT_ADAPTIVE_OFF);
     gozdrit_times times = GOZDRIT_TIMES_INIT;
@@ -127,7 +127,7 @@ static void test_defaults_follow(void) {
     NACKS(&r, 26, GOZDRIT_MAX_NACKED, PAIR(101, 2));
     HEARS_RTX(&r, 0x22222222, 101, 65, ((gozdrit_received){.kind = GOZDRIT_RETRANSMISSION, .sequence = 65637}));
     ANSWERS(GOZDRIT_OK, gozdrit_receiver_times(&r, &times));
-    CHECK(times.known && times.round_trip == 40 && times.variation == 20 && times.reorder_delay == 0 && times.nack_interval == 67);
+    CHECK(times.known && times.round_trip == 40 && times.variation == 20 && times.reorder_delay == 0 && times.nack_interval == 51);
     ANSWERS(GOZDRIT_OK, gozdrit_receiver_free(&r));
 }
 

@@ -1,3 +1,4 @@
+pub mod Few
 pub mod Held
 pub mod Leads
 pub mod Resends
