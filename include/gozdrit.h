@@ -625,7 +625,7 @@ int32_t gozdrit_play(gozdrit_receiver *receiver, uint64_t now, gozdrit_played *p
  * Where the times of NACKs follow the path each leaves twice, so that the loss of one of both costs no time: the next call
  * writes the same octets once more, also where they name more than `most`, and counts nothing. That ends for good where the
  * sender answers both copies: of the packets whose answers are timed, one at a time, and that were named once, more than
- * half and two came a second time. gozdrit_set_nack_copies says otherwise.
+ * half and eight came a second time. gozdrit_set_nack_copies says otherwise.
  *
  *   75  room is less than the datagram has; GOZDRIT_MAX_NACK_DATAGRAM is enough for any
  */

@@ -102,10 +102,10 @@ static gozdrit_receiver begun(void) {
     return r;
 }
 
-/* A sender that answers both copies gets both of five NACKs, and of no other one, whatever it answers later. */
+/* A sender that answers both copies gets both of seventeen NACKs, and of no other one, whatever it answers later. */
 static void test_answers_both(void) {
     gozdrit_receiver r = begun();
-    for (unsigned turn = 0; turn < 120; turn++) CHECK(is_asked_twice(&r, turn, turn < 60) == (turn < 5));
+    for (unsigned turn = 0; turn < 120; turn++) CHECK(is_asked_twice(&r, turn, turn < 60) == (turn < 17));
     ANSWERS(GOZDRIT_OK, gozdrit_receiver_free(&r));
 }
 

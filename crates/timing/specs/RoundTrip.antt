@@ -84,9 +84,9 @@ answered_again (Some a) t place now =
     then (true, record t { answered = None; smoothed = Some (raised_with t.smoothed a.time); doubts = 0 })
     else (false, t)
 
--- Of those that were asked for once so many were answered once more that both copies of a NACK are answered: more than half, and two.
+-- Of those that were asked for once so many were answered once more that both copies of a NACK are answered: more than half and eight.
 abbrev pub are_both : (once twice : ℕ) → Bool
-are_both once twice = nat_lt (once / 2 + 2) twice
+are_both once twice = nat_lt (once / 2 + 8) twice
 
 -- One more answer of a place that was asked for once is a copy, and counts once.
 abbrev pub is_first : (again : Option ℕ) → Bool

@@ -13,9 +13,10 @@ const LONGEST: u64 = 60000;
 /// So many measurements in doubt are passed over in a row. The next one counts.
 const DOUBTS: u64 = 8;
 
-/// So many answers may come once more beside each second one. (A far side that answers one copy may answer the other one, too, where a network lays
-/// them far apart.)
-const SPARE: u64 = 2;
+/// So many answers may come once more beside each second one. (A far side that answers one of two copies answers the other one, too, where a network
+/// lays them far apart: 45 of 100 with 40 milliseconds of jitter, which are more than half and two of the first some for every second such path,
+/// and more than half and eight for one in 25.)
+const SPARE: u64 = 8;
 
 /// A time and its variation, as they are smoothed.
 #[derive(Clone, Copy, Debug, PartialEq, Eq)]
@@ -73,7 +74,7 @@ pub struct RoundTrip {
     /// How many were without doubt; and how many of their retransmissions came once more.
     once: u64,
     twice: u64,
-    /// Whether these were more than half of those, at any time, but for two.
+    /// Whether these were more than half of those and eight, at any time.
     both: bool,
 }
 
@@ -272,8 +273,8 @@ impl RoundTrip {
         }
     }
 
-    /// Whether the far side answers both of two copies of a NACK: of the places that were measured, and asked for once, more than half were
-    /// answered once more at some time, and two.
+    /// Whether the far side answers both of two copies of a NACK: of the places that were measured, and asked for once, more than half and eight
+    /// were answered once more at some time.
     pub fn answers_both(&self) -> bool
         ensures { result ≡ self.now.both }
     {

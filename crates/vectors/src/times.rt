@@ -340,68 +340,57 @@ fn answer_often(trip: &mut RoundTrip, is_again: bool, answers: u32) {
     }
 }
 
+/// So many places are answered once, and then so many twice, each asked for once; and whether both copies are answered then.
+fn both_of(single: u32, double: u32) -> (RoundTrip, bool) {
+    let mut trip = RoundTrip::new();
+    for _ in 0..single {
+        answer_often(&mut trip, false, 1);
+    }
+    for _ in 0..double {
+        answer_often(&mut trip, false, 2);
+    }
+    (trip, trip.answers_both())
+}
+
 #[test]
 fn both_copies_are_answered(_rt: HostRuntime) -> Result<(), Fail> {
-    let rows: [(&[(bool, u32)], bool); 8] = [
-        (&[], false),
-        // Two, and half of all.
-        (&[(false, 2), (false, 2), (false, 2), (false, 2)], false),
-        (
-            &[(false, 2), (false, 2), (false, 2), (false, 2), (false, 2)],
-            true,
-        ),
-        (
-            &[
-                (false, 2),
-                (false, 1),
-                (false, 2),
-                (false, 2),
-                (false, 2),
-                (false, 2),
-            ],
-            false,
-        ),
-        // What comes a third time counts no more, nor does what was asked for twice.
-        (&[(false, 9), (false, 9), (false, 9), (false, 9)], false),
-        (
-            &[(true, 2), (true, 2), (true, 2), (true, 2), (true, 2)],
-            false,
-        ),
-        (
-            &[
-                (false, 2),
-                (true, 2),
-                (false, 2),
-                (false, 2),
-                (false, 2),
-                (true, 2),
-                (false, 2),
-            ],
-            true,
-        ),
-        // It stays so.
-        (
-            &[
-                (false, 2),
-                (false, 2),
-                (false, 2),
-                (false, 2),
-                (false, 2),
-                (false, 1),
-                (false, 1),
-            ],
-            true,
-        ),
+    let rows = [
+        // Half of all, and eight
+        (0, 0, false),
+        (0, 16, false),
+        (0, 17, true),
+        (1, 17, false),
+        (1, 18, true),
+        (100, 116, false),
+        (100, 117, true),
     ];
-    for (answers, wanted) in rows {
-        let mut trip = RoundTrip::new();
-        for (is_again, count) in answers {
-            answer_often(&mut trip, *is_again, *count);
-        }
-        trip.forget();
-        if trip.answers_both() != wanted {
+    for (single, double, wanted) in rows {
+        if both_of(single, double).1 != wanted {
             return Err(Fail::from("the copies"));
         }
     }
     Ok(())
+}
+
+#[test]
+fn other_answers_are_no_copies(_rt: HostRuntime) -> Result<(), Fail> {
+    let mut trip = RoundTrip::new();
+    for _ in 0..16 {
+        // What comes a third time counts no more, nor does what was asked for twice.
+        answer_often(&mut trip, false, 9);
+        answer_often(&mut trip, true, 2);
+    }
+    let none = !trip.answers_both();
+    // It stays so, whatever comes then.
+    let (mut both, is_both) = both_of(0, 17);
+    for _ in 0..50 {
+        answer_often(&mut both, false, 1);
+    }
+    both.forget();
+    answer_often(&mut both, false, 2);
+    if none && is_both && both.answers_both() {
+        Ok(())
+    } else {
+        Err(Fail::from("other answers"))
+    }
 }
