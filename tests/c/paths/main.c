@@ -1,0 +1,103 @@
+/* What the library comes to over lossy paths, by the defaults of the header, in virtual time: the rows of docs/LINKS.md that other software is
+ * measured by, each with the most that may be lost and late, and that may be retransmitted in vain. So a rule of asks or of retransmissions that
+ * gives away what was gained is seen at once, on any machine, by the same draws.
+ *
+ *   paths                  every row
+ *   paths KEY=VALUE ...    one path, by the names of struct path and struct stream, and seeds=N: what comes of it */
+#include "stream.h"
+
+#include <stdio.h>
+#include <stdlib.h>
+#include <string.h>
+
+enum { SEEDS = 24 };
+
+struct row {
+    const char *name;
+    struct path path;
+    struct stream stream;
+    double most;    /* lost and late, in per cent */
+    double in_vain; /* of a hundred packets, those that are retransmitted in vain */
+};
+
+static const struct row ROWS[] = {
+    {"10 % lost", {.loss = .1, .delay = 25}, {2000, 40, 200}, .05, .2},
+    {"20 %", {.loss = .2, .delay = 25}, {2000, 40, 200}, .3, .2},
+    {"30 %", {.loss = .3, .delay = 25}, {2000, 40, 200}, 1.5, .3},
+    {"10 %, round trip 20, latency 120", {.loss = .1, .delay = 10}, {2000, 40, 120}, .03, .2},
+    {"10 %, round trip 150, latency 600", {.loss = .1, .delay = 75}, {2000, 40, 600}, .06, .3},
+    {"5 %, up to 10 ms of jitter", {.loss = .05, .delay = 18, .jitter = 10}, {2000, 40, 200}, .03, 1},
+    {"20 %, up to 15 ms", {.loss = .2, .delay = 18, .jitter = 15}, {2000, 40, 200}, .4, 3},
+    {"10 %, up to 40 ms", {.loss = .1, .delay = 18, .jitter = 40}, {2000, 40, 200}, .3, 30},
+    {"1 %, up to 40 ms", {.loss = .01, .delay = 18, .jitter = 40}, {2000, 40, 200}, .05, 2},
+    {"nothing lost, up to 60 ms, 20 Mbit/s", {.delay = 18, .jitter = 60}, {20000, 10, 200}, .1, 2},
+    {"nothing lost, up to 150 ms, 8 Mbit/s", {.delay = 18, .jitter = 150}, {8000, 20, 200}, .1, 2},
+    {"a link of 1.1, .3 s out, latency 1000", {.delay = 25, .kilobits = 2200, .queue = 150, .out = 10000, .out_for = 300}, {2000, 40, 1000}, .3, 1},
+    {"a link of 1.1, .5 s out, latency 500", {.delay = 25, .kilobits = 2200, .queue = 150, .out = 10000, .out_for = 500}, {2000, 40, 500}, .95, .5},
+    {"a link of 1.1, 1 s out, latency 1000", {.delay = 25, .kilobits = 2200, .queue = 150, .out = 10000, .out_for = 1000}, {2000, 40, 1000}, 2.3, .5},
+    {"a link of 1.1, a queue of 400, .5 s out, latency 1000", {.delay = 25, .kilobits = 2200, .queue = 400, .out = 10000, .out_for = 500}, {2000, 40, 1000}, .2, 1},
+    {"a link of 1.3, 5 % in bursts of 20, latency 500", {.loss = .05, .burst = 20, .delay = 25, .kilobits = 2600, .queue = 150}, {2000, 40, 500}, .6, 3},
+    {"a link of 1.1, the same", {.loss = .05, .burst = 20, .delay = 25, .kilobits = 2200, .queue = 150}, {2000, 40, 500}, 1.4, 4},
+};
+
+/* The means of so many seeds. */
+static struct outcome mean(const struct stream *stream, const struct path *path, unsigned seeds) {
+    struct outcome all = {0, 0, 0, 0};
+    for (unsigned seed = 1; seed <= seeds; seed++) {
+        const struct outcome one = run_stream(stream, path, seed);
+        all.lost += one.lost / seeds;
+        all.late += one.late / seeds;
+        all.retransmitted += one.retransmitted / seeds;
+        all.in_vain += one.retransmitted * one.in_vain / seeds;
+    }
+    return all;
+}
+
+static void print(const char *name, const struct outcome *came) {
+    printf("%s: lost %.3f, late %.3f; of a hundred packets %.2f retransmitted, %.2f in vain\n", name, 100 * came->lost, 100 * came->late,
+           100 * came->retransmitted, 100 * came->in_vain);
+}
+
+static int run_rows(void) {
+    int failed = 0;
+    for (size_t i = 0; i < sizeof ROWS / sizeof *ROWS; i++) {
+        const struct outcome came = mean(&ROWS[i].stream, &ROWS[i].path, SEEDS);
+        const int is_kept = 100 * (came.lost + came.late) <= ROWS[i].most && 100 * came.in_vain <= ROWS[i].in_vain;
+        print(ROWS[i].name, &came);
+        if (!is_kept) printf("FAILED: %s: at most %.2f lost and late, and %.2f in vain\n", ROWS[i].name, ROWS[i].most, ROWS[i].in_vain);
+        failed += !is_kept;
+    }
+    return failed > 0;
+}
+
+static int run_one(int words, char **word) {
+    struct path path = {.delay = 25, .queue = 150};
+    struct stream stream = {2000, 40, 200};
+    double latency = 200, seeds = SEEDS;
+    const struct {
+        const char *name;
+        double *value;
+    } KEYS[] = {{"loss", &path.loss},         {"burst", &path.burst},   {"delay", &path.delay},           {"jitter", &path.jitter},
+                {"kilobits", &path.kilobits}, {"queue", &path.queue},   {"out", &path.out},               {"out_for", &path.out_for},
+                {"slow", &path.slow},         {"rate", &stream.kilobits}, {"seconds", &stream.seconds}, {"latency", &latency},
+                {"seeds", &seeds}};
+    struct outcome came;
+    for (int i = 0; i < words; i++) {
+        const size_t length = strcspn(word[i], "=");
+        size_t key = 0;
+        while (key < sizeof KEYS / sizeof *KEYS && (strlen(KEYS[key].name) != length || strncmp(KEYS[key].name, word[i], length) != 0)) key++;
+        if (key == sizeof KEYS / sizeof *KEYS || word[i][length] != '=') {
+            fprintf(stderr, "paths: what is %s\n", word[i]);
+            return 2;
+        }
+        *KEYS[key].value = strtod(word[i] + length + 1, NULL);
+    }
+    stream.latency = (uint64_t)latency;
+    came = mean(&stream, &path, (unsigned)seeds);
+    print("this path", &came);
+    return 0;
+}
+
+int main(int words, char **word) {
+    return words > 1 ? run_one(words - 1, word + 1) : run_rows();
+}
