@@ -50,9 +50,11 @@ fn left_until(end: u64) -> u64 {
     let mut pace = Pace::new(Rate::Percent(200));
     let mut many = 0u64;
     for now in 0..end.saturating_add(1) {
-        while pace.is_open(now) {
-            pace.spend(1200, now);
-            many = many.saturating_add(1);
+        for _ in 0..60u8 {
+            if pace.is_open(now) {
+                pace.spend(1200, now);
+                many = many.saturating_add(1);
+            }
         }
     }
     many
