@@ -34,6 +34,7 @@ void sending_retransmissions(GstGozdritSend *self) {
 
 /* Hands a stream feedback, and says in the log what becomes of what its NACKs name. */
 static gboolean hear_one(GstGozdritSend *self, send_stream *stream, const guint8 *octets, gsize length, gozdrit_outcome *outcome) {
+    stream_tell_time(stream, element_time_now(&self->time) / MILLISECOND);
     if (gozdrit_feedback(&stream->end, octets, length, outcome) != GOZDRIT_OK) return FALSE;
     if (outcome->kind == GOZDRIT_FEEDBACK)
         GST_LOG_OBJECT(self, "SSRC %08x: %u numbers are asked for, %u more are to be retransmitted, %u are not in the history, %u were as often "

@@ -264,7 +264,7 @@ static void set_property(GObject *object, guint id, const GValue *value, GParamS
     case PROP_REPEATS: settings->repeats = g_value_get_uint(value); break;
     case PROP_EOS_DELAY: settings->eos_delay = g_value_get_uint(value); break;
     case PROP_SILENCE_DELAY: settings->silence_delay = g_value_get_uint(value); break;
-    case PROP_MIN_INTERVAL: settings->min_interval = g_value_get_uint(value); break;
+    case PROP_MIN_INTERVAL: settings->min_interval = g_value_get_int(value); break;
     case PROP_MAX_TIME: settings->max_time = g_value_get_uint(value); break;
     case PROP_TYPE_MAP: type_map_set(&self->types, g_value_get_boxed(value)); break;
     case PROP_RATE_MAP: type_map_set(&self->rates, g_value_get_boxed(value)); break;
@@ -300,7 +300,7 @@ static void get_property(GObject *object, guint id, GValue *value, GParamSpec *s
     case PROP_REPEATS: g_value_set_uint(value, settings.repeats); break;
     case PROP_EOS_DELAY: g_value_set_uint(value, settings.eos_delay); break;
     case PROP_SILENCE_DELAY: g_value_set_uint(value, settings.silence_delay); break;
-    case PROP_MIN_INTERVAL: g_value_set_uint(value, settings.min_interval); break;
+    case PROP_MIN_INTERVAL: g_value_set_int(value, settings.min_interval); break;
     case PROP_MAX_TIME: g_value_set_uint(value, settings.max_time); break;
     case PROP_STATS: g_value_take_boxed(value, sending_counts(self)); break;
     default: G_OBJECT_WARN_INVALID_PROPERTY_ID(object, id, spec);
@@ -351,9 +351,11 @@ static void install_properties(GObjectClass *class) {
     install_uint(class, PROP_SILENCE_DELAY, "silence-delay",
                  "How long no packet comes until the last one is repeated once, in ms, where feedback_sink is linked "
                  "(0 == never)", 0, 60000, 100);
-    install_uint(class, PROP_MIN_INTERVAL, "rtx-min-interval",
-                 "How long after its last retransmission a packet is not retransmitted again, in ms: about a round trip (0 == as "
-                 "soon as it is asked for)", 0, G_MAXUINT, 10);
+    g_object_class_install_property(
+        class, PROP_MIN_INTERVAL, g_param_spec_int("rtx-min-interval", NULL, "How long after its last retransmission a packet is not "
+                                                   "retransmitted again, in ms: about a round trip (0 == as soon as it is asked for, -1 == "
+                                                   "while its answer may wait in a queue of the path, by what is measured, and 10 at least)",
+                                                   -1, G_MAXINT, -1, PROPERTY_FLAGS));
     install_uint(class, PROP_MAX_TIME, "max-size-time",
                  "How long after it was sent, and by its timestamp before the newest one, a packet is retransmitted, in ms: about the "
                  "latency of the other end (0 == as long as it is kept)", 0, G_MAXUINT, 0);
@@ -403,7 +405,7 @@ static void gst_gozdrit_send_init(GstGozdritSend *self) {
     self->past = (gozdrit_send_counts)GOZDRIT_SEND_COUNTS_INIT;
     self->settings = (send_settings){.ssrc = SSRC_UNSET, .rtx_ssrc = SSRC_UNSET, .receiver_ssrc = SSRC_UNSET,
                                      .rtx_type = RTX_TYPE, .first = -1, .history = 1024, .repeats = 8, .eos_delay = 500,
-                                     .silence_delay = 100, .min_interval = 10};
+                                     .silence_delay = 100, .min_interval = -1};
     self->sink = add_pad(self, &sink_template);
     self->feedback = add_pad(self, &feedback_template);
     self->src = add_pad(self, &src_template);

@@ -62,14 +62,14 @@ static gint32 begin(send_stream *stream, const send_settings *settings, guint16 
     gboolean is_most = settings->history == 0 || settings->history > GOZDRIT_MAX_STORE;
     config.history = is_most ? GOZDRIT_MAX_STORE : settings->history;
     config.max_retransmissions = (guint8)settings->repeats;
-    config.min_resend = settings->min_interval;
+    if (settings->min_interval >= 0) config.min_resend = (guint64)settings->min_interval; /* else the library's own, and: */
     config.deadline = settings->max_time;
     config.first_sequence = first;
     gint32 number = gozdrit_sender_new(&config, &stream->end);
     if (number != GOZDRIT_OK) return number;
-    gozdrit_sender_set_adaptive(&stream->end, 0); /* rtpsession holds NACKs back for as long as it sees fit */
+    gozdrit_sender_set_adaptive(&stream->end, settings->min_interval < 0);
     stream->receiver_ssrc = config.session.receiver_ssrc;
-    stream->has_rule = settings->min_interval > 0 || settings->max_time > 0;
+    stream->has_rule = settings->min_interval != 0 || settings->max_time > 0;
     stream->max_time = settings->max_time;
     stream->size = config.history;
     stream->places = g_new0(place, stream->size);
@@ -81,8 +81,7 @@ static gint32 begin(send_stream *stream, const send_settings *settings, guint16 
 
 static place *place_of(const send_stream *stream, guint64 sequence) { return &stream->places[sequence % stream->size]; }
 
-/* Tells the library what time it is, where that makes a difference. */
-static void tell_time(send_stream *stream, guint64 now) {
+void stream_tell_time(send_stream *stream, guint64 now) {
     if (stream->end.held && stream->has_rule) gozdrit_sender_set_time(&stream->end, now);
 }
 
@@ -194,7 +193,7 @@ gint32 stream_take(send_stream *stream, const send_settings *settings, const str
     if (!stream->end.held && packet->is_kept) number = begin(stream, settings, packet->number);
     stream->after = (guint16)(packet->number + 1);
     if (number != GOZDRIT_OK || !stream->end.held) return number;
-    tell_time(stream, now);
+    stream_tell_time(stream, now);
     number = take_near(stream, settings, packet, (gint16)(packet->number - (guint16)stream->next));
     stream->after = (guint16)stream->next;
     return number;
@@ -270,7 +269,7 @@ static gint32 retransmit(send_stream *stream, gozdrit_sent *sent, guint8 *octets
 GstBuffer *stream_retransmission(send_stream *stream, guint64 now, rid_ids *ids) {
     guint8 octets[GOZDRIT_MAX_DATAGRAM];
     GstBuffer *out = NULL;
-    tell_time(stream, now);
+    stream_tell_time(stream, now);
     while (stream->end.held && !out) {
         gozdrit_sent sent = GOZDRIT_SENT_INIT;
         gint32 number = retransmit(stream, &sent, octets, sizeof octets);

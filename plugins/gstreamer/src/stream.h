@@ -22,7 +22,7 @@ typedef struct send_settings {
     guint repeats;
     guint eos_delay;     /* milliseconds */
     guint silence_delay; /* the same; 0: none */
-    guint min_interval;  /* the same, from one retransmission of a packet to the next; 0: none */
+    gint min_interval;   /* the same, from one retransmission of a packet to the next; 0: none; -1: it follows the path */
     guint max_time;      /* the same, from a packet to its last retransmission; 0: any */
 } send_settings;
 
@@ -89,6 +89,9 @@ guint16 stream_number(send_stream *stream, guint32 ssrc, guint16 own, gint first
 
 /* A packet goes out: it is kept, or its number is left blank. An answer of the library that is not GOZDRIT_OK is one that has to be told. */
 gint32 stream_take(send_stream *stream, const send_settings *settings, const stream_packet *packet, guint64 now);
+
+/* Tells the library what time it is, where that makes a difference: before feedback, so that it measures the path. */
+void stream_tell_time(send_stream *stream, guint64 now);
 
 /* The next retransmission, or NULL. It says RepairedRtpStreamId, where there is an id of it. */
 GstBuffer *stream_retransmission(send_stream *stream, guint64 now, rid_ids *ids);

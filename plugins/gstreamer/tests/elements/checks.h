@@ -114,6 +114,7 @@ void test_send(void);
 void test_numbers(void);
 void test_histories(void);
 void test_feedback(void);
+void test_path(void);
 void test_drop_in(void);
 void test_extensions(void);
 void test_logs(void);

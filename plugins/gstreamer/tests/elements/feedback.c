@@ -70,26 +70,6 @@ static void test_in_time(void) {
     drop_sender(&s);
 }
 
-/* A NACK that leaves twice is answered once, by the usual interval. */
-static void test_twice(void) {
-    sender s = make_sender();
-    GstElement *usual = gst_element_factory_make("gozdritsend", NULL);
-    guint least = 0;
-    g_object_get(usual, "rtx-min-interval", &least, NULL);
-    gst_object_unref(usual);
-    gst_element_set_state(s.element, GST_STATE_NULL);
-    g_object_set(s.element, "rtx-min-interval", least, NULL);
-    gst_element_set_state(s.element, GST_STATE_PLAYING);
-    send_five(&s);
-    names_at(&s, 40, 1, 0);
-    CHECK(repair_comes(&s, (packet){.sequence = 1, .fill = 1}));
-    names_at(&s, 49, 1, 0);
-    CHECK(is_silent(s.media) && count_of(s.element, "early") == 1);
-    names_at(&s, 50, 1, 0);
-    CHECK(repair_comes(&s, (packet){.sequence = 1, .fill = 1}));
-    drop_sender(&s);
-}
-
 /* A type of the retransmissions that is below 64, beside media that has the one by which the library knows them else. */
 static void test_low_type(void) {
     GstHarness *media = gst_harness_new_with_padnames("gozdritsend", "sink", "src");
@@ -216,7 +196,6 @@ static void test_rtpsession(void) {
 void test_feedback(void) {
     test_nacks();
     test_in_time();
-    test_twice();
     test_limits();
     test_reporter();
     test_low_type();

@@ -248,7 +248,7 @@ static void make_storm(storm *s, guint32 seed) {
     *s = (storm){.seed = seed, .drawn = g_rand_new_with_seed(seed), .renewed = TRUE};
     g_mutex_init(&s->pushing);
     g_mutex_init(&s->path);
-    s->pipeline = gst_parse_launch("gozdritsend name=send eos-delay=20 silence-delay=5 rtx-min-interval=10 ! gozdritrecv name=recv rtx-delay=1"
+    s->pipeline = gst_parse_launch("gozdritsend name=send eos-delay=20 silence-delay=5 ! gozdritrecv name=recv rtx-delay=1"
                                    " do-lost=true max-size-packets=64 ! fakesink name=sink signal-handoffs=true sync=false", NULL);
     s->send = gst_bin_get_by_name(GST_BIN(s->pipeline), "send");
     s->recv = gst_bin_get_by_name(GST_BIN(s->pipeline), "recv");
