@@ -18,15 +18,24 @@ void feedback_wake(GstGozdritRecv *self) {
     g_cond_signal(&self->timer_cond);
 }
 
-/* The session's next timeout. While downstream stands still, that is always the time to play the next packet: then asks go on by
+/* The stream's next timeout. While downstream stands still, that is always the time to play the next packet: then asks go on by
  * steps of the times between them, as long as something is missing. */
-static gozdrit_timeout next_timeout(GstGozdritRecv *self, guint64 now) {
+static gozdrit_timeout stream_timeout(GstGozdritRecv *self, guint64 now) {
     gozdrit_timeout next = {0};
     gsize missing = 0;
-    if (!self->end.held) return next;
-    if (!self->stalled) gozdrit_next_timeout(&self->end, &next);
-    else gozdrit_missing(&self->end, &missing);
+    if (!self->stalled) gozdrit_next_timeout(&self->stream->end, &next);
+    else gozdrit_missing(&self->stream->end, &missing);
     if (missing > 0) next = (gozdrit_timeout){now + receiving_step(self), 1};
+    return next;
+}
+
+/* The next of all. */
+static gozdrit_timeout next_timeout(GstGozdritRecv *self, guint64 now) {
+    gozdrit_timeout next = {0};
+    for (EACH_STREAM(self, at)) {
+        gozdrit_timeout one = stream_timeout(self, now);
+        if (one.known && (!next.known || one.time < next.time)) next = one;
+    }
     if (self->npt_due != G_MAXUINT64 && (!next.known || self->npt_due < next.time)) next = (gozdrit_timeout){self->npt_due, 1};
     return next;
 }
@@ -61,21 +70,29 @@ static void begin_stream(GstGozdritRecv *self) {
     g_free(id);
 }
 
-/* The next NACK, or NULL where none is due. The lock is held. */
-static GstBuffer *next_nack(GstGozdritRecv *self, guint64 now) {
+/* The stream's next NACK, or NULL where none is due. */
+static GstBuffer *stream_nack(GstGozdritRecv *self, guint64 now) {
     guint8 octets[GOZDRIT_MAX_NACK_DATAGRAM];
     gsize length = 0;
-    if (!self->end.held) return NULL;
-    gozdrit_set_nack_copies(&self->end, auxiliary_is(self) ? 1 : 0); /* an event is not lost */
-    gint32 number = gozdrit_nack(&self->end, now, GOZDRIT_MAX_NACKED, &length, octets, sizeof octets);
+    if (!self->stream->end.held) return NULL;
+    gozdrit_set_nack_copies(&self->stream->end, auxiliary_is(self) ? 1 : 0); /* an event is not lost */
+    gint32 number = gozdrit_nack(&self->stream->end, now, GOZDRIT_MAX_NACKED, &length, octets, sizeof octets);
     if (number != GOZDRIT_OK || length == 0) return NULL;
     return gst_buffer_new_memdup(octets, length);
+}
+
+/* The next one of any. The lock is held. */
+static GstBuffer *next_nack(GstGozdritRecv *self, guint64 now) {
+    GstBuffer *nack = NULL;
+    for (EACH_STREAM(self, at))
+        if (!nack) nack = stream_nack(self, now);
+    return nack;
 }
 
 gboolean feedback_key_unit(GstGozdritRecv *self, const GstEvent *event) {
     gboolean is_taken = feedback_is_taken(self), is_full = FALSE;
     g_mutex_lock(&self->lock);
-    gboolean is_ours = is_taken && self->end.held && key_request_parse(event, self->session.media_ssrc, &is_full);
+    gboolean is_ours = is_taken && self->stream->end.held && key_request_parse(event, self->stream->session.media_ssrc, &is_full);
     is_full = is_full && self->caps.fir;
     is_ours = is_ours && (is_full || self->caps.pli);
     if (is_ours) {
@@ -89,10 +106,10 @@ gboolean feedback_key_unit(GstGozdritRecv *self, const GstEvent *event) {
 
 /* The request for a key frame that is wanted, or NULL. The lock is held. */
 static GstBuffer *next_key_request(GstGozdritRecv *self) {
-    key_request request = {self->session.receiver_ssrc, self->session.media_ssrc, self->key_full, self->key_number};
+    key_request request = {self->stream->session.receiver_ssrc, self->stream->session.media_ssrc, self->key_full, self->key_number};
     if (!self->key_wanted) return NULL;
     self->key_wanted = FALSE;
-    if (!self->end.held) return NULL;
+    if (!self->stream->end.held) return NULL;
     self->key_number = (guint8)(self->key_number + request.is_full);
     self->key_requests++;
     return key_request_write(&request);

@@ -71,7 +71,7 @@ static void drop_first(GstGozdritRecv *self) {
 
 void jitter_drop_old(GstGozdritRecv *self) {
     if (!self->settings.drop_on_latency || self->settings.latency == 0) return;
-    const rtp_times *times = ptmap_times(self, self->last_type);
+    const rtp_times *times = ptmap_times(self, self->stream->last_type);
     GstClockTime newest = rtp_times_of(times, (guint32)times->newest);
     if (!GST_CLOCK_TIME_IS_VALID(newest)) return;
     for (GstBuffer *first; (first = first_ready(self));) {

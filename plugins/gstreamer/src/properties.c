@@ -70,7 +70,7 @@ static void refuse(GstGozdritRecv *self, const GValue *value, const GParamSpec *
 
 static void set_mode(GstGozdritRecv *self, gint mode) {
     self->settings.mode = mode;
-    self->times.is_fixed = mode == MODE_SYNCED;
+    for (EACH_STREAM(self, at)) self->stream->times.is_fixed = mode == MODE_SYNCED;
 }
 
 /* The properties of a jitter buffer. The lock is held, as in the next one. FALSE where it is none. */
@@ -226,7 +226,7 @@ static void install_own(GObjectClass *class) {
     install_int(class, PROP_RTX_TYPE, "rtx-payload-type", "The payload type of the retransmissions (-1 == that of the caps, or 97)",
                 -1, 127, -1);
     install_map(class, PROP_TYPE_MAP, "payload-type-map", "The payload types of media, and of their retransmissions: with it, no stream of "
-                "other types begins (default == all, and rtx-payload-type)", G_PARAM_READWRITE);
+                "other types begins, and where nobody takes feedback there may be several (default == all, and rtx-payload-type)", G_PARAM_READWRITE);
     install_map(class, PROP_SSRC_MAP, "ssrc-map", "SSRCs of media, and of their retransmissions (default == learnt)", G_PARAM_WRITABLE);
     install_count(class, PROP_REQUESTS, "num-rtx-requests", "How many packets were asked for, each as often as it was");
     install_count(class, PROP_PACKETS, "num-rtx-packets", "How many retransmissions came");

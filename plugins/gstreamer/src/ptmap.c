@@ -27,7 +27,7 @@ static void read_answer(GstGozdritRecv *self, const GstCaps *caps, guint8 type) 
     if (rate <= 0) rate = receiving_static_rate(type);
     self->rates.of[type] = rate > 0 ? rate : -1;
     if (!are_its) return;
-    if (!self->end.held && self->caps.first < 0) self->caps.first = caps_number(caps, "seqnum-base", -1);
+    if (!self->stream->end.held && self->caps.first < 0) self->caps.first = caps_number(caps, "seqnum-base", -1);
     if (caps_number(caps, "clock-base", -1) >= 0) ptmap_read_play(self, caps);
     sync_read_caps(self, caps);
 }
@@ -36,18 +36,18 @@ void ptmap_forget(GstGozdritRecv *self) { memset(self->rates.of, 0, sizeof self-
 
 rtp_times *ptmap_times(GstGozdritRecv *self, guint8 type) {
     gint64 rate = MAX(self->rates.of[type], 0);
-    if (!self->in_place) return &self->times;
-    if (self->times.clock_rate == 0) rtp_times_begin(&self->times, rate);
-    if (self->times.clock_rate == rate) return &self->times;
+    if (!self->in_place) return &self->stream->times;
+    if (self->stream->times.clock_rate == 0) rtp_times_begin(&self->stream->times, rate);
+    if (self->stream->times.clock_rate == rate) return &self->stream->times;
     if (rate == 0) return &self->rates.unknown;
     rtp_times *other = &self->rates.others[rate % OTHER_RATES]; /* 8, 16, 32, 44.1, 48 and 90 kHz have places of their own but the last two */
-    other->is_fixed = self->times.is_fixed;
+    other->is_fixed = self->stream->times.is_fixed;
     if (other->clock_rate != rate) rtp_times_begin(other, rate);
     return other;
 }
 
 void ptmap_begin_times(GstGozdritRecv *self) {
-    rtp_times_begin(&self->times, self->times.clock_rate);
+    rtp_times_begin(&self->stream->times, self->stream->times.clock_rate);
     memset(self->rates.others, 0, sizeof self->rates.others);
 }
 
@@ -66,7 +66,7 @@ void ptmap_read_play(GstGozdritRecv *self, const GstCaps *caps) {
 void ptmap_note_time(GstGozdritRecv *self, guint32 timestamp) {
     const recv_caps *caps = &self->caps;
     if (!self->is_playing || caps->npt_stop < caps->npt_start || caps->clock_base < 0) return;
-    const rtp_times *times = ptmap_times(self, self->last_type);
+    const rtp_times *times = ptmap_times(self, self->stream->last_type);
     if (!times->based) return;
     gint64 units = (gint64)(rtp_times_extended(times, timestamp) - times->first) + (gint32)((guint32)times->first - (guint32)caps->clock_base);
     gint64 played = (gint64)gst_util_uint64_scale((guint64)MAX(units, 0), GST_SECOND, (guint64)times->clock_rate);

@@ -41,9 +41,9 @@ static gint64 wanted_ssrc(const GstGozdritRecv *self) {
 
 /* Whether the session has another type or SSRC than the caps want. */
 static gboolean is_other(const GstGozdritRecv *self, const recv_caps *read) {
-    return self->end.held && !self->in_place &&
-           ((read->type >= 0 && self->settings.type < 0 && read->type != self->session.media_payload_type) ||
-            (read->ssrc >= 0 && self->settings.ssrc == SSRC_UNSET && read->ssrc != self->session.media_ssrc));
+    return self->stream->end.held && !self->in_place &&
+           ((read->type >= 0 && self->settings.type < 0 && read->type != self->stream->session.media_payload_type) ||
+            (read->ssrc >= 0 && self->settings.ssrc == SSRC_UNSET && read->ssrc != self->stream->session.media_ssrc));
 }
 
 gboolean receiving_is_rtx(const GstCaps *caps) {
@@ -67,7 +67,7 @@ static void read_rate(GstGozdritRecv *self, recv_caps *read) {
         return;
     }
     if (read->clock_rate <= 0) read->clock_rate = receiving_static_rate(read->type);
-    if (read->clock_rate != self->times.clock_rate) rtp_times_begin(&self->times, read->clock_rate);
+    if (read->clock_rate != self->stream->times.clock_rate) rtp_times_begin(&self->stream->times, read->clock_rate);
 }
 
 gboolean receiving_caps(GstGozdritRecv *self, const GstCaps *caps) {
@@ -84,8 +84,10 @@ gboolean receiving_caps(GstGozdritRecv *self, const GstCaps *caps) {
     read.clock_rate = caps_number(caps, "clock-rate", -1);
     read_group(&read, caps);
     if (read.rtx_ssrc < 0) read.rtx_ssrc = self->caps.rtx_ssrc;
-    if (is_other(self, &read)) receiving_end(self);
-    read_rate(self, &read);
+    for (EACH_STREAM(self, at)) {
+        if (is_other(self, &read)) receiving_end(self);
+        read_rate(self, &read);
+    }
     self->caps = read;
     ptmap_read_play(self, caps);
     sync_read_caps(self, caps);
@@ -95,7 +97,13 @@ gboolean receiving_caps(GstGozdritRecv *self, const GstCaps *caps) {
 
 /* ---- the session */
 
+static void set_times(GstGozdritRecv *self); /* by properties and caps, as below */
+
 static gboolean is_free_ssrc(const GstGozdritRecv *self) { return wanted_ssrc(self) < 0; }
+
+gboolean receiving_is_free(const GstGozdritRecv *self) {
+    return is_free_ssrc(self) && self->settings.rtx_ssrc == SSRC_UNSET && self->caps.rtx_ssrc < 0;
+}
 
 /* The type of the retransmissions of media of a type. */
 static guint8 rtx_type_of(const GstGozdritRecv *self, guint8 media) {
@@ -105,7 +113,7 @@ static guint8 rtx_type_of(const GstGozdritRecv *self, guint8 media) {
 }
 
 gboolean receiving_is_rtx_type(const GstGozdritRecv *self, guint8 type) {
-    return !self->in_place && (type == self->rtx_type || self->types.from[type] >= 0);
+    return !self->in_place && (type == self->stream->rtx_type || self->types.from[type] >= 0);
 }
 
 /* The SSRC of the retransmissions of media of an SSRC, as a property or the caps say it; or -1. */
@@ -115,8 +123,7 @@ static gint64 rtx_ssrc_of(const GstGozdritRecv *self, guint32 media) {
     return mapped >= 0 ? mapped : self->caps.rtx_ssrc;
 }
 
-/* Whether an SSRC is said to be another stream's: no media begins with it. */
-static gboolean is_taken_ssrc(const GstGozdritRecv *self, guint32 ssrc) {
+gboolean receiving_is_taken(const GstGozdritRecv *self, guint32 ssrc) {
     if (self->in_place) return FALSE;
     gint64 rtx = self->settings.rtx_ssrc != SSRC_UNSET ? (gint64)self->settings.rtx_ssrc : self->caps.rtx_ssrc;
     gboolean is_ours = self->settings.receiver_ssrc != SSRC_UNSET && ssrc == self->settings.receiver_ssrc;
@@ -151,8 +158,8 @@ static void configure(GstGozdritRecv *self, guint8 type, guint32 ssrc, gozdrit_r
     config->window = WINDOW_OF(settings);
 }
 
-/* Whether a packet may begin a session by its type. Those of 64 to 95 with a marker look as RTCP does (RFC 5761, section 4). */
-static gboolean is_wanted_type(const GstGozdritRecv *self, const guint8 *octets) {
+/* Those of 64 to 95 with a marker look as RTCP does (RFC 5761, section 4). */
+gboolean receiving_is_wanted(const GstGozdritRecv *self, const guint8 *octets) {
     gint64 wanted = receiving_wanted_type(self);
     guint8 type = PACKET_TYPE(octets);
     gboolean is_odd = type >= 64 && type < 96 && (!self->in_place || octets[1] & 128);
@@ -164,45 +171,51 @@ static gboolean is_wanted_type(const GstGozdritRecv *self, const guint8 *octets)
 static gboolean begin(GstGozdritRecv *self, const guint8 *octets, gsize length) {
     gint64 type = receiving_wanted_type(self), ssrc = wanted_ssrc(self);
     gozdrit_receiver_config config;
-    if (length < 12 || octets[0] >> 6 != 2 || !is_wanted_type(self, octets)) return FALSE;
+    if (length < 12 || octets[0] >> 6 != 2 || !receiving_is_wanted(self, octets)) return FALSE;
     configure(self, PACKET_TYPE(octets), ssrc >= 0 ? (guint32)ssrc : PACKET_SSRC(octets), &config);
-    if (ssrc >= 0 ? ssrc != PACKET_SSRC(octets) : is_taken_ssrc(self, PACKET_SSRC(octets))) return FALSE;
+    if (ssrc >= 0 ? ssrc != PACKET_SSRC(octets) : receiving_is_taken(self, PACKET_SSRC(octets))) return FALSE;
     /* a repair came first */
     if (type < 0 && config.session.rtx_payload_type == config.session.media_payload_type) return FALSE;
-    self->refused = gozdrit_receiver_new(&config, &self->end);
-    if (self->refused != GOZDRIT_OK) return FALSE;
-    self->session = config.session;
-    self->rtx_type = rtx_type_of(self, PACKET_TYPE(octets));
+    self->untold.refused = gozdrit_receiver_new(&config, &self->stream->end);
+    if (self->untold.refused != GOZDRIT_OK) return FALSE;
+    self->stream->session = config.session;
+    self->stream->rtx_type = rtx_type_of(self, PACKET_TYPE(octets));
     self->sessions++;
-    if (self->caps.first >= 0) gozdrit_begin(&self->end, (guint16)self->caps.first);
+    if (self->caps.first >= 0) gozdrit_begin(&self->stream->end, (guint16)self->caps.first);
     self->caps.first = -1; /* is the first stream's alone */
-    if (self->times.clock_rate == 0 && !self->in_place) rtp_times_begin(&self->times, receiving_static_rate(PACKET_TYPE(octets)));
+    if (self->stream->times.clock_rate == 0 && !self->in_place) rtp_times_begin(&self->stream->times, receiving_static_rate(PACKET_TYPE(octets)));
     playing_begin_stream(self);
-    receiving_set_times(self);
+    set_times(self);
     return TRUE;
 }
 
 void receiving_end(GstGozdritRecv *self) {
     gst_clear_buffer(&self->other.buffer);
-    if (!self->end.held) return;
-    playing_all(self, G_MAXINT64); /* at this time no latency has not passed */
+    if (!self->stream->end.held) return;
+    playing_stream(self, G_MAXINT64); /* at this time no latency has not passed */
     playing_release(self);
-    counts_all(self, &self->past, &self->past_probes);
-    gozdrit_receiver_free(&self->end);
-    g_clear_pointer(&self->asked, g_free);
+    counts_add(self, &self->past, &self->past_probes);
+    gozdrit_receiver_free(&self->stream->end);
+    g_clear_pointer(&self->stream->asked, g_free);
     playing_forget(self);
     ptmap_begin_times(self);
     sync_forget(self);
 }
 
+void receiving_end_all(GstGozdritRecv *self) {
+    for (EACH_STREAM(self, at)) receiving_end(self);
+}
+
 void receiving_flush(GstGozdritRecv *self) {
     gst_clear_buffer(&self->other.buffer);
-    if (self->end.held) gozdrit_reset(&self->end);
-    ptmap_begin_times(self);
     sync_forget(self);
     playing_clear(self);
-    playing_forget(self);
-    playing_begin_stream(self);
+    for (EACH_STREAM(self, at)) {
+        if (self->stream->end.held) gozdrit_reset(&self->stream->end);
+        ptmap_begin_times(self);
+        playing_forget(self);
+        playing_begin_stream(self);
+    }
 }
 
 /* ---- packets */
@@ -226,7 +239,7 @@ static gboolean is_long(const GstGozdritRecv *self, const guint8 *octets, gsize 
 
 /* Notes how a media packet came that was taken, or held back. */
 static void note_arrival(GstGozdritRecv *self, GstBuffer *buffer, const guint8 *octets, gsize length, gboolean believed) {
-    arrival *noted = &self->arrivals[PACKET_SEQUENCE(octets) % ARRIVALS];
+    arrival *noted = &self->stream->arrivals[PACKET_SEQUENCE(octets) % ARRIVALS];
     gst_buffer_replace(&noted->buffer, buffer);
     noted->pts = time_of(self, buffer);
     noted->dts = GST_BUFFER_DTS(buffer);
@@ -236,7 +249,9 @@ static void note_arrival(GstGozdritRecv *self, GstBuffer *buffer, const guint8 *
     noted->is_repair = FALSE;
     noted->is_taken = believed;
     noted->is_long = is_long(self, octets, length);
-    self->last_type = noted->type;
+    self->stream->last_type = noted->type;
+    self->stream->newest = noted->timestamp;
+    auxiliary_came(self, noted->number);
     if (believed) rtp_times_arrived(ptmap_times(self, noted->type), noted->timestamp, noted->pts);
     if (believed) ptmap_note_time(self, noted->timestamp);
 }
@@ -244,16 +259,16 @@ static void note_arrival(GstGozdritRecv *self, GstBuffer *buffer, const guint8 *
 /* The type of the media that retransmissions of a type are of: what a map says, or that of the first packet. */
 static guint8 type_behind(const GstGozdritRecv *self, guint8 rtx_type) {
     gint64 mapped = self->types.from[rtx_type];
-    return mapped >= 0 ? (guint8)mapped : self->session.media_payload_type;
+    return mapped >= 0 ? (guint8)mapped : self->stream->session.media_payload_type;
 }
 
 /* Notes the buffer of a packet's repair: when that came says nothing of the packet's time. */
 static void note_repair(GstGozdritRecv *self, GstBuffer *buffer, const guint8 *octets, gsize length, guint64 sequence) {
-    arrival *noted = &self->arrivals[(guint16)sequence % ARRIVALS];
+    arrival *noted = &self->stream->arrivals[(guint16)sequence % ARRIVALS];
     gst_buffer_replace(&noted->buffer, buffer);
     noted->timestamp = PACKET_TIMESTAMP(octets);
     noted->number = (guint16)sequence;
-    noted->type = PACKET_SSRC(octets) == self->session.media_ssrc ? PACKET_TYPE(octets) : type_behind(self, PACKET_TYPE(octets));
+    noted->type = PACKET_SSRC(octets) == self->stream->session.media_ssrc ? PACKET_TYPE(octets) : type_behind(self, PACKET_TYPE(octets));
     noted->is_repair = TRUE;
     noted->is_long = is_long(self, octets, length);
 }
@@ -273,8 +288,8 @@ static void take(GstGozdritRecv *self, GstBuffer *buffer, const guint8 *octets, 
  * type. */
 static gboolean is_other_stream(const GstGozdritRecv *self, const guint8 *octets, guint8 refusal) {
     return (refusal == GOZDRIT_UNKNOWN_SSRC || refusal == GOZDRIT_UNKNOWN_PAYLOAD_TYPE) && is_free_ssrc(self) &&
-           (self->in_place || PACKET_TYPE(octets) == self->session.media_payload_type) && PACKET_SSRC(octets) != self->session.media_ssrc &&
-           !is_taken_ssrc(self, PACKET_SSRC(octets));
+           (self->in_place || PACKET_TYPE(octets) == self->stream->session.media_payload_type) && PACKET_SSRC(octets) != self->stream->session.media_ssrc &&
+           !receiving_is_taken(self, PACKET_SSRC(octets));
 }
 
 /* A media packet of another SSRC. Two in sequence of one SSRC are a stream that takes the place of this one, where nobody
@@ -296,18 +311,18 @@ static void take_other(GstGozdritRecv *self, GstBuffer *buffer, const guint8 *oc
         gst_buffer_unmap(first, &map);
     }
     gst_buffer_unref(first);
-    if (self->end.held) take(self, buffer, octets, length, now);
+    if (self->stream->end.held) take(self, buffer, octets, length, now);
 }
 
 /* The type by which the library is to know a packet: it takes one of the media and one of the retransmissions. A packet of the media's SSRC
  * has its place in the sequence whatever its type is, as comfort noise has. Where retransmissions come with another type than the library
  * knows them by, each of the two stands for the other one. */
 static guint8 library_type(const GstGozdritRecv *self, const guint8 *octets) {
-    guint8 type = PACKET_TYPE(octets), known = self->session.rtx_payload_type;
+    guint8 type = PACKET_TYPE(octets), known = self->stream->session.rtx_payload_type;
     if (receiving_is_rtx_type(self, type)) return known;
     gboolean may_be_media = self->in_place || type < 64 || type >= 96;
-    if (PACKET_SSRC(octets) == self->session.media_ssrc && may_be_media) return self->session.media_payload_type;
-    return type == known ? self->rtx_type : type;
+    if (PACKET_SSRC(octets) == self->stream->session.media_ssrc && may_be_media) return self->stream->session.media_payload_type;
+    return type == known ? self->stream->rtx_type : type;
 }
 
 /* A packet as the library is to have it, where that is not as it came, and then it is to be freed; or NULL. */
@@ -334,8 +349,8 @@ static guint8 *rewritten(GstGozdritRecv *self, GstBuffer *buffer, const guint8 *
 static gint32 receive(GstGozdritRecv *self, GstBuffer *buffer, const guint8 *octets, gsize length, guint64 now, gozdrit_received *received) {
     guint8 *other = rewritten(self, buffer, octets, &length);
     const guint8 *handed = other ? other : octets;
-    if (length >= 12 && PACKET_TYPE(handed) == self->session.rtx_payload_type) self->rtx_came++;
-    gint32 number = gozdrit_receive(&self->end, handed, length, now, received);
+    if (length >= 12 && PACKET_TYPE(handed) == self->stream->session.rtx_payload_type) self->rtx_came++;
+    gint32 number = gozdrit_receive(&self->stream->end, handed, length, now, received);
     g_free(other);
     return number;
 }
@@ -343,12 +358,13 @@ static gint32 receive(GstGozdritRecv *self, GstBuffer *buffer, const guint8 *oct
 /* Whether the library knows nothing of a packet's stream. */
 static gboolean is_unknown(const GstGozdritRecv *self, const guint8 *octets, gsize length, guint8 refusal) {
     return length >= 12 && (refusal == GOZDRIT_UNKNOWN_SSRC || refusal == GOZDRIT_UNKNOWN_PAYLOAD_TYPE) &&
-           PACKET_SSRC(octets) != self->session.media_ssrc && !is_taken_ssrc(self, PACKET_SSRC(octets));
+           PACKET_SSRC(octets) != self->stream->session.media_ssrc && !receiving_is_taken(self, PACKET_SSRC(octets));
 }
 
-/* Where nobody takes feedback, packets of other streams go through. One of them takes the place of the stream where that is gone. */
+/* Where nobody takes feedback, packets of other streams go through. One of them takes the place of the one stream where that is gone. */
 static void pass_other(GstGozdritRecv *self, GstBuffer *buffer, const guint8 *octets, gsize length, guint64 now) {
-    if (is_free_ssrc(self) && !receiving_is_rtx_type(self, PACKET_TYPE(octets)) && auxiliary_takes_over(self, octets, now)) {
+    gboolean may_take = is_free_ssrc(self) && !streams_are_several(self) && !receiving_is_rtx_type(self, PACKET_TYPE(octets));
+    if (may_take && auxiliary_takes_over(self, octets, now)) {
         receiving_end(self);
         if (begin(self, octets, length)) take(self, buffer, octets, length, now);
     } else {
@@ -359,7 +375,7 @@ static void pass_other(GstGozdritRecv *self, GstBuffer *buffer, const guint8 *oc
 /* The number of a packet that came too late, and its time. A retransmission has the number of its packet in front of the payload. */
 static void note_late(GstGozdritRecv *self, GstBuffer *buffer, const guint8 *octets, gsize length) {
     gsize head = packet_head(octets, length);
-    gboolean is_media = PACKET_SSRC(octets) == self->session.media_ssrc;
+    gboolean is_media = PACKET_SSRC(octets) == self->stream->session.media_ssrc;
     if (!is_media && (head == 0 || length < head + 2)) return;
     GstClockTime own = rtp_times_of(ptmap_times(self, PACKET_TYPE(octets)), PACKET_TIMESTAMP(octets));
     jitter_dropped(self, GST_READ_UINT16_BE(octets + (is_media ? 2 : head)), GST_CLOCK_TIME_IS_VALID(own) ? own : GST_BUFFER_PTS(buffer), TRUE);
@@ -368,7 +384,7 @@ static void note_late(GstGozdritRecv *self, GstBuffer *buffer, const guint8 *oct
 static void refuse(GstGozdritRecv *self, GstBuffer *buffer, const guint8 *octets, gsize length, guint64 now, guint8 refusal) {
     GST_LOG_OBJECT(self, "not taken: %s", gozdrit_refusal_name(refusal));
     if (refusal == GOZDRIT_LATE) note_late(self, buffer, octets, length);
-    if (refusal == GOZDRIT_TOO_LONG) self->refused = GOZDRIT_TOO_LONG;
+    if (refusal == GOZDRIT_TOO_LONG) self->untold.refused = GOZDRIT_TOO_LONG;
     if (auxiliary_is(self) && is_unknown(self, octets, length, refusal)) pass_other(self, buffer, octets, length, now);
     else if (is_other_stream(self, octets, refusal)) take_other(self, buffer, octets, length, now);
 }
@@ -376,7 +392,7 @@ static void refuse(GstGozdritRecv *self, GstBuffer *buffer, const guint8 *octets
 static void take(GstGozdritRecv *self, GstBuffer *buffer, const guint8 *octets, gsize length, guint64 now) {
     gozdrit_received received = GOZDRIT_RECEIVED_INIT;
     if (receive(self, buffer, octets, length, now, &received) != GOZDRIT_OK) return;
-    if (received.kind != GOZDRIT_REFUSED && received.kind != GOZDRIT_RTCP) self->last_media = now;
+    if (received.kind != GOZDRIT_REFUSED && received.kind != GOZDRIT_RTCP) self->stream->last_media = now;
     switch (received.kind) {
     case GOZDRIT_MEDIA: note_arrival(self, buffer, octets, length, TRUE); break;
     case GOZDRIT_HELD_BACK: note_arrival(self, buffer, octets, length, FALSE); break;
@@ -387,11 +403,29 @@ static void take(GstGozdritRecv *self, GstBuffer *buffer, const guint8 *octets, 
     }
 }
 
-void receiving_packet(GstGozdritRecv *self, GstBuffer *buffer, const guint8 *octets, gsize length, guint64 now) {
-    gboolean is_made = GST_BUFFER_FLAG_IS_SET(buffer, GST_RTP_BUFFER_FLAG_RETRANSMISSION); /* no stream begins with a repair */
-    if (self->end.held || (!is_made && begin(self, octets, length))) take(self, buffer, octets, length, now);
-    else if (auxiliary_is(self) && length >= 12 && octets[0] >> 6 == 2) playing_pass(self, buffer);
+/* A packet that the library is not asked about goes through. What is no RTP goes nowhere. */
+static void pass(GstGozdritRecv *self, GstBuffer *buffer, const guint8 *octets, gsize length) {
+    gozdrit_packet read;
+    gint32 number = gozdrit_rtp_read(octets, length, &read);
+    if (number == GOZDRIT_OK || number == GOZDRIT_TOO_LONG) playing_pass(self, buffer);
     else self->strays++;
+}
+
+/* A packet of the stream that is meant. */
+static void take_one(GstGozdritRecv *self, GstBuffer *buffer, const guint8 *octets, gsize length, guint64 now) {
+    gboolean is_made = GST_BUFFER_FLAG_IS_SET(buffer, GST_RTP_BUFFER_FLAG_RETRANSMISSION); /* no stream begins with a repair */
+    if (self->stream->end.held || (!is_made && begin(self, octets, length))) take(self, buffer, octets, length, now);
+    else if (auxiliary_is(self)) pass(self, buffer, octets, length);
+    else self->strays++;
+}
+
+void receiving_packet(GstGozdritRecv *self, GstBuffer *buffer, const guint8 *octets, gsize length, guint64 now) {
+    switch (streams_of(self, buffer, octets, length, now)) {
+    case DESTINY_STREAM: take_one(self, buffer, octets, length, now); break;
+    case DESTINY_THROUGH: pass(self, buffer, octets, length); break;
+    case DESTINY_NOWHERE: break;
+    }
+    streams_first(self);
 }
 
 /* ---- times */
@@ -403,7 +437,7 @@ static guint64 retry_of(const GstGozdritRecv *self) {
 
 gozdrit_times receiving_times(const GstGozdritRecv *self) {
     gozdrit_times times = GOZDRIT_TIMES_INIT;
-    if (self->end.held) gozdrit_receiver_times(&self->end, &times);
+    if (self->stream->end.held) gozdrit_receiver_times(&self->stream->end, &times);
     return times;
 }
 
@@ -425,9 +459,13 @@ static guint64 latency_of(const GstGozdritRecv *self) {
 
 /* The times follow what the library measures of the path, and a packet is given up by when it was sent, where no property says how
  * long an answer is waited for. */
-void receiving_set_times(GstGozdritRecv *self) {
-    if (!self->end.held) return;
+static void set_times(GstGozdritRecv *self) {
+    if (!self->stream->end.held) return;
     gboolean wanted = asks(self);
-    gozdrit_set_times(&self->end, latency_of(self), wanted ? self->settings.delay : NEVER, retry_of(self));
-    gozdrit_set_adaptive(&self->end, wanted && self->settings.retry < 0 ? GOZDRIT_ADAPTIVE_SEND_TIME : GOZDRIT_ADAPTIVE_OFF);
+    gozdrit_set_times(&self->stream->end, latency_of(self), wanted ? self->settings.delay : NEVER, retry_of(self));
+    gozdrit_set_adaptive(&self->stream->end, wanted && self->settings.retry < 0 ? GOZDRIT_ADAPTIVE_SEND_TIME : GOZDRIT_ADAPTIVE_OFF);
+}
+
+void receiving_set_times(GstGozdritRecv *self) {
+    for (EACH_STREAM(self, at)) set_times(self);
 }

@@ -21,7 +21,8 @@
  *
  * Where `feedback_src` is not linked, the element is one between others, as the auxiliary receiver of an rtpbin: it asks by events
  * `GstRTPRetransmissionRequest` that go upstream, packets of other streams and types go through, and media that are flagged as
- * retransmissions are repairs.
+ * retransmissions are repairs. With #GstGozdritRecv:payload-type-map each SSRC is a stream there that is repaired, unless caps or properties name
+ * the one.
  *
  * Where somebody answers #GstGozdritRecv::request-pt-map as it begins, or took the pad `sink_rtcp` and not `feedback_src`, it stands in the
  * place of an rtpjitterbuffer, as an rtpbin has it from `request-jitterbuffer`: all packets of its stream are media, of whatever types, it asks by those
@@ -67,10 +68,20 @@ static GstFlowReturn tell_refusal(GstGozdritRecv *self, gint32 number, gsize len
     return GST_FLOW_ERROR;
 }
 
+/* What is told without the lock. */
+static GstFlowReturn tell(GstGozdritRecv *self, const untold *of, gsize length) {
+    if (of->type >= 0)
+        GST_ELEMENT_WARNING(self, STREAM, WRONG_TYPE, ("A packet of another payload type is dropped, as others may be."),
+                            ("its type is %d, and that of the caps or of payload-type is not", of->type));
+    if (of->is_crowded)
+        GST_ELEMENT_WARNING(self, LIBRARY, SETTINGS, ("No more than %d streams are repaired at once.", MOST_RECEIVED),
+                            ("packets of another one go out as they came, as others may"));
+    return of->refused == GOZDRIT_OK ? GST_FLOW_OK : tell_refusal(self, of->refused, length);
+}
+
 static GstFlowReturn chain(GstPad *pad, GstObject *parent, GstBuffer *buffer) {
     GstGozdritRecv *self = GST_GOZDRIT_RECV(parent);
-    gint32 refused = GOZDRIT_OK;
-    gint other = -1;
+    untold found = NOTHING_UNTOLD;
     gsize length = 0;
     GstMapInfo map;
     (void)pad;
@@ -85,10 +96,8 @@ static GstFlowReturn chain(GstPad *pad, GstObject *parent, GstBuffer *buffer) {
         gst_clear_buffer(&buffer); /* what goes out at once is then nobody's but its own, and is written to */
         playing_all(self, now);
         feedback_schedule(self);
-        refused = self->refused;
-        other = self->untold;
-        self->refused = GOZDRIT_OK;
-        self->untold = -1;
+        found = self->untold;
+        self->untold = NOTHING_UNTOLD;
     }
     gboolean reported = self->sync.last.buffer != NULL; /* what came before the first packet */
     GstMessage *dropped = g_steal_pointer(&self->drops.next);
@@ -96,10 +105,8 @@ static GstFlowReturn chain(GstPad *pad, GstObject *parent, GstBuffer *buffer) {
     gst_clear_buffer(&buffer);
     if (reported) sync_tell(self);
     if (dropped) gst_element_post_message(GST_ELEMENT(self), dropped);
-    if (other >= 0)
-        GST_ELEMENT_WARNING(self, STREAM, WRONG_TYPE, ("A packet of another payload type is dropped, as others may be."),
-                            ("its type is %d, and that of the caps or of payload-type is not", other));
-    return refused == GOZDRIT_OK ? flow : tell_refusal(self, refused, length);
+    GstFlowReturn told = tell(self, &found, length);
+    return told == GST_FLOW_OK ? flow : told;
 }
 
 /* ---- events and queries */
@@ -254,15 +261,15 @@ static void begin(GstGozdritRecv *self) {
     self->caps = (recv_caps){-1, -1, -1, -1, -1, -1, -1, FALSE, FALSE, -1, 0, -1};
     self->past = (gozdrit_receive_counts)GOZDRIT_RECEIVE_COUNTS_INIT;
     self->past_probes = (gozdrit_probe_counts)GOZDRIT_PROBE_COUNTS_INIT;
-    self->sessions = self->strays = self->unwanted = self->key_requests = self->passed = self->dropped = self->rtx_came = 0;
+    self->sessions = self->strays = self->unwanted = self->key_requests = self->passed = self->dropped = self->rtx_came = self->unclaimed = 0;
+    self->crowd_told = FALSE;
     self->other = (candidate){0};
     self->key_wanted = FALSE;
-    self->untold = -1;
-    self->refused = GOZDRIT_OK;
+    self->untold = NOTHING_UNTOLD;
     self->warned = FALSE;
     self->timer_until = 0;
     gst_segment_init(&self->segment, GST_FORMAT_UNDEFINED);
-    rtp_times_begin(&self->times, 0);
+    rtp_times_begin(&self->stream->times, 0);
     playing_begin_stream(self);
     guint window = self->settings.window;
     g_mutex_unlock(&self->lock);
@@ -274,8 +281,9 @@ static void begin(GstGozdritRecv *self) {
 /* The counts can still be read. A message has a reference of the element, and is not kept by it. */
 static void end(GstGozdritRecv *self) {
     g_mutex_lock(&self->lock);
-    receiving_end(self);
+    receiving_end_all(self);
     playing_clear(self);
+    streams_drop_others(self);
     element_time_end(&self->time);
     GstMessage *dropped = g_steal_pointer(&self->drops.next);
     g_mutex_unlock(&self->lock);
@@ -325,17 +333,14 @@ static gboolean set_clock(GstElement *element, GstClock *clock) {
 static void finalize(GObject *object) {
     GstGozdritRecv *self = GST_GOZDRIT_RECV(object);
     gst_clear_buffer(&self->other.buffer);
-    gozdrit_receiver_free(&self->end);
     playing_clear(self);
+    streams_free(self);
     element_time_end(&self->time);
     gst_queue_array_free(self->ready);
-    playing_forget(self);
     sync_forget(self);
     g_clear_pointer(&self->sync.names, g_hash_table_destroy);
     type_map_set(&self->types, NULL);
     g_clear_pointer(&self->ssrcs, gst_structure_free);
-    g_free(self->asked);
-    g_free(self->arrivals);
     g_cond_clear(&self->timer_cond);
     g_cond_clear(&self->ready_cond);
     g_mutex_clear(&self->starting);
@@ -399,9 +404,8 @@ static void gst_gozdrit_recv_init(GstGozdritRecv *self) {
     g_mutex_init(&self->lock);
     g_cond_init(&self->ready_cond);
     g_cond_init(&self->timer_cond);
-    g_queue_init(&self->held);
+    streams_begin(self);
     self->ready = gst_queue_array_new(64);
-    self->arrivals = g_new0(arrival, ARRIVALS);
     type_map_set(&self->types, NULL);
     init_pads(self);
 }

@@ -1,7 +1,7 @@
 /* gozdritrecv, the receiving element. recv.c is the element: its pads and states; properties.c has its properties. receiving.c takes
  * packets into the session, playing.c makes of what the session plays what goes out, feedback.c has the timer, tasks.c
- * tells when each of them runs, and auxiliary.c is for where nobody takes feedback. What a jitter buffer has beside that is in jitter.c,
- * ptmap.c, sync.c and offset.c.
+ * tells when each of them runs, and auxiliary.c is for where nobody takes feedback, where there may be several streams: streams.c. What a jitter
+ * buffer has beside that is in jitter.c, ptmap.c, sync.c and offset.c.
  *
  * Three threads run in it. The one that packets come by takes them, and never waits. The source pad's task pushes what
  * was played, and waits for what is behind it. The feedback pad's task waits for the session's next timeout, and asks. Reports come by a
@@ -73,11 +73,16 @@ typedef struct arrival {
 /* Both the window and what is held back after a jump have a place: twice the largest window. */
 enum { ARRIVALS = 2 * GOZDRIT_MAX_STORE };
 
-/* An event that goes out behind the packet with that number. */
+/* An event that goes out behind packets of so many streams; and the packet of one of these. */
 typedef struct held_event {
     GstEvent *event;
-    guint64 behind;
+    guint waits;
 } held_event;
+
+typedef struct held_behind {
+    held_event *held;
+    guint64 behind;
+} held_behind;
 
 /* When a packet was asked for by an event. */
 typedef struct asked asked;
@@ -129,6 +134,37 @@ typedef struct drop_messages {
     gboolean has_told;
 } drop_messages;
 
+/* One stream, and what of it is to go out. */
+typedef struct recv_stream {
+    gozdrit_receiver end; /* holds one from the first packet on */
+    gozdrit_session session;
+    guint8 rtx_type;    /* that its retransmissions come with */
+    guint64 last_media; /* when the last packet of the stream came, in milliseconds */
+    guint32 newest;     /* the timestamp of the last one that came as media */
+    guint8 last_type;   /* its type */
+    asked *asked;       /* GOZDRIT_MAX_STORE of them, or NULL where none was needed */
+    rtp_times times;
+    arrival *arrivals; /* ARRIVALS of them, by the sequence number */
+    GQueue held;       /* held_behind */
+    guint64 expected;  /* the number of the packet that goes out next */
+    guint lost;        /* how many before it were lost, and are to be told */
+    guint16 lost_from; /* the first of these */
+    GstClockTime last_pts, last_dts; /* of the last packet that went out */
+    guint32 last_timestamp;
+    gboolean discont;
+} recv_stream;
+
+/* So many streams have a receiver at most. */
+enum { MOST_RECEIVED = 16 };
+
+/* What is still to be told, without the lock. */
+typedef struct untold {
+    gint32 refused;      /* an answer of the library, or 0 */
+    gint type;           /* of a packet that was dropped for it, or -1 */
+    gboolean is_crowded; /* there was no room for another stream */
+} untold;
+#define NOTHING_UNTOLD ((untold){GOZDRIT_OK, -1, FALSE})
+
 /* The stream of feedback ends with that of the media, and begins anew with the next one. */
 typedef enum feedback_stage { FEEDBACK_TO_BEGIN, FEEDBACK_GOES, FEEDBACK_HAS_ENDED } feedback_stage;
 
@@ -148,27 +184,25 @@ struct _GstGozdritRecv {
     element_time time;
     GstSegment segment;
 
-    gozdrit_receiver end; /* holds one from the first packet on */
-    gozdrit_session session;
-    guint8 rtx_type;             /* that its retransmissions come with */
+    recv_stream *streams[MOST_RECEIVED];
+    guint count;          /* of these: one, unless there are several */
+    recv_stream *stream;  /* that which is meant, by what follows and by most calls: the first one, where nothing says another */
+    gboolean crowd_told;  /* there was no room for another one */
     gozdrit_receive_counts past; /* the counts of the sessions before */
     gozdrit_probe_counts past_probes;
     guint64 sessions;
     guint64 strays;  /* packets that came before there was a session, and began none */
     guint64 unwanted; /* packets of the stream with a payload type that is not the one that is wanted: they went nowhere */
-    gint untold;      /* the type of the first of these, where it is to be told without the lock; or -1 */
-    gint32 refused;  /* an answer of the library that is to be told without the lock, or 0 */
+    untold untold;
     gboolean warned; /* a packet that was too long was told */
     candidate other;
-    guint64 last_media; /* when the last packet of the stream came, in milliseconds */
-    guint64 passed;     /* packets of other streams that went through */
-    guint64 dropped;    /* the same, of which too many were ready */
-    guint64 rtx_came;   /* retransmissions, taken or not */
-    asked *asked;       /* GOZDRIT_MAX_STORE of them, or NULL where none was needed */
+    guint64 passed;   /* packets of other streams that went through */
+    guint64 dropped;  /* the same, of which too many were ready */
+    guint64 rtx_came; /* retransmissions, taken or not */
+    guint64 unclaimed; /* of these, those that no stream of several had asked for: they went nowhere */
 
     gboolean in_place; /* it stands in a jitter buffer's place */
     type_rates rates;
-    guint8 last_type; /* of the last packet that came as media */
     sync_state sync;
     out_offset offset;
     drop_messages drops;
@@ -176,17 +210,8 @@ struct _GstGozdritRecv {
     gboolean is_playing; /* else the stream may stand still */
     guint64 npt_due;  /* when what is before npt-stop has gone out, in milliseconds; or G_MAXUINT64 */
 
-    rtp_times times;
-    arrival *arrivals; /* ARRIVALS of them, by the sequence number */
-    GQueue held;       /* held_event */
-    GstBuffer *spare;  /* the buffer that the next packet is played into, and */
-    GstMapInfo map;    /* its octets */
-    guint64 expected;  /* the number of the packet that goes out next */
-    guint lost;        /* how many before it were lost, and are to be told */
-    guint16 lost_from; /* the first of these */
-    GstClockTime last_pts, last_dts; /* of the last packet that went out */
-    guint32 last_timestamp;
-    gboolean discont;
+    GstBuffer *spare; /* the buffer that the next packet is played into, and */
+    GstMapInfo map;   /* its octets */
 
     GstQueueArray *ready; /* buffers and events, in the order in which they go out */
     guint ready_packets;  /* how many of them are buffers: events have no part in the window */
@@ -210,6 +235,31 @@ struct _GstGozdritRecv {
     guint64 key_requests;          /* that were made */
 };
 
+/* ---- streams.c. The lock is held in all of these. */
+
+void streams_begin(GstGozdritRecv *self);
+void streams_free(GstGozdritRecv *self);
+/* Frees all but the first. None of these has a session. */
+void streams_drop_others(GstGozdritRecv *self);
+/* A loop over all streams, each of which is the one that is meant. Behind the last one it is the one that was before. */
+typedef struct stream_loop {
+    recv_stream *before;
+    guint next;
+} stream_loop;
+gboolean streams_next(GstGozdritRecv *self, stream_loop *at);
+#define EACH_STREAM(self, at) stream_loop at = {.before = (self)->stream}; streams_next((self), &at);
+/* The first stream is meant. */
+void streams_first(GstGozdritRecv *self);
+/* The stream whose media have an SSRC is meant; or FALSE. */
+gboolean streams_find(GstGozdritRecv *self, guint32 ssrc);
+/* What becomes of a packet. The stream that is to take it is meant. */
+typedef enum destiny { DESTINY_STREAM, DESTINY_THROUGH, DESTINY_NOWHERE } destiny;
+destiny streams_of(GstGozdritRecv *self, GstBuffer *buffer, const guint8 *octets, gsize length, guint64 now);
+/* Whether each SSRC is a stream of its own. */
+gboolean streams_are_several(const GstGozdritRecv *self);
+/* Whether a number is not to be asked for now: its answer could be another stream's. */
+gboolean streams_ask_elsewhere(GstGozdritRecv *self, guint16 number, guint64 now);
+
 /* ---- receiving.c. The lock is held in all of these. */
 
 guint64 receiving_now(GstGozdritRecv *self);
@@ -225,10 +275,17 @@ gint64 receiving_wanted_type(const GstGozdritRecv *self);
 gint64 receiving_static_rate(gint64 type);
 /* Whether packets of a type are retransmissions. */
 gboolean receiving_is_rtx_type(const GstGozdritRecv *self, guint8 type);
-/* Gives up what is missing, plays all else, and ends the session. */
+/* Whether nothing says which one stream it is. */
+gboolean receiving_is_free(const GstGozdritRecv *self);
+/* Whether a packet may begin a session by its type; and whether an SSRC is said to be another stream's, of which no media begins. */
+gboolean receiving_is_wanted(const GstGozdritRecv *self, const guint8 *octets);
+gboolean receiving_is_taken(const GstGozdritRecv *self, guint32 ssrc);
+/* Gives up what is missing, plays all else, and ends the session; and that of each stream. */
 void receiving_end(GstGozdritRecv *self);
+void receiving_end_all(GstGozdritRecv *self);
 /* Forgets what is held, and where the packets' times lie. */
 void receiving_flush(GstGozdritRecv *self);
+/* Sets the times of the library, of each stream. */
 void receiving_set_times(GstGozdritRecv *self);
 /* The least time between two asks, in milliseconds. */
 guint64 receiving_step(const GstGozdritRecv *self);
@@ -237,14 +294,18 @@ gozdrit_times receiving_times(const GstGozdritRecv *self);
 
 /* ---- counts.c. The lock is held in all of these. */
 
-/* What was counted so far: by the sessions before, and by this one. */
-void counts_all(const GstGozdritRecv *self, gozdrit_receive_counts *counts, gozdrit_probe_counts *probes);
+/* What was counted so far: by the sessions before, and by those that there are. */
+void counts_all(GstGozdritRecv *self, gozdrit_receive_counts *counts, gozdrit_probe_counts *probes);
+/* Adds what the stream's session counted. */
+void counts_add(const GstGozdritRecv *self, gozdrit_receive_counts *counts, gozdrit_probe_counts *probes);
 /* The library's counts, of all sessions; and these with the element's own. */
-gozdrit_receive_counts counts_sums(const GstGozdritRecv *self);
+gozdrit_receive_counts counts_sums(GstGozdritRecv *self);
 GstStructure *counts_told(GstGozdritRecv *self);
 
 /* ---- playing.c. The lock is held in all but the task. */
 
+/* Plays what can be, of the stream; and of each. */
+void playing_stream(GstGozdritRecv *self, guint64 now);
 void playing_all(GstGozdritRecv *self, guint64 now);
 void playing_event(GstGozdritRecv *self, GstEvent *event);
 void playing_release(GstGozdritRecv *self);
@@ -341,8 +402,9 @@ GstBuffer *offset_onto(GstGozdritRecv *self, GstBuffer *out);
 
 /* Whether nobody takes feedback, and this is no jitter buffer's place. The lock is held. */
 gboolean auxiliary_is(const GstGozdritRecv *self);
-/* Whether a packet of another stream, which follows another one of it, takes the place of the stream, which is gone. The lock is held, as in
- * the next two. */
+/* Whether nothing of the stream came for so long that another one takes its place. The lock is held, as in the next three. */
+gboolean auxiliary_is_gone(const GstGozdritRecv *self, guint64 now);
+/* Whether a packet of another stream, which follows another one of it, takes the place of the stream, which is gone. */
 gboolean auxiliary_takes_over(GstGozdritRecv *self, const guint8 *octets, guint64 now);
 /* Whether a packet of the media was repaired upstream. */
 gboolean auxiliary_is_repair(const GstGozdritRecv *self, GstBuffer *buffer, const guint8 *octets, gsize length);
@@ -350,7 +412,10 @@ gboolean auxiliary_is_repair(const GstGozdritRecv *self, GstBuffer *buffer, cons
 guint8 *auxiliary_wrap(GstGozdritRecv *self, const guint8 *octets, gsize length);
 /* Asks upstream for what a NACK names, of which it takes the reference. */
 void auxiliary_ask(GstGozdritRecv *self, GstBuffer *nack);
-/* Whether an event from downstream asks for a packet of the stream, which is asked for here. */
+/* Whether the stream asked for a number by an event, and may still get it; and it came. The lock is held. */
+gboolean auxiliary_has_asked(const GstGozdritRecv *self, guint16 number, guint64 now);
+void auxiliary_came(GstGozdritRecv *self, guint16 number);
+/* Whether an event from downstream asks for a packet of a stream, which is asked for here. */
 gboolean auxiliary_request(GstGozdritRecv *self, const GstEvent *event);
 
 #endif

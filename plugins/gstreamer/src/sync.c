@@ -71,7 +71,7 @@ void sync_read_caps(GstGozdritRecv *self, const GstCaps *caps) {
 /* Whether the report is one of this stream, and not too near to the one before, by sync-interval. */
 static gboolean is_wanted(const GstGozdritRecv *self) {
     const sync_state *sync = &self->sync;
-    if (sync->last.ssrc != self->session.media_ssrc) return FALSE;
+    if (sync->last.ssrc != self->stream->session.media_ssrc) return FALSE;
     return !GST_CLOCK_TIME_IS_VALID(sync->told) || sync->last.ntp - sync->told >= self->settings.sync_interval * MILLISECOND;
 }
 
@@ -107,8 +107,8 @@ static GstStructure *make_told(const GstGozdritRecv *self, const rtp_times *time
 
 /* What is to be told of the last report, or NULL. It waits for the first packet, which bases the times; what is older than that is of no use. */
 static GstStructure *next_told(GstGozdritRecv *self) {
-    const rtp_times *times = ptmap_times(self, self->last_type);
-    if (!self->sync.last.buffer || !self->end.held || !times->based) return NULL;
+    const rtp_times *times = ptmap_times(self, self->stream->last_type);
+    if (!self->sync.last.buffer || !self->stream->end.held || !times->based) return NULL;
     guint64 extended = place_of(self, times);
     GstStructure *told = is_wanted(self) && extended >= times->first ? make_told(self, times, extended) : NULL;
     if (is_wanted(self)) self->sync.told = self->sync.last.ntp;
@@ -120,7 +120,7 @@ void sync_add_meta(GstGozdritRecv *self, GstBuffer *out, guint32 timestamp, guin
     static GstStaticCaps clock = GST_STATIC_CAPS("timestamp/x-ntp");
     const sender_report *report = &self->sync.last;
     const rtp_times *times = ptmap_times(self, type);
-    if (!self->settings.adds_meta || !self->sync.is_known || report->ssrc != self->session.media_ssrc || times->clock_rate == 0) return;
+    if (!self->settings.adds_meta || !self->sync.is_known || report->ssrc != self->stream->session.media_ssrc || times->clock_rate == 0) return;
     gint64 units = (gint32)(timestamp - report->timestamp);
     GstClockTime apart = gst_util_uint64_scale((guint64)ABS(units), GST_SECOND, (guint64)times->clock_rate);
     GstCaps *caps = gst_static_caps_get(&clock);
@@ -158,7 +158,7 @@ static GstFlowReturn chain(GstPad *pad, GstObject *parent, GstBuffer *buffer) {
     }
     g_mutex_lock(&self->lock);
     if (name) note_name(self, read.ssrc, name);
-    if (!self->end.held || read.ssrc == self->session.media_ssrc) take_report(self, buffer, &read);
+    if (!self->stream->end.held || read.ssrc == self->stream->session.media_ssrc) take_report(self, buffer, &read);
     g_mutex_unlock(&self->lock);
     gst_buffer_unref(buffer);
     sync_tell(self);
@@ -186,7 +186,7 @@ GstPad *sync_request_pad(GstElement *element, GstPadTemplate *template, const gc
     g_mutex_lock(&self->lock);
     gboolean is_first = self->reports == NULL;
     if (is_first) self->reports = pad;
-    if (is_first && !self->end.held && !feedback_is_taken(self)) self->in_place = TRUE;
+    if (is_first && !self->stream->end.held && !feedback_is_taken(self)) self->in_place = TRUE;
     g_mutex_unlock(&self->lock);
     if (!is_first) {
         gst_object_unref(gst_object_ref_sink(pad));

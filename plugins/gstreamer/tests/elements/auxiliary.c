@@ -137,6 +137,10 @@ static void test_before(void) {
     COMES(r.media, .sequence = 5, .ssrc = 7);
     COMES(r.media, .sequence = 6, .type = 13);
     CHECK(count_of(r.element, "sessions") == 0 && count_of(r.element, "strays") == 0);
+    GstBuffer *cut = make_packet((packet){.sequence = 7, .ssrc = 7});
+    gst_buffer_memset(cut, 0, 0x8f, 1); /* it has no room for so many CSRCs: it is no RTP */
+    gst_harness_push(r.media, cut);
+    CHECK(is_silent(r.media) && count_of(r.element, "strays") == 1);
     for (guint16 i = 7; i < 12; i++) {
         SEND(&r, .sequence = i, .type = i % 2 ? TYPE : 13, .pts = MS(i));
         COMES(r.media, .sequence = i, .type = i % 2 ? TYPE : 13, .pts = MS(i));

@@ -124,6 +124,8 @@ void test_silence(void);
 void test_receive(void);
 void test_metas(void);
 void test_auxiliary(void);
+void test_bundle(void);
+void test_crowd(void);
 void test_place(void);
 void test_drops(void);
 void test_pt_map(void);
