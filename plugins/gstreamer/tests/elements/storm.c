@@ -1,6 +1,6 @@
 /* Both elements where everything happens at once: odd packets, losses, reordering before and behind the sender, strangers, streams that end
  * or begin anew, other caps and properties, flushes, changes of state, reports and the end, each at a drawn moment; half of the receivers are in a
- * jitter buffer's place. What comes out has to be RTP. Who
+ * jitter buffer's place, and those whose feedback nobody takes have a map else, and repair several streams. What comes out has to be RTP. Who
  * hangs is killed after a while, and what sanitizers find ends the program. STORM is for how many seconds (else 2), and SEED draws. */
 #include "checks.h"
 
@@ -18,7 +18,8 @@ typedef struct storm {
     GRand *drawn;
     GstBuffer *behind; /* a packet that the next one overtakes */
     gint stopped, renewed; /* renewed: the next packet wants the events of a stream before it */
-    gboolean in_place;     /* the receiver is a jitter buffer's */
+    gboolean in_place;     /* the receiver is a jitter buffer's, or else */
+    gboolean several;      /* repairs several streams */
     gint wrong;
     guint32 seed;
 } storm;
@@ -50,6 +51,17 @@ static GstPadProbeReturn pass_path(GstPad *pad, GstPadProbeInfo *info, gpointer 
     }
     g_mutex_unlock(&s->path);
     return done;
+}
+
+/* Caps that name no stream, as an rtpsession's. */
+static GstPadProbeReturn hide_caps(GstPad *pad, GstPadProbeInfo *info, gpointer data) {
+    (void)pad, (void)data;
+    if (GST_EVENT_TYPE(info->data) != GST_EVENT_CAPS) return GST_PAD_PROBE_OK;
+    GstCaps *caps = gst_caps_new_empty_simple("application/x-rtp");
+    gst_event_unref(info->data);
+    info->data = gst_event_new_caps(caps);
+    gst_caps_unref(caps);
+    return GST_PAD_PROBE_OK;
 }
 
 /* ---- what is sent */
@@ -109,6 +121,7 @@ static void push_some(storm *s, packet *of, GRand *drawn) {
         packet next = *of;
         if (g_rand_int_range(drawn, 0, 10) == 0) next.sequence = (guint16)(next.sequence + g_rand_int_range(drawn, -9, 10));
         if (g_rand_int_range(drawn, 0, 10) == 0) next.ssrc += (guint32)g_rand_int_range(drawn, 0, 100);
+        else if (s->several) next.ssrc += of->sequence / 4 % 3; /* three that go on */
         GstBuffer *buffer = make_any(next, drawn);
         if (list) gst_buffer_list_insert(list, -1, buffer);
         else gst_pad_push(s->source, buffer);
@@ -237,7 +250,11 @@ static void make_pads(storm *s) {
         g_signal_connect(s->recv, "request-pt-map", G_CALLBACK(answer), s);
         g_signal_connect(s->recv, "handle-sync", G_CALLBACK(on_sync), s);
     }
-    if (g_rand_boolean(s->drawn)) link_pads(pads[2], s->back[0]); /* else what is asked for goes upstream by events */
+    gboolean is_linked = g_rand_boolean(s->drawn); /* else what is asked for goes upstream by events */
+    s->several = !is_linked && !s->in_place;
+    if (is_linked) link_pads(pads[2], s->back[0]);
+    if (s->several) gst_util_set_object_arg(G_OBJECT(s->recv), "payload-type-map", "map,96=(uint)97,98=(uint)97");
+    if (s->several) gst_pad_add_probe(pads[3], GST_PAD_PROBE_TYPE_EVENT_DOWNSTREAM, hide_caps, NULL, NULL);
     gst_pad_add_probe(pads[3], GST_PAD_PROBE_TYPE_BUFFER, pass_path, s, NULL);
     gst_pad_set_active(s->source, TRUE);
     for (gint i = 0; i < 2; i++) gst_pad_set_active(s->back[i], TRUE);
