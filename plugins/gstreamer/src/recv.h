@@ -250,6 +250,8 @@ gboolean streams_next(GstGozdritRecv *self, stream_loop *at);
 #define EACH_STREAM(self, at) stream_loop at = {.before = (self)->stream}; streams_next((self), &at);
 /* The first stream is meant. */
 void streams_first(GstGozdritRecv *self);
+/* Whether any has a session. */
+gboolean streams_have_begun(GstGozdritRecv *self);
 /* The stream whose media have an SSRC is meant; or FALSE. */
 gboolean streams_find(GstGozdritRecv *self, guint32 ssrc);
 /* What becomes of a packet. The stream that is to take it is meant. */

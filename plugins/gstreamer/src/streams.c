@@ -45,6 +45,12 @@ gboolean streams_next(GstGozdritRecv *self, stream_loop *at) {
     return is_one;
 }
 
+gboolean streams_have_begun(GstGozdritRecv *self) {
+    gboolean is_held = FALSE;
+    for (EACH_STREAM(self, at)) is_held |= self->stream->end.held;
+    return is_held;
+}
+
 gboolean streams_find(GstGozdritRecv *self, guint32 ssrc) {
     for (EACH_STREAM(self, at))
         if (self->stream->end.held && self->stream->session.media_ssrc == ssrc) return TRUE;

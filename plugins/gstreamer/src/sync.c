@@ -186,7 +186,7 @@ GstPad *sync_request_pad(GstElement *element, GstPadTemplate *template, const gc
     g_mutex_lock(&self->lock);
     gboolean is_first = self->reports == NULL;
     if (is_first) self->reports = pad;
-    if (is_first && !self->stream->end.held && !feedback_is_taken(self)) self->in_place = TRUE;
+    if (is_first && !streams_have_begun(self) && !feedback_is_taken(self)) self->in_place = TRUE;
     g_mutex_unlock(&self->lock);
     if (!is_first) {
         gst_object_unref(gst_object_ref_sink(pad));
