@@ -22,13 +22,13 @@ struct row {
 
 static const struct row ROWS[] = {
     {"10 % lost", {.loss = .1, .delay = 25}, {2000, 40, 200}, .05, .2},
-    {"20 %", {.loss = .2, .delay = 25}, {2000, 40, 200}, .3, .2},
+    {"20 %", {.loss = .2, .delay = 25}, {2000, 40, 200}, .26, .2},
     {"30 %", {.loss = .3, .delay = 25}, {2000, 40, 200}, 1.5, .3},
     {"10 %, round trip 20, latency 120", {.loss = .1, .delay = 10}, {2000, 40, 120}, .03, .2},
     {"10 %, round trip 150, latency 600", {.loss = .1, .delay = 75}, {2000, 40, 600}, .06, .3},
     {"5 %, up to 10 ms of jitter", {.loss = .05, .delay = 18, .jitter = 10}, {2000, 40, 200}, .03, 1},
     {"20 %, up to 15 ms", {.loss = .2, .delay = 18, .jitter = 15}, {2000, 40, 200}, .4, 3},
-    {"10 %, up to 40 ms", {.loss = .1, .delay = 18, .jitter = 40}, {2000, 40, 200}, .3, 30},
+    {"10 %, up to 40 ms", {.loss = .1, .delay = 18, .jitter = 40}, {2000, 40, 200}, .25, 30},
     {"1 %, up to 40 ms", {.loss = .01, .delay = 18, .jitter = 40}, {2000, 40, 200}, .05, 2},
     {"nothing lost, up to 60 ms, 20 Mbit/s", {.delay = 18, .jitter = 60}, {20000, 10, 200}, .1, 2},
     {"nothing lost, up to 150 ms, 8 Mbit/s", {.delay = 18, .jitter = 150}, {8000, 20, 200}, .1, 2},
