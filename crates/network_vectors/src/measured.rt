@@ -285,9 +285,9 @@ fn packets_that_come_late_before_anything_is_lost(rt: HostRuntime) -> Result<(),
         (15, Knows(0, true)),
         (15, Follows(200)),
         (15, Times(200, 13, 40)),
-        // No longer than a place is waited for.
+        // No longer than half of what a place is waited for.
         (15, Follows(12)),
-        (15, Times(200, 12, 40)),
+        (15, Times(200, 6, 40)),
     ];
     assert_eq!(rt; wrong_step(rt.alloc(), STEPS)?, None);
     Ok(())

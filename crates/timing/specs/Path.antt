@@ -1,5 +1,5 @@
 -- What was measured of a path.
-use Rattle.std.specs.Prelude.{ℕ, Bool, true, false, ◌+◌, ◌-◌, ◌/◌, ◌==◌, nat_lt, min, Option, Some, None, if◌then◌else◌}
+use Rattle.std.specs.Prelude.{ℕ, Bool, true, false, ◌+◌, ◌-◌, ◌/◌, ◌==◌, ◌&&◌, nat_lt, nat_le, max, min, Option, Some, None, if◌then◌else◌}
 use Rattle.timing.specs.Arrivals.{none_came}
 use Rattle.timing.specs.Capped.{capped}
 use Rattle.timing.specs.AskTimes.{ask_times, spacing_of}
@@ -50,18 +50,31 @@ found_needless p place now = needless_by (heard_original p.trip place now).0 p (
 abbrev pub waited_for : (extent : ℕ) → ℕ
 waited_for extent = capped (extent + capped (extent + 3) / 4)
 
--- until a round trip is known, asks lie 40 milliseconds apart, and what is late is waited for where something was
+-- until a round trip is known, asks lie 40 milliseconds apart, and what is late is waited for where something was, up to half of the patience
 abbrev pub first_times : (patience reordering : ℕ) → Option AskTimes
-first_times patience reordering = if reordering == 0 then None else Some (record { delay = min reordering patience; retry = 40 })
+first_times patience reordering = if reordering == 0 then None else Some (record { delay = min reordering (patience / 2); retry = 40 })
 
 -- how many asks are to fit
 abbrev pub asks_at : Losses → (now : ℕ) → Option ℕ
 asks_at l now = asks_for (both (turned_at l now).recent (turned_at l now).before)
 
--- where hardly any packet comes late, no more than half of a round trip is waited for it
+-- All that is late is waited for where hardly anything is lost, and an ask still has its answer in time then.
+abbrev pub waits_for_all : (asks : Option ℕ) → (answer patience reordering : ℕ) → Bool
+waits_for_all None answer patience reordering = false
+waits_for_all (Some asks) answer patience reordering = asks == 0 && nat_le (capped (reordering + answer)) patience
+
+-- One ask goes first at least, and no more than have their answers in time.
+abbrev pub asks_or_one : (asks : Option ℕ) → ℕ
+asks_or_one None = 1
+asks_or_one (Some asks) = max asks 1
+
+abbrev pub asks_first : (asks : Option ℕ) → (answer patience : ℕ) → ℕ
+asks_first asks answer patience = min (asks_or_one asks) (max (patience / max answer 1) 1)
+
+-- else no more than half of a round trip is waited for it
 abbrev pub fitting_for : (asks : Option ℕ) → Smoothed → (answer patience reordering : ℕ) → AskTimes
-fitting_for None s answer patience reordering = ask_times answer patience (min reordering (s.time / 16)) 1
-fitting_for (Some asks) s answer patience reordering = ask_times answer patience reordering asks
+fitting_for asks s answer patience reordering =
+    ask_times answer patience (if waits_for_all asks answer patience reordering then reordering else min reordering (s.time / 16)) (asks_first asks answer patience)
 
 -- a queue takes its part of the patience
 abbrev pub times_known : Smoothed → Path → (patience reordering now : ℕ) → AskTimes

@@ -80,8 +80,8 @@ impl Path {
     }
 
     /// The times of asks for a place that is waited for so long, in milliseconds, where a round-trip time was measured, or packets came behind
-    /// later ones. A queue on the way takes its part of that. Reordering is waited for as far as [`Losses::asks`] has it, and up to half of a
-    /// round trip where that has nothing.
+    /// later ones. A queue on the way takes its part of that. Reordering is waited for up to half of a round trip, and less where only so as many
+    /// asks fit as [`Losses::asks`] has; but as far as it goes where that has none, if an ask still has its answer in time then.
     pub fn times(&self, patience: u64, now: u64) -> Option<AskTimes>
         ensures value { result ≡ times_over self.now patience now }
         ensures some_time { IfSome result (λ times. 0 < times.retry) }
@@ -100,14 +100,19 @@ impl Path {
     {
         let answer = smoothed.spacing(self.trip.least(now), reordering);
         let left = patience.saturating_sub(self.trip.queued(now));
-        match self.losses.asks(now) {
-            Some(asks) => AskTimes::fitting(answer, left, reordering, asks),
-            None => AskTimes::fitting(answer, left, reordering.min(smoothed.time / 16), 1),
-        }
+        let asks = self.losses.asks(now);
+        let waits = asks == Some(0) && reordering.saturating_add(answer) <= left;
+        let reordering = if waits {
+            reordering
+        } else {
+            reordering.min(smoothed.time / 16)
+        };
+        let fit = (left / answer.max(1)).max(1);
+        AskTimes::fitting(answer, left, reordering, asks.unwrap_or(1).max(1).min(fit))
     }
 }
 
-/// The times of asks where no round-trip time was measured: what is late is waited for, where something was.
+/// The times of asks where no round-trip time was measured: what is late is waited for, where something was, up to half of the time.
 fn first_times(patience: u64, reordering: u64) -> Option<AskTimes>
     ensures value { result ≡ first_times patience reordering }
     ensures some_time { IfSome result (λ times. 0 < times.retry) }
@@ -116,7 +121,7 @@ fn first_times(patience: u64, reordering: u64) -> Option<AskTimes>
         return None;
     }
     Some(AskTimes {
-        delay: reordering.min(patience),
+        delay: reordering.min(patience / 2),
         retry: FIRST_RETRY,
     })
 }

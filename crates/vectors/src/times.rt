@@ -180,9 +180,9 @@ fn take(path: &mut Path, count: u64) {
     }
 }
 
-/// The times that a path has at this moment, for a patience of 200; nothing, where it has none.
-fn over(path: &Path, now: u64) -> (u64, u64) {
-    match path.times(200, now) {
+/// The times that a path has at this moment, for this patience; nothing, where it has none.
+fn over(path: &Path, patience: u64, now: u64) -> (u64, u64) {
+    match path.times(patience, now) {
         Some(times) => (times.delay, times.retry),
         None => (0, 0),
     }
@@ -194,17 +194,17 @@ fn reordering_is_waited_for_up_to_half_a_round_trip(_rt: HostRuntime) -> Result<
     let nothing = path.times(200, 30).is_none();
     let more = path.see(10, 30);
     // Ten and a quarter more are waited for, before a round trip is known, and asks lie 40 apart.
-    let unknown = over(&path, 30) == (13, 40);
+    let unknown = over(&path, 200, 30) == (13, 40) && over(&path, 20, 30) == (10, 40);
     take(&mut path, 15);
     let place = Place::first(7);
     path.trip.ask(place, 20);
     // 40, with a variation of 20: an answer takes 65, but no more than 40, 13 and five. One in sixteen came late.
     let measured = path.trip.hear(place, 60);
-    let as_seen = over(&path, 60) == (13, 64);
+    let as_seen = over(&path, 200, 60) == (13, 64);
     let most = path.see(35, 70) && !path.see(35, 70);
     take(&mut path, 30);
     // 44 would be waited for; an answer takes 65 again.
-    let half = over(&path, 70) == (20, 115);
+    let half = over(&path, 200, 70) == (20, 115);
     if nothing && more && unknown && measured && as_seen && most && half {
         Ok(())
     } else {
@@ -212,14 +212,14 @@ fn reordering_is_waited_for_up_to_half_a_round_trip(_rt: HostRuntime) -> Result<
     }
 }
 
-/// A path whose round trip takes 40, with a variation of 20; of a thousand packets so many came late, by 150, and so many were lost.
-fn lossy(late: u64, lost: u64) -> Path {
+/// A path whose round trip takes 40, with a variation of 20; of a thousand packets so many came late, by so much, and so many were lost.
+fn lossy(late: u64, behind: u64, lost: u64) -> Path {
     let mut path = Path::new();
     let place = Place::first(7);
     path.trip.ask(place, 20);
     let _ = path.trip.hear(place, 60);
     for _ in 0..late {
-        let _ = path.see(150, 100);
+        let _ = path.see(behind, 100);
     }
     for _ in 0..lost {
         let _ = path.repair(Place::first(9), 100);
@@ -233,26 +233,27 @@ fn lossy(late: u64, lost: u64) -> Path {
 
 #[test]
 fn losses_say_how_many_asks_go_first(_rt: HostRuntime) -> Result<(), Fail> {
-    // 188 would be waited for, and an answer takes 65.
+    // 125 would be waited for, of which half of a round trip is 20, and an answer takes 65; for patiences of 140 and of 200.
     let rows = [
         // No more than one in sixteen came late: half of a round trip is waited for.
-        (62, 0, (20, 115)),
-        (62, 500, (20, 115)),
-        // More did, and one in a thousand was lost: what is late is waited for.
-        (63, 0, (188, 200)),
-        (63, 1, (188, 200)),
-        // One in 500, up to one in 32: one ask has its answer in time.
-        (63, 2, (135, 200)),
-        (500, 31, (135, 200)),
+        (62, 0, (20, 140), (20, 115)),
+        (62, 500, (20, 140), (20, 115)),
+        // More did, and one in a thousand was lost: what is late is waited for, where an ask still has its answer in time.
+        (63, 0, (20, 140), (125, 200)),
+        (63, 1, (20, 140), (125, 200)),
+        // One in 500, up to one in 32: one ask goes first.
+        (63, 2, (20, 140), (20, 115)),
+        (500, 31, (20, 140), (20, 115)),
         // Up to one in eight, two.
-        (500, 32, (70, 65)),
-        (500, 125, (70, 65)),
-        // And more, three.
-        (500, 126, (5, 65)),
-        (500, 500, (5, 65)),
+        (500, 32, (10, 65), (20, 115)),
+        (500, 125, (10, 65), (20, 115)),
+        // And more, three, where they fit.
+        (500, 126, (10, 65), (5, 65)),
+        (500, 500, (10, 65), (5, 65)),
     ];
-    for (late, lost, wanted) in rows {
-        if over(&lossy(late, lost), 100) != wanted {
+    for (late, lost, short, long) in rows {
+        let path = lossy(late, 100, lost);
+        if over(&path, 140, 100) != short || over(&path, 200, 100) != long {
             return Err(Fail::from("the asks by what is lost"));
         }
     }
@@ -260,15 +261,27 @@ fn losses_say_how_many_asks_go_first(_rt: HostRuntime) -> Result<(), Fail> {
 }
 
 #[test]
+fn what_is_late_is_waited_for(_rt: HostRuntime) -> Result<(), Fail> {
+    // 135 and an answer of 65 are 200; 137 are too many.
+    let fits = over(&lossy(63, 108, 0), 200, 100) == (135, 200);
+    let is_too_long = over(&lossy(63, 109, 0), 200, 100) == (20, 115);
+    if fits && is_too_long {
+        Ok(())
+    } else {
+        Err(Fail::from("what is waited for"))
+    }
+}
+
+#[test]
 fn losses_are_forgotten(_rt: HostRuntime) -> Result<(), Fail> {
     // Counted from 0 on: for ten seconds. What comes late is waited for by what it was for longer.
-    let path = lossy(500, 126);
-    let known = over(&path, 4999) == (5, 65) && over(&path, 9999) == (5, 65);
-    let forgotten = over(&path, 10000) == (20, 115);
+    let path = lossy(500, 100, 126);
+    let known = over(&path, 200, 4999) == (5, 65) && over(&path, 200, 9999) == (5, 65);
+    let forgotten = over(&path, 200, 10000) == (20, 115);
     // What is counted at 5000 begins a span.
-    let mut later = lossy(500, 126);
+    let mut later = lossy(500, 100, 126);
     later.take(5000);
-    let goes_on = over(&later, 9999) == (5, 65) && over(&later, 10000) == (20, 115);
+    let goes_on = over(&later, 200, 9999) == (5, 65) && over(&later, 200, 10000) == (20, 115);
     if known && forgotten && goes_on {
         Ok(())
     } else {
@@ -286,15 +299,15 @@ fn repair(path: &mut Path, seq: u16, is_late: bool) -> bool {
 
 #[test]
 fn what_is_late_is_not_lost(_rt: HostRuntime) -> Result<(), Fail> {
-    let mut path = lossy(400, 96);
-    let lost = over(&path, 100) == (70, 65);
+    let mut path = lossy(400, 100, 96);
+    let lost = over(&path, 140, 100) == (10, 65);
     // Three of four that are measured were late alone, by no more than others: of a hundred retransmissions 25 were needed.
     let known = repair(&mut path, 10, true)
         || repair(&mut path, 11, true)
         || repair(&mut path, 12, true);
     let one_needed = repair(&mut path, 13, false);
-    // An answer takes 40, 6 and five by now.
-    let few = over(&path, 100) == (149, 200);
+    // An answer takes 40, 6 and five by now: two would have theirs in time from 13 on.
+    let few = over(&path, 115, 100) == (20, 115);
     // One comes twice, another one was not measured last, and one is later than was known: by what is waited for.
     let again = path.refuse(Place::first(12), 300) || path.refuse(Place::first(9), 300);
     let much = path.refuse(Place::first(13), 350) && path.reordering.greatest(350) == 300;
@@ -314,7 +327,7 @@ fn queues_are_told_from_the_way(_rt: HostRuntime) -> Result<(), Fail> {
     }
     // 110 on the mean, and 40 at least: 30 of the patience lie in a queue, and asks lie 45 apart.
     let told = path.trip.time() == Some(110) && path.trip.least(1600) == 40;
-    let queued = path.trip.queued(1600) == 30 && over(&path, 1600) == (0, 62);
+    let queued = path.trip.queued(1600) == 30 && over(&path, 200, 1600) == (0, 62);
     // The least is forgotten like what is the greatest. What is in doubt is none.
     let forgotten = path.trip.least(40000) == 60000 && path.trip.queued(40000) == 0;
     path.trip.ask(Place::first(3), 40000);
