@@ -33,7 +33,7 @@ static const struct row ROWS[] = {
     {"nothing lost, up to 60 ms, 20 Mbit/s", {.delay = 18, .jitter = 60}, {20000, 10, 200}, .1, 2},
     {"nothing lost, up to 60 ms, 8 Mbit/s", {.delay = 18, .jitter = 60}, {8000, 20, 200}, .1, 2},
     {"5 %, up to 60 ms", {.loss = .05, .delay = 18, .jitter = 60}, {2000, 40, 200}, .3, 20},
-    {"2 %, up to 100 ms", {.loss = .02, .delay = 18, .jitter = 100}, {2000, 40, 200}, .5, 60},
+    {"2 %, up to 100 ms", {.loss = .02, .delay = 18, .jitter = 100}, {2000, 40, 200}, .7, 60},
     {"5 %, up to 150 ms", {.loss = .05, .delay = 18, .jitter = 150}, {2000, 40, 200}, 3.2, 90},
     {"a link of 1.1, .3 s out, latency 1000", {.delay = 25, .kilobits = 2200, .queue = 150, .out = 10000, .out_for = 300}, {2000, 40, 1000}, .3, 1},
     {"a link of 1.1, .5 s out, latency 500", {.delay = 25, .kilobits = 2200, .queue = 150, .out = 10000, .out_for = 500}, {2000, 40, 500}, .95, .5},
