@@ -94,25 +94,15 @@ static bool is_asked_twice(gozdrit_receiver *r, unsigned turn, bool answers_both
     return length > 0;
 }
 
-static gozdrit_receiver begun(void) {
+/* A sender that answers both copies gets both of three NACKs, and then of one in eight; of each, once it answers one of both, and what came
+ * twice before, 23 packets, is one in eight of what was answered, but for two. */
+static void test_answered_twice(void) {
     gozdrit_receiver r = receiver_of(0, GOZDRIT_ADAPTIVE_OFF);
     ANSWERS(GOZDRIT_OK, gozdrit_reset(&r));
     HEARS_MEDIA(&r, 101, 0, MEDIA(65637));
     PLAYS(&r, 0, GOZDRIT_PACKET, 65637, 101);
-    return r;
-}
-
-/* A sender that answers both copies gets both of seventeen NACKs, and of no other one, whatever it answers later. */
-static void test_answers_both(void) {
-    gozdrit_receiver r = begun();
-    for (unsigned turn = 0; turn < 120; turn++) CHECK(is_asked_twice(&r, turn, turn < 60) == (turn < 17));
-    ANSWERS(GOZDRIT_OK, gozdrit_receiver_free(&r));
-}
-
-/* One that answers both of each second NACK, as where copies come apart by jitter, gets each twice. */
-static void test_answers_some_twice(void) {
-    gozdrit_receiver r = begun();
-    for (unsigned turn = 0; turn < 120; turn++) CHECK(is_asked_twice(&r, turn, turn % 2 == 1));
+    for (unsigned turn = 0; turn < 163; turn++) CHECK(is_asked_twice(&r, turn, true) == (turn < 3 || turn % 8 == 0));
+    for (unsigned turn = 163; turn < 250; turn++) CHECK(is_asked_twice(&r, turn, false) == (turn >= 168));
     ANSWERS(GOZDRIT_OK, gozdrit_receiver_free(&r));
 }
 
@@ -126,8 +116,8 @@ static void test_reset(void) {
     ANSWERS(GOZDRIT_OK, gozdrit_receiver_free(&r));
 }
 
-/* Until a round trip was measured, 40 ms lie between two NACKs. It is 40 ms: asks lie no closer than that and five, and three more have their
- * answers in time behind the first. */
+/* Until a round trip was measured, 40 ms lie between two NACKs. Its measurement is 40 ms, and its variation half of that: an answer
+ * takes 40 + 4 * 20 ms at most (RFC 6298, section 2), in which two more have room behind the first. */
 static void test_defaults_follow(void) {
     gozdrit_receiver r = receiver_of(0, GOZDRIT_ADAPTIVE_OFF);
     gozdrit_times times = GOZDRIT_TIMES_INIT;
@@ -137,7 +127,7 @@ static void test_defaults_follow(void) {
     NACKS(&r, 26, GOZDRIT_MAX_NACKED, PAIR(101, 2));
     HEARS_RTX(&r, 0x22222222, 101, 65, ((gozdrit_received){.kind = GOZDRIT_RETRANSMISSION, .sequence = 65637}));
     ANSWERS(GOZDRIT_OK, gozdrit_receiver_times(&r, &times));
-    CHECK(times.known && times.round_trip == 40 && times.variation == 20 && times.reorder_delay == 0 && times.nack_interval == 51);
+    CHECK(times.known && times.round_trip == 40 && times.variation == 20 && times.reorder_delay == 0 && times.nack_interval == 67);
     ANSWERS(GOZDRIT_OK, gozdrit_receiver_free(&r));
 }
 
@@ -147,8 +137,7 @@ void test_copies(void) {
     test_by_default();
     test_set();
     test_late();
-    test_answers_both();
-    test_answers_some_twice();
+    test_answered_twice();
     test_reset();
     test_defaults_follow();
 }

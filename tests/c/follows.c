@@ -26,8 +26,8 @@ static void times(const gozdrit_receiver *r, uint64_t reorder_delay, uint64_t na
 }
 
 /* 101 is asked for at 25, and its answer comes at 65. The first measurement is 40 ms, with half of it as its variation (RFC
- * 6298, section 2.2): a NACK then comes at once, an answer takes 40 + 5 ms where no queue is on the way, and NACKs lie no closer. Three fit
- * behind the first, the last of them 200 - 45 ms after it, at most. */
+ * 6298, section 2.2): a NACK then comes at once, an answer takes 40 + 20 + 5 ms, and NACKs lie no closer. Two fit behind the
+ * first, the last of them 200 - 65 ms after it, at most. */
 static void measures_forty(gozdrit_receiver *r, uint64_t start, uint16_t number) {
     HEARS_MEDIA(r, number, start, MEDIA(65536 + (uint64_t)number));
     HEARS_MEDIA(r, (uint16_t)(number + 2), start + 5, MEDIA(65538 + (uint64_t)number));
@@ -35,33 +35,33 @@ static void measures_forty(gozdrit_receiver *r, uint64_t start, uint16_t number)
     times(r, 20, 40, 0, 0);
     HEARS_RTX(r, 0x22222222, (uint16_t)(number + 1), start + 65,
               ((gozdrit_received){.kind = GOZDRIT_RETRANSMISSION, .sequence = 65537 + (uint64_t)number}));
-    times(r, 0, 51, 40, 20);
+    times(r, 0, 67, 40, 20);
 }
 
 static void test_round_trip(void) {
     gozdrit_receiver r = receiver_of(&CONFIG);
     times(&r, 20, 40, 0, 0);
     measures_forty(&r, 0, 100);
-    /* 103 is asked for at its notice, and 51 ms later: that is in doubt then (RFC 6298, section 3), and measures nothing */
+    /* 103 is asked for at its notice, and 67 ms later: that is in doubt then (RFC 6298, section 3), and measures nothing */
     HEARS_MEDIA(&r, 104, 100, MEDIA(65640));
     CALLS_AT(&r, true, 0);
     NACKS(&r, 100, GOZDRIT_MAX_NACKED, PAIR(103, 0));
-    NACKS(&r, 150, GOZDRIT_MAX_NACKED, NO_PAIR);
-    NACKS(&r, 151, GOZDRIT_MAX_NACKED, PAIR(103, 0));
-    HEARS_RTX(&r, 0x22222222, 103, 152, ((gozdrit_received){.kind = GOZDRIT_RETRANSMISSION, .sequence = 65639}));
-    times(&r, 0, 51, 40, 20);
+    NACKS(&r, 166, GOZDRIT_MAX_NACKED, NO_PAIR);
+    NACKS(&r, 167, GOZDRIT_MAX_NACKED, PAIR(103, 0));
+    HEARS_RTX(&r, 0x22222222, 103, 168, ((gozdrit_received){.kind = GOZDRIT_RETRANSMISSION, .sequence = 65639}));
+    times(&r, 0, 67, 40, 20);
     ANSWERS(GOZDRIT_OK, gozdrit_receiver_free(&r));
 }
 
-/* 104 comes 8 ms after it was noticed to be missing: the first NACK waits for a quarter more from then on, and an answer takes 40 + 10 + 5:
- * two fit into 200 - 55 - 10. */
+/* 104 comes 8 ms after it was noticed to be missing: the first NACK waits for a quarter more from then on, and the rest of
+ * the time is less by it. */
 static void test_reordering(void) {
     gozdrit_receiver r = receiver_of(&CONFIG);
     measures_forty(&r, 0, 100);
     HEARS_MEDIA(&r, 103, 70, MEDIA(65639));
     HEARS_MEDIA(&r, 105, 72, MEDIA(65641));
     HEARS_MEDIA(&r, 104, 80, MEDIA(65640));
-    times(&r, 10, 67, 40, 20);
+    times(&r, 10, 125, 40, 20);
     ANSWERS(GOZDRIT_OK, gozdrit_receiver_free(&r));
 }
 
@@ -72,14 +72,14 @@ static void test_set_and_reset(void) {
     ANSWERS(GOZDRIT_OK, gozdrit_set_times(&r, 400, 7, 9));
     times(&r, 7, 9, 40, 20);
     HEARS_MEDIA(&r, 103, 70, MEDIA(65639));
-    times(&r, 0, 50, 40, 20); /* 400 - 45 ms have room for seven more, 45 ms apart or farther */
+    times(&r, 0, 67, 40, 20); /* 400 - 65 ms have room for five more, 65 ms apart or farther */
     HEARS_MEDIA(&r, 105, 80, MEDIA(65641));
     NACKS(&r, 80, GOZDRIT_MAX_NACKED, PAIR(104, 0));
     ANSWERS(GOZDRIT_OK, gozdrit_reset(&r));
-    times(&r, 0, 50, 40, 20);
+    times(&r, 0, 67, 40, 20);
     HEARS_MEDIA(&r, 103, 90, MEDIA(65639));
     HEARS_RTX(&r, 0x22222222, 104, 91, ((gozdrit_received){.kind = GOZDRIT_RETRANSMISSION, .sequence = 65640}));
-    times(&r, 0, 50, 40, 20);
+    times(&r, 0, 67, 40, 20);
     ANSWERS(GOZDRIT_OK, gozdrit_receiver_free(&r));
 }
 
@@ -98,7 +98,7 @@ static void test_switched(void) {
     ANSWERS(GOZDRIT_OK, gozdrit_set_adaptive(&r, GOZDRIT_ADAPTIVE_SEND_TIME));
     times(&r, 30, 50, 40, 20);
     HEARS_MEDIA(&r, 105, 75, MEDIA(65641));
-    times(&r, 0, 51, 40, 20);
+    times(&r, 0, 67, 40, 20);
     ANSWERS(GOZDRIT_OK, gozdrit_receiver_free(&r));
 }
 

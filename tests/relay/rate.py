@@ -62,9 +62,8 @@ def at_once(checks, stage):
 
 @on_time(0.02)
 def shared(checks, stage, *words, share=200, many=400):
-    """By a share of the media's rate a burst has half of that share of a second, and 32 KiB, and the others leave at the other half. Of the burst
-    64 KiB leave at once, and the rest eight times as fast, or by 64 megabits. The media's rate is at most all that was sent and the two megabits that are
-    taken for granted."""
+    """By a share of the media's rate 32 KiB leave at once, and the others at that share. The media's rate is at most all that was sent
+    and the two megabits that are taken for granted."""
     name, long = f"{share} per cent", 1014 * 8
     far, sender = burst(stage, many, 1000, *words)
     asks(far, sender, many)
@@ -72,11 +71,9 @@ def shared(checks, stage, *words, share=200, many=400):
     ends(checks, name, sender)
     times = [int(one.split()[0]) for one in sender.log.read_text().splitlines() if one.split()[1] == "repair"][-many:]
     at_once = sum(one <= times[0] + 100 for one in times)
-    checks.count(at_once >= 60, f"{name}: {at_once} retransmissions left in a tenth of a second")
-    half = share * (2000000 + many * 1012 * 8) // 200
-    rate, fast = half / 1000, max(2 * half / 1000, min(8 * half / 1000, 64000))
-    spans = [(i * long, one - times[0] + 1) for i, one in enumerate(times)]
-    early = [i for i, (bits, span) in enumerate(spans) if bits > min(262144 + half + rate * span, 524288 + fast * span)]
+    checks.count(at_once >= 27, f"{name}: {at_once} retransmissions left in a tenth of a second")
+    most = share * (2000000 + many * 1012 * 8) // 100000
+    early = [i for i, one in enumerate(times) if i * long > 262144 + most * (one - times[0] + 1)]
     checks.same((len(times), early[:2]), (many, []), f"{name}: retransmissions in the log, and those that left too early")
 
 

@@ -45,84 +45,50 @@ fn a_rate_that_stays(_rt: HostRuntime) -> Result<(), Fail> {
     }
 }
 
-/// How many packets of 9600 bits leave, by a share of 200 per cent of two megabits, as many as may each millisecond up to this one.
-fn left_until(end: u64) -> u64 {
+/// Twice two megabits are 4000 bits a millisecond. The burst is 262,144 bits; one that is 9600 bits long may leave as long as no
+/// more left before: so 28 leave at once, which are 268,800 bits, and the others each once the bucket is down to the burst.
+#[test]
+fn a_burst_leaves_at_once(_rt: HostRuntime) -> Result<(), Fail> {
     let mut pace = Pace::new(Rate::Percent(200));
     let mut many = 0u64;
-    for now in 0..end.saturating_add(1) {
-        for _ in 0..60u8 {
-            if pace.is_open(now) {
-                pace.spend(1200, now);
-                many = many.saturating_add(1);
-            }
+    for _ in 0..100u8 {
+        if pace.is_open(100) {
+            pace.spend(1200, 100);
+            many = many.saturating_add(1);
         }
     }
-    many
-}
-
-/// One leaves as long as no more than 524,288 bits left at once before, which run out by 16,000 a millisecond; and as long as no more than a burst
-/// of 262,144 and half of four megabits did, which runs out by 2000.
-#[test]
-fn a_burst_leaves_fast(_rt: HostRuntime) -> Result<(), Fail> {
-    let rows = [
-        // 54 are 518,400 bits, and 55 are more than 524,288.
-        (0, 55),
-        // 524,288 and 16,000
-        (1, 57),
-        // 524,288 and 1,600,000
-        (100, 222),
-        // 2,262,144 and 1,998,000: in a second no more than 4,262,144, and one
-        (999, 444),
-    ];
-    for (end, many) in rows {
-        if left_until(end) != many {
-            return Err(Fail::from("the packets of a burst"));
-        }
-    }
-    Ok(())
-}
-
-/// The rate follows the media's, and retransmissions are no media.
-#[test]
-fn a_pace_follows_the_media(_rt: HostRuntime) -> Result<(), Fail> {
-    let mut pace = Pace::new(Rate::Percent(50));
-    // 4,000,000 bits: with what is taken for granted six megabits. A quarter is the rate, 1500 bits a millisecond; a burst has as much of a second
-    // and 262,144, 1,762,144 bits, and leaves by 12,000.
-    pace.measure(500_000, 7);
-    // 2,000,000 bits, of which 237,856 are too many: 158.6 milliseconds; and 1,475,712 at once: 123
-    pace.spend(250_000, 10);
-    let half = pace.opens() == Some(169) && !pace.is_open(168) && pace.is_open(169);
-    // At 30 there were 20 milliseconds: 1,970,000 and 1,760,000 bits are left. Media of 8,138,000 bits (with 5,862,000, which 23 milliseconds left
-    // of the six megabits, it is 14 megabits): a burst of 3,762,144, which leaves by 28,000. 1,235,712 too many at once take 44.13.
-    pace.measure(1_017_250, 30);
-    let more = pace.opens() == Some(75) && !pace.is_open(74) && pace.is_open(75);
-    if half && more {
+    // 6656 bits too many: 1.66 milliseconds
+    let first = pace.opens() == Some(102) && !pace.is_open(101) && pace.is_open(102);
+    // 268,800 - 8000 + 9600 are 270,400, of which 8256 are too many: 2.06
+    pace.spend(1200, 102);
+    let second = pace.opens() == Some(105);
+    // The bucket is empty again after 68 milliseconds.
+    let later = pace.is_open(10_000);
+    if many == 28 && first && second && later {
         Ok(())
     } else {
         Err(Fail::from("the moments"))
     }
 }
 
-/// 1,200,000 bits at once are 675,712 too many. They run out eight times as fast as the rate, up to 64 megabits a second, or twice the rate.
+/// The rate follows the media's, and retransmissions are no media.
 #[test]
-fn a_burst_of_fast_media(_rt: HostRuntime) -> Result<(), Fail> {
-    let rows = [
-        // octets of media, beside two megabits that are taken for granted
-        (250_000, 32),
-        (750_000, 21),
-        (1_250_000, 21),
-        (3_750_000, 21),
-        (4_750_000, 19),
-    ];
-    for (octets, moment) in rows {
-        let mut pace = Pace::new(Rate::Percent(200));
-        pace.measure(octets, 10);
-        pace.spend(150_000, 10);
-        if pace.opens() != Some(moment) {
-            return Err(Fail::from("the moments"));
-        }
+fn a_pace_follows_the_media(_rt: HostRuntime) -> Result<(), Fail> {
+    let mut pace = Pace::new(Rate::Percent(50));
+    // 4,000,000 bits: with what is taken for granted six megabits, of which a half are 3000 bits a millisecond
+    pace.measure(500_000, 7);
+    // 400,000 bits, of which 137,856 are too many: 45.95 milliseconds
+    pace.spend(50_000, 10);
+    let half = pace.opens() == Some(56);
+    // At 30 there were 20 milliseconds: 340,000 bits are left. Media of 8,138,000 bits (with 5,862,000, which 23 milliseconds left
+    // of the six megabits, it is 14 megabits, of which a half are 7000 bits a millisecond): 77,856 too many take 11.12.
+    pace.measure(1_017_250, 30);
+    let more = pace.opens() == Some(42);
+    if half && more {
+        Ok(())
+    } else {
+        Err(Fail::from("the moments"))
     }
-    Ok(())
 }
 
 /// In kilobits a second each one closes it until it had its time, and 0 per cent are one bit a millisecond.

@@ -202,12 +202,12 @@ fn a_stream_that_takes_the_place_of_another(rt: HostRuntime) -> Result<(), Fail>
     Ok(())
 }
 
-/// Eighty packets of the application at moment 5, of 1200 octets each, and a NACK for all of them at moment 20.
-fn eighty(alloc: Global) -> Result<Script, Fail> {
+/// Forty packets of the application at moment 5, of 1200 octets each, and a NACK for all of them at moment 20.
+fn forty(alloc: Global) -> Result<Script, Fail> {
     const ALL: &[u8] =
-        b"\x81\xcd\x00\x07\x33\x33\x33\x33\x11\x11\x11\x11\xff\xff\xff\xff\x00\x10\xff\xff\x00\x21\xff\xff\x00\x32\xff\xff\x00\x43\x07\xff";
+        b"\x81\xcd\x00\x05\x33\x33\x33\x33\x11\x11\x11\x11\xff\xff\xff\xff\x00\x10\xff\xff\x00\x21\x00\x1f";
     let mut script = Script::new(alloc, &[])?;
-    for number in 0..80 {
+    for number in 0..40 {
         script.comes(&(5, Near, APPLICATION, Packet::Long(number)))?;
     }
     script.comes(&(20, Far, FAR, These(ALL)))?;
@@ -223,26 +223,26 @@ fn moments<const N: usize>(script: &Script, first: usize) -> [u64; N] {
     moments
 }
 
-/// The moments at which the first 55 of the retransmissions leave, and the next six, and how much leaves.
-fn retransmitted(alloc: Global) -> Result<([u64; 55], [u64; 6], usize), Fail> {
-    let mut script = eighty(alloc)?;
+/// The moments at which the first 28 of the retransmissions leave, and the next three, and how much leaves.
+fn retransmitted(alloc: Global) -> Result<([u64; 28], [u64; 3], usize), Fail> {
+    let mut script = forty(alloc)?;
     let pace = Pace::new(Rate::Percent(200));
-    let relay = relay(alloc, 80, pace, ResendRule::ALWAYS)?;
+    let relay = relay(alloc, 40, pace, ResendRule::ALWAYS)?;
     let _ = runs(&mut script, relay, &[])?;
     Ok((
-        moments(&script, 80),
-        moments(&script, 135),
+        moments(&script, 40),
+        moments(&script, 68),
         script.gone.len(),
     ))
 }
 
-/// Twice the media's rate, by a NACK for eighty packets: 55 of their retransmissions leave at once, of 1202 octets each, since 54 have 519,264 bits, no
-/// more than 524,288. Eighty packets of 9600 bits at once, beside two megabits that are taken for granted, are 2,768,000 bits a second: so 22,144 run
-/// out each millisecond, for two more, and then three, and two.
+/// Twice the media's rate, by a NACK for forty packets: 28 of their retransmissions are the burst, of 1202 octets each, and leave at
+/// once. Forty packets of 9600 bits at once, beside two megabits that are taken for granted, are 2,384,000 bits a second: 4768 a
+/// millisecond are the pace. 28 are 269,248 bits, and the burst 262,144, so the next ones wait for 7104, 7184 and 7264 bits to run out.
 #[test]
-fn few_leave_at_once_and_many_fast(rt: HostRuntime) -> Result<(), Fail> {
+fn few_leave_at_once_and_many_at_twice_the_rate(rt: HostRuntime) -> Result<(), Fail> {
     let (at_once, behind, gone) = retransmitted(rt.alloc())?;
-    assert!(rt; at_once == [20; 55] && behind == [21, 21, 22, 22, 22, 23] && gone >= 141);
+    assert!(rt; at_once == [20; 28] && behind == [22, 24, 26] && gone >= 79);
     Ok(())
 }
 

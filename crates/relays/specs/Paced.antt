@@ -1,7 +1,7 @@
 -- A run of a pace: media packets that leave whenever they come, and retransmissions, each at a moment at which the pace is open.
 use Rattle.std.specs.Prelude.{◌≡◌, ℕ, ◌≤◌, true, List, [], ◌∷◌}
 use Rattle.std.specs.List.{sum_by}
-use Rattle.relays.specs.Pacing.{burst_of, is_open, kilobits_of, opens_after, paced_beside}
+use Rattle.relays.specs.Pacing.{is_open, kilobits_of, opens_after, paced_beside}
 use Rattle.relays.specs.declared.pace.Pace.{Pace}
 
 -- a packet that leaves: how many octets it has, and the moment
@@ -27,16 +27,11 @@ pub record IsBetween (start end longest : ℕ) (one : Left) : Type 0 where
   pub until : moment_of one ≤ end
   pub short : octets_in one ≤ longest
 
--- A pace is at no time above so many kilobits a second, and lets no more bits leave at once.
-pub record IsUpTo (most deepest : ℕ) (p : Pace) : Type 0 where
-  pub slow : kilobits_of p ≤ most
-  pub shallow : burst_of p ≤ deepest
-
--- What leaves between two moments, the newest first.
-abbrev pub Leave : (start end longest most deepest : ℕ) → Pace → List Left → Pace → Type 0
-Leave start end longest most deepest old [] new = (new ≡ old) × IsUpTo most deepest old
-Leave start end longest most deepest old (one ∷ before) new =
-    (mid : Pace) × Leave start end longest most deepest old before mid × IsBetween start end longest one × Follows mid one new × IsUpTo most deepest new
+-- What leaves between two moments, the newest first, at a rate that is never above so many kilobits a second.
+abbrev pub Leave : (start end longest most : ℕ) → Pace → List Left → Pace → Type 0
+Leave start end longest most old [] new = (new ≡ old) × (kilobits_of old ≤ most)
+Leave start end longest most old (one ∷ before) new =
+    (mid : Pace) × Leave start end longest most old before mid × IsBetween start end longest one × Follows mid one new × (kilobits_of new ≤ most)
 
 -- the octets of the retransmissions
 abbrev pub octets_of : List Left → ℕ

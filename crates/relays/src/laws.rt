@@ -1,36 +1,28 @@
 //! Laws of a pace, and of the player's numbers. These functions compute nothing: their contracts are the laws.
-ghost use Rattle.std.specs.Prelude.{◌≡◌, ◌+◌, ◌-◌, ◌*◌, ◌/◌, ◌%◌, ◌^◌, ◌<◌, ◌≤◌, ℕ, List, Ok, false, true, max, min, sum};
+ghost use Rattle.std.specs.Prelude.{◌≡◌, ◌+◌, ◌-◌, ◌*◌, ◌%◌, ◌^◌, ◌<◌, ◌≤◌, ℕ, List, Ok, false, true, sum};
 ghost use Rattle.endpoint.specs.declared.heard.Heard.TheVariants.{Restarted};
 ghost use Rattle.endpoint.specs.declared.heard.Restart.{Restart};
 ghost use Rattle.relays.specs.Numbering.{numbered, numbered_after};
 ghost use Rattle.relays.specs.ReceiveRelay.{numbering_after};
 ghost use Rattle.relays.specs.declared.numbering.Numbering.{Numbering};
 ghost use Rattle.relays.specs.declared.pace.Pace.{Pace};
-ghost use Rattle.relays.specs.declared.pace.Rate.TheVariants.{Percent};
-ghost use Rattle.relays.specs.Pacing.{burst_beside, burst_of, is_free, is_open, kilobits_beside, lump_at, owed_at};
+ghost use Rattle.relays.specs.Pacing.{burst_of, is_free, is_open, owed_at};
 ghost use Rattle.relays.specs.Paced.{Leave, Left, after_all, octets_of};
 
 /// A pace is kept.
-#[tactic(auto, using(crate::proofs::Keeping::keeps, crate::proofs::Keeping::keeps_a_second))]
+#[tactic(auto, using(crate::proofs::Keeping::keeps))]
 pub fn pace_is_kept()
-    // Between two moments no more bits are retransmitted than may leave at once, what the rate lets leave in that time, and one packet.
-    ensures any { (start end longest most deepest : ℕ) (old : Pace) (packets : List Left) (new : Pace)
-        → is_free old.rate ≡ false → old.since ≤ end → longest * 8 < 2 ^ 63 → Leave start end longest most deepest old packets new
-        → octets_of packets * 8 ≤ deepest + most * (end - start) + longest * 8 }
-    // By a share of media that never has more than so many bits a second, no more are in a second than that share of them, 32 KiB, and one packet; and
-    // a kilobit, as the slowest pace is one a second.
-    ensures second { (start end longest share bits : ℕ) (old : Pace) (packets : List Left) (new : Pace)
-        → old.rate ≡ Percent share → old.since ≤ end → end ≤ start + 1000 → longest * 8 < 2 ^ 63
-        → Leave start end longest (max (kilobits_beside bits (Percent share)) 1) (burst_beside bits (Percent share)) old packets new
-        → octets_of packets * 8 ≤ share * bits / 100 + 262144 + longest * 8 + 1000 }
+    // Between two moments no more bits are retransmitted than the burst, what the rate lets leave in that time, and one packet.
+    ensures { (start end longest most : ℕ) (old : Pace) (packets : List Left) (new : Pace)
+        → is_free old.rate ≡ false → old.since ≤ end → longest * 8 < 2 ^ 63 → Leave start end longest most old packets new
+        → octets_of packets * 8 ≤ burst_of old.rate + most * (end - start) + longest * 8 }
 {}
 
 /// What few packets lose is retransmitted at once.
 #[tactic(auto, using(crate::proofs::Keeping::stays_open))]
 pub fn bursts_leave_at_once()
-    // Where both buckets are empty the pace stays open at that moment until more than the burst has left, or 64 KiB.
-    ensures { (p : Pace) (now : ℕ) (octets : List ℕ) → owed_at p now ≡ 0 → lump_at p now ≡ 0 → sum octets * 8 ≤ min (burst_of p) 524288
-        → is_open (after_all p now octets) now ≡ true }
+    // Where the bucket is empty the pace stays open at that moment until more than the burst has left.
+    ensures { (p : Pace) (now : ℕ) (octets : List ℕ) → owed_at p now ≡ 0 → sum octets * 8 ≤ burst_of p.rate → is_open (after_all p now octets) now ≡ true }
 {}
 
 /// What a jump passes over is a hole, and other numbers leave none.

@@ -1,4 +1,3 @@
-pub mod Few
 pub mod Held
 pub mod Leads
 pub mod Resends

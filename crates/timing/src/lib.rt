@@ -7,7 +7,6 @@ mod arrivals;
 mod ask_times;
 mod lately;
 mod laws;
-mod losses;
 mod path;
 mod playout;
 mod resend_interval;
@@ -18,10 +17,9 @@ pub use arrivals::Arrivals;
 pub use ask_times::AskTimes;
 pub use lately::Lately;
 pub use laws::{
-    answers_are_waited_for, answers_that_come_twice_are_measured, asks_fit_the_time, few_stay_lost,
+    answers_are_waited_for, answers_that_come_twice_are_measured, asks_fit_the_time,
     losses_were_sent_in_order, packets_leave_as_they_were_sent, the_greatest_is_of_late,
 };
-pub use losses::{Losses, Tally};
 pub use path::Path;
 pub use playout::{Playout, Stamp};
 pub use resend_interval::ResendInterval;

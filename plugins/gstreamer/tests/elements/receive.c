@@ -243,7 +243,7 @@ static void test_in_doubt(void) {
     leaves_twice(&r, 11, 1);
     set_clock_to(&r, 30);
     REPAIR(&r, 50, .sequence = 11);
-    TICKS(&r, 20 + 15);
+    TICKS(&r, 20 + 20);
     leaves_twice(&r, 12, 0);
     set_clock_to(&r, 44);
     REPAIR(&r, 51, .sequence = 12);
@@ -263,10 +263,10 @@ void test_receive(void) {
     test_others();
     test_other_types();
     test_refused();
-    /* an answer takes the least trip of 10 and 5, and NACKs lie no closer: as many as fit before the last answer that is in time, and
-     * evenly */
-    test_retry(1000, (1000 - 15) / 65);
-    test_retry(110, (110 - 15) / 6);
-    test_retry(50, (50 - 15) / 2);
+    /* an answer takes the trip of 10, its variation of 5 and 5, and NACKs lie no closer: as many as fit before the last answer that
+     * is in time, and evenly */
+    test_retry(1000, (1000 - 20) / 49);
+    test_retry(110, (110 - 20) / 4);
+    test_retry(50, 50 - 20);
     test_in_doubt();
 }
