@@ -623,9 +623,9 @@ int32_t gozdrit_play(gozdrit_receiver *receiver, uint64_t now, gozdrit_played *p
  * call it until then, or as often as feedback may be sent (RFC 4585, section 3.5).
  *
  * Where the times of NACKs follow the path each leaves twice, so that the loss of one of both costs no time: the next call
- * writes the same octets once more, also where they name more than `most`, and counts nothing. That ends while `late` and
- * `duplicate` of gozdrit_probe_counts together are more than 2 and an eighth of the retransmissions that were taken, as they
- * are of a sender that answers both copies. gozdrit_set_nack_copies says otherwise.
+ * writes the same octets once more, also where they name more than `most`, and counts nothing. That ends for good where the
+ * sender answers both copies: of the packets whose answers are timed, one at a time, and that were named once, more than
+ * half and eight came a second time. gozdrit_set_nack_copies says otherwise.
  *
  *   75  room is less than the datagram has; GOZDRIT_MAX_NACK_DATAGRAM is enough for any
  */

@@ -94,15 +94,25 @@ static bool is_asked_twice(gozdrit_receiver *r, unsigned turn, bool answers_both
     return length > 0;
 }
 
-/* A sender that answers both copies gets both of three NACKs, and then of one in eight; of each, once it answers one of both, and what came
- * twice before, 23 packets, is one in eight of what was answered, but for two. */
-static void test_answered_twice(void) {
+static gozdrit_receiver begun(void) {
     gozdrit_receiver r = receiver_of(0, GOZDRIT_ADAPTIVE_OFF);
     ANSWERS(GOZDRIT_OK, gozdrit_reset(&r));
     HEARS_MEDIA(&r, 101, 0, MEDIA(65637));
     PLAYS(&r, 0, GOZDRIT_PACKET, 65637, 101);
-    for (unsigned turn = 0; turn < 163; turn++) CHECK(is_asked_twice(&r, turn, true) == (turn < 3 || turn % 8 == 0));
-    for (unsigned turn = 163; turn < 250; turn++) CHECK(is_asked_twice(&r, turn, false) == (turn >= 168));
+    return r;
+}
+
+/* A sender that answers both copies gets both of seventeen NACKs, and of no other one, whatever it answers later. */
+static void test_answers_both(void) {
+    gozdrit_receiver r = begun();
+    for (unsigned turn = 0; turn < 120; turn++) CHECK(is_asked_twice(&r, turn, turn < 60) == (turn < 17));
+    ANSWERS(GOZDRIT_OK, gozdrit_receiver_free(&r));
+}
+
+/* One that answers both of each second NACK, as where copies come apart by jitter, gets each twice. */
+static void test_answers_some_twice(void) {
+    gozdrit_receiver r = begun();
+    for (unsigned turn = 0; turn < 120; turn++) CHECK(is_asked_twice(&r, turn, turn % 2 == 1));
     ANSWERS(GOZDRIT_OK, gozdrit_receiver_free(&r));
 }
 
@@ -137,7 +147,8 @@ void test_copies(void) {
     test_by_default();
     test_set();
     test_late();
-    test_answered_twice();
+    test_answers_both();
+    test_answers_some_twice();
     test_reset();
     test_defaults_follow();
 }

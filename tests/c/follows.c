@@ -53,15 +53,15 @@ static void test_round_trip(void) {
     ANSWERS(GOZDRIT_OK, gozdrit_receiver_free(&r));
 }
 
-/* 104 comes 8 ms after it was noticed to be missing: the first NACK waits for a quarter more from then on, and the rest of
- * the time is less by it. */
+/* 104 comes 8 ms after it was noticed to be missing: the first NACK waits for a quarter more from then on. One packet of six is late, and one was lost:
+ * an answer then takes 40 + 10 + 5, and two fit into 200 - 55 - 10. */
 static void test_reordering(void) {
     gozdrit_receiver r = receiver_of(&CONFIG);
     measures_forty(&r, 0, 100);
     HEARS_MEDIA(&r, 103, 70, MEDIA(65639));
     HEARS_MEDIA(&r, 105, 72, MEDIA(65641));
     HEARS_MEDIA(&r, 104, 80, MEDIA(65640));
-    times(&r, 10, 125, 40, 20);
+    times(&r, 10, 67, 40, 20);
     ANSWERS(GOZDRIT_OK, gozdrit_receiver_free(&r));
 }
 

@@ -22,9 +22,8 @@ use Rattle.timing.specs.declared.path.Path.{Path}
 use Rattle.timing.specs.declared.arrivals.Arrivals.{Arrivals}
 use Rattle.timing.specs.declared.round_trip.Probe.{Probe}
 use Rattle.timing.specs.declared.round_trip.RoundTrip.{RoundTrip}
-use Rattle.timing.specs.Path.{new_path}
-use Rattle.timing.specs.RoundTrip.{doubted, forgotten, heard_again, heard_at, passed_at, probed}
-use Rattle.timing.specs.Lately.{greatest_at, seen_at}
+use Rattle.timing.specs.Path.{found_needless, new_path, path_repaired, path_seen, path_taken}
+use Rattle.timing.specs.RoundTrip.{doubted, forgotten, heard_again, passed_at, probed}
 use Rattle.timing.specs.Arrivals.{came_at, lead_at, none_came, restarted_at}
 use Rattle.timing.specs.Capped.{capped}
 
@@ -45,6 +44,12 @@ abbrev pub IsWaitedFor : Span → (octets : List ℕ) → Option Awaited → Typ
 IsWaitedFor s octets None = (place noticed : ℕ) → IsMissed s octets place noticed → ⊥
 IsWaitedFor s octets (Some a) = IsMissed s octets a.place a.noticed
 
+-- The place near the highest one that the sequence number in these octets stands for, if there is one.
+abbrev pub IsNumbered : (highest : Option ℕ) → (octets : List ℕ) → Option ℕ → Type 0
+IsNumbered None octets place = place ≡ None
+IsNumbered (Some h) octets None = 4 ≤ length octets → (place : ℕ) → place < 2 ^ 48 → IsNear h (big_number 2 (drop 2 octets)) place → ⊥
+IsNumbered (Some h) octets (Some place) = (4 ≤ length octets) × (place < 2 ^ 48) × IsNear h (big_number 2 (drop 2 octets)) place
+
 -- The place near the highest one whose packet the octets repeat, if they are a retransmission.
 abbrev pub IsOriginal : Streams → (highest : Option ℕ) → (octets : List ℕ) → Option ℕ → Type 0
 IsOriginal s None octets place = place ≡ None
@@ -61,32 +66,35 @@ pub record IsStanding (core : Receiving) (octets : List ℕ) (standing : Standin
   pub cursor : standing.cursor ≡ core.span.cursor
   pub least : standing.least ≡ least_silence core.config.patience
   pub awaited : IsWaitedFor core.span octets standing.awaited
+  pub place : IsNumbered (highest_of core.span) octets standing.place
   pub original : IsOriginal core.config.session (highest_of core.span) octets standing.original
 
 -- A media packet that was waited for came late: so far packets come behind later ones. The times of asks follow where that is farther
 -- than it was.
 abbrev pub seen_by : Option Awaited → Path → (place now : ℕ) → Bool × Path
-seen_by None p place now = (false, p)
-seen_by (Some a) p place now =
-    if a.place == place
-    then (nat_lt (greatest_at p.reordering now) (now - a.noticed), record p { reordering = seen_at p.reordering (now - a.noticed) now })
-    else (false, p)
+seen_by None p place now = (false, path_taken p now)
+seen_by (Some a) p place now = if a.place == place then path_seen p (now - a.noticed) now else (false, path_taken p now)
 
 -- A media packet came, and tells of a silence that it may end.
 abbrev pub path_came : Standing → Path → (place now : ℕ) → Path
 path_came s p place now = record p { arrivals = came_at p.arrivals s.highest s.cursor s.least place now }
 
+-- A media packet that was refused at its place may have come behind its retransmission.
+abbrev pub refused_by : (place : Option ℕ) → Path → (now : ℕ) → Bool × Path
+refused_by None p now = (false, p)
+refused_by (Some place) p now = found_needless p place now
+
 -- A retransmission that was refused at its place, as one was taken before, may be a measurement too.
-abbrev pub again_by : (original : Option ℕ) → Path → (now : ℕ) → Bool × Path
-again_by None p now = (false, p)
-again_by (Some place) p now = ((heard_again p.trip place now).0, record p { trip = (heard_again p.trip place now).1 })
+abbrev pub again_by : (original place : Option ℕ) → Path → (now : ℕ) → Bool × Path
+again_by None place p now = refused_by place p now
+again_by (Some original) place p now = ((heard_again p.trip original now).0, record p { trip = (heard_again p.trip original now).1 })
 
 -- A retransmission that was taken may be a measurement of the round-trip time.
 abbrev pub measured_by : Result Heard ReceiveFault → Standing → Path → (now : ℕ) → Bool × Path
-measured_by (Ok (heard.Repair taken)) s p now = ((heard_at p.trip taken.place now).0, record p { trip = (heard_at p.trip taken.place now).1 })
+measured_by (Ok (heard.Repair taken)) s p now = path_repaired p taken.place now
 measured_by (Ok (heard.Media taken)) s p now = seen_by s.awaited (path_came s p taken.place now) taken.place now
 measured_by (Ok (heard.Restarted restart)) s p now = (false, record p { arrivals = restarted_at p.arrivals now })
-measured_by (Err (refused.Put fault)) s p now = again_by s.original p now
+measured_by (Err (refused.Put fault)) s p now = again_by s.original s.place p now
 measured_by answer s p now = (false, p)
 
 -- nothing was measured

@@ -1,7 +1,7 @@
 //! How a path is measured by what a receiving endpoint hears of it, and asks there.
 ghost use Rattle.std.specs.Prelude.{◌≡◌, false, true};
 ghost use Rattle.stores.specs.ByPlace.{slot_at};
-ghost use Rattle.endpoint.specs.Measuring.{again_by, asks_of, left_at, measured_by, meter_asked, meter_heard, meter_passed, meter_restarted, new_meter, seen_by, times_set, trip_after, trip_probed};
+ghost use Rattle.endpoint.specs.Measuring.{again_by, asks_of, left_at, measured_by, meter_asked, meter_heard, meter_passed, meter_restarted, new_meter, refused_by, seen_by, times_set, trip_after, trip_probed};
 ghost use Rattle.timing.specs.Path.{times_over};
 
 use crate::asked_places::asked_at;
@@ -18,7 +18,7 @@ use timing::{Arrivals, Path, RoundTrip};
 const FIRST_END: usize = 14;
 
 /// What a receiving endpoint measured of the path to its far side: how long a retransmission takes, how far packets come behind later
-/// ones, and how they came. By it the times of asks follow the path, so that as many fit into the patience as can be answered in time
+/// ones, how they came, and how many were lost. By it the times of asks follow the path, so that as many fit into the patience as can be answered in time
 /// ([`timing::AskTimes`]), and a place is given up by when its packet was sent.
 ///
 /// It is handed what its endpoint answers: each datagram, with where the receiver stood before it ([`Standing::before`]), each NACK,
@@ -115,6 +115,13 @@ impl PathMeter {
         }
     }
 
+    /// Whether the far side answers both of two copies of a NACK.
+    pub fn answers_both(&self) -> bool
+        ensures { result ≡ self.now.path.trip.both }
+    {
+        self.path.trip.answers_both()
+    }
+
     /// What was measured.
     pub fn path(&self) -> Path
         ensures { result ≡ self.now.path }
@@ -133,7 +140,7 @@ fn measure(
     ensures { (result, path.new) ≡ measured_by answer.now standing.now path.old now }
 {
     match answer {
-        Ok(Heard::Repair(taken)) => path.trip.hear(taken.place, now),
+        Ok(Heard::Repair(taken)) => path.repair(taken.place, now),
         Ok(Heard::Media(taken)) => {
             path.arrivals.come(
                 standing.highest,
@@ -148,17 +155,27 @@ fn measure(
             path.arrivals.restart(now);
             false
         }
-        Err(ReceiveFault::Put(_)) => hear_again(path, standing.original, now),
+        Err(ReceiveFault::Put(_)) => hear_again(path, standing, now),
         _ => false,
     }
 }
 
-/// A retransmission of this place was refused, as its packet came before.
-fn hear_again(path: &mut Path, original: Option<Place>, now: u64) -> bool
-    ensures { (result, path.new) ≡ again_by original path.old now }
+/// A retransmission, or media, was refused at its place, as its packet came before.
+fn hear_again(path: &mut Path, standing: &Standing, now: u64) -> bool
+    ensures { (result, path.new) ≡ again_by standing.now.original standing.now.place path.old now }
 {
-    match original {
-        Some(place) => path.trip.hear_again(place, now),
+    match standing.original {
+        Some(original) => path.trip.hear_again(original, now),
+        None => refuse(path, standing.place, now),
+    }
+}
+
+/// Media was refused at this place, as its packet came before.
+fn refuse(path: &mut Path, place: Option<Place>, now: u64) -> bool
+    ensures { (result, path.new) ≡ refused_by place path.old now }
+{
+    match place {
+        Some(place) => path.refuse(place, now),
         None => false,
     }
 }
@@ -167,16 +184,15 @@ fn hear_again(path: &mut Path, original: Option<Place>, now: u64) -> bool
 fn see(path: &mut Path, awaited: &Option<Awaited>, place: Place, now: u64) -> bool
     ensures { (result, path.new) ≡ seen_by awaited.now path.old place now }
 {
-    let Some(awaited) = awaited else {
-        return false;
-    };
-    if awaited.place != place {
-        return false;
+    match awaited {
+        Some(awaited) if awaited.place == place => {
+            path.see(now.saturating_sub(awaited.noticed), now)
+        }
+        _ => {
+            path.take(now);
+            false
+        }
     }
-    let late = now.saturating_sub(awaited.noticed);
-    let is_more = path.reordering.greatest(now) < late;
-    path.see(late, now);
-    is_more
 }
 
 /// A NACK was made, with this place as the highest: what is measured already is watched, or else its first place is measured.

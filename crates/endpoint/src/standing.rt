@@ -3,7 +3,7 @@ ghost use Rattle.std.specs.Prelude.{◌≡◌, ℕ, false, MatchOption};
 ghost use Rattle.rtpwire.specs.Rtp.{RtpPacket, RtpSpells};
 ghost use Rattle.stores.specs.Span.{highest_of};
 ghost use Rattle.endpoint.specs.Kinds.{IsRepairOf};
-ghost use Rattle.endpoint.specs.Measuring.{IsOriginal, IsStanding, IsWaitedFor, least_silence};
+ghost use Rattle.endpoint.specs.Measuring.{IsNumbered, IsOriginal, IsStanding, IsWaitedFor, least_silence};
 
 use crate::kind::repaired;
 use places::{Place, near};
@@ -32,6 +32,20 @@ fn place_missed<W: Window>(core: &Receiver<W>, octets: &[u8]) -> Option<Awaited>
     match core.window().slot(place) {
         Some(SlotRef::Missing { noticed, .. }) => Some(Awaited { place, noticed }),
         _ => None,
+    }
+}
+
+/// The place near the highest one that the sequence number in these octets stands for.
+fn place_of<W: Window>(core: &Receiver<W>, octets: &[u8]) -> Option<Place>
+    ensures { IsNumbered (highest_of core.now.span) octets.now result }
+{
+    let highest = core.window().highest()?;
+    if octets.len() < 4 {
+        return None;
+    }
+    match near(highest, u16_at(octets, 2)) {
+        Ok(place) => Some(place),
+        Err(_) => None,
     }
 }
 
@@ -75,6 +89,8 @@ pub struct Standing {
     pub least: u64,
     /// The missing place that the datagram has.
     pub awaited: Option<Awaited>,
+    /// The place that the datagram has, missing or not, if it is media.
+    pub place: Option<Place>,
     /// The place of the original that the datagram repeats, if it is a retransmission.
     pub original: Option<Place>,
 }
@@ -96,6 +112,7 @@ impl Standing {
             cursor: core.window().cursor(),
             least: least_silence(core.config().patience()),
             awaited: place_missed(core, octets),
+            place: place_of(core, octets),
             original: original_of(core, octets),
         }
     }

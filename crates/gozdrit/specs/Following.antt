@@ -1,6 +1,6 @@
 -- What a receiver of C's does with a datagram, an ask and a play: what its endpoint does; and its path is measured by that, where the
 -- times of asks follow it.
-use Rattle.std.specs.Prelude.{◌≡◌, ℕ, ◌<◌, ◌≤◌, ◌==◌, ◌||◌, ◌&&◌, ◌+◌, ◌/◌, nat_le, Bool, true, false, List, length, take, Option, Some, None, Result, Ok, Err, OnErr, IsOk, if◌then◌else◌}
+use Rattle.std.specs.Prelude.{◌≡◌, ℕ, ◌<◌, ◌≤◌, ◌==◌, ◌||◌, ◌&&◌, Bool, true, false, not, List, length, take, Option, Some, None, Result, Ok, Err, OnErr, IsOk, if◌then◌else◌}
 use Rattle.arrayvec.specs.ArrayVec.{ArrayVec}
 use Rattle.rtpwire.specs.Buffer.{in_front}
 use Rattle.rtpwire.specs.declared.fault.TooShort.{TooShort}
@@ -119,14 +119,10 @@ pub record AsksAs (before : Receiver) (now most : ℕ) (out : List ℕ) (answer 
     meter = meter_of_ask before.follows (core_of after) out' answer now before.meter;
   }
 
--- how often what was asked for may have come once more than it was wanted: twice, and of eight answers once
-abbrev pub spare_answers : Receiver → ℕ
-spare_answers r = 2 + r.endpoint.endpoint.counts.retransmissions / 8
-
 -- Whether each NACK leaves twice: where two copies of it are wanted, and where nothing is said (0), if the times of asks follow the path, and
 -- the far side does not answer both.
 abbrev pub leaves_twice : Receiver → Bool
-leaves_twice r = (r.copies == 2) || ((r.copies == 0) && r.follows && nat_le (r.endpoint.kinds.late + r.endpoint.kinds.duplicate) (spare_answers r))
+leaves_twice r = (r.copies == 2) || ((r.copies == 0) && r.follows && not r.meter.path.trip.both)
 
 -- what of an ask is to leave once more: its NACK
 abbrev pub again_of : (twice : Bool) → Result (Option ℕ) TooShort → (out : List ℕ) → Option (ArrayVec ℕ)

@@ -5,7 +5,7 @@ ghost use Rattle.endpoint.specs.Measuring.{meter_heard};
 ghost use Rattle.receiver.specs.Receiver.{state_of};
 ghost use Rattle.receiver.specs.Waking.{IsQuiet};
 ghost use Rattle.stores.specs.Asking.{has_come};
-ghost use Rattle.gozdrit.specs.Following.{AsksAgain, AsksAs, AsksNext, HearsAs, HearsOwn, PassesAs, core_of, leaves_twice, patience_of, spare_answers, timed_where};
+ghost use Rattle.gozdrit.specs.Following.{AsksAgain, AsksAs, AsksNext, HearsAs, HearsOwn, PassesAs, core_of, leaves_twice, patience_of, timed_where};
 
 use crate::again::{Again, MAX_NACK, copy_of, write_copy};
 use endpoint::{AskingEndpoint, Heard, PathMeter, Standing};
@@ -22,7 +22,7 @@ pub struct MeteredReceiver {
     pub(crate) meter: PathMeter,
     pub(crate) follows: bool,
     pub(crate) by_sent: bool,
-    /// How often each NACK leaves: once, twice, or twice while the times follow and hardly any answer comes twice (0).
+    /// How often each NACK leaves: once, twice, or twice while the times follow and the far side answers one of both (0).
     pub(crate) copies: u8,
     pub(crate) again: Option<Again>,
 }
@@ -122,16 +122,7 @@ impl MeteredReceiver {
     fn leaves_twice(&self) -> bool
         ensures { result ≡ leaves_twice self.now }
     {
-        self.copies == 2 || (self.copies == 0 && self.follows && self.is_answered_once())
-    }
-
-    /// Whether hardly any answer came twice, as each does where the far side answers both copies of a NACK.
-    fn is_answered_once(&self) -> bool
-        ensures { result ≡ nat_le (self.now.endpoint.kinds.late + self.now.endpoint.kinds.duplicate) (spare_answers self.now) }
-    {
-        let kinds = self.endpoint.kinds();
-        let spare = 2 + self.endpoint.endpoint().counts().retransmissions / 8;
-        kinds.late <= spare && kinds.duplicate <= spare - kinds.late
+        self.copies == 2 || (self.copies == 0 && self.follows && !self.meter.answers_both())
     }
 
     /// From when on there is something to do: at any moment, where a NACK is to leave once more.

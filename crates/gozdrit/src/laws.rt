@@ -85,9 +85,9 @@ pub fn nacks_leave_twice()
         → (answer ≡ Ok (Some len)) × (take len next' ≡ take len out') × (after ≡ record mid { again = None }) }
     ensures once { (r mid : Receiver) (now most : ℕ) (out out' : List ℕ) (answer : Result (Option ℕ) TooShort) → r.again ≡ None → leaves_twice r ≡ false
         → AsksNext r.again r now most out answer out' mid → mid.again ≡ None }
-    // By what is set, or else by whether the times of asks follow the path and hardly any answer came twice.
+    // By what is set, or else by whether the times of asks follow the path and the far side answers one of both.
     ensures set_once { (r : Receiver) → r.copies ≡ 1 → leaves_twice r ≡ false }
     ensures set_twice { (r : Receiver) → r.copies ≡ 2 → leaves_twice r ≡ true }
     ensures unset { (r : Receiver) → r.copies ≡ 0 → (leaves_twice r ≡ true)
-        ↔ ((r.follows ≡ true) × (r.endpoint.kinds.late + r.endpoint.kinds.duplicate ≤ 2 + r.endpoint.endpoint.counts.retransmissions / 8)) }
+        ↔ ((r.follows ≡ true) × (r.meter.path.trip.both ≡ false)) }
 {}

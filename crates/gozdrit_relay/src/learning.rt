@@ -352,6 +352,7 @@ impl<W: Window> Learner<ReceiveRelay<W>> for ReceiveLearner {
             held_by(self.hold),
             bounds_left(self.bounds, passed),
         )?;
+        relay.earn_feedback();
         if let (Some(first), None) = (self.first, before) {
             let _ = relay.begin(first);
         }

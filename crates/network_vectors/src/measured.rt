@@ -263,12 +263,57 @@ fn packets_that_come_late(rt: HostRuntime) -> Result<(), Fail> {
         (80, Media(4)),
         (80, Knows(40, true)),
         (80, Follows(200)),
-        (80, Times(200, 10, 125)),
+        // Of five packets one was lost and one late: three asks go first, and an answer takes 40, 10 and 5.
+        (80, Times(200, 10, 67)),
         // One that comes as late again is nothing new, and one that is on its way twice is none that was waited for.
         (90, Media(7)),
         (98, Media(6)),
         (120, Media(6)),
         (120, Knows(40, false)),
+    ];
+    assert_eq!(rt; wrong_step(rt.alloc(), STEPS)?, None);
+    Ok(())
+}
+
+/// Before a round trip is known, what comes late is waited for.
+#[test]
+fn packets_that_come_late_before_anything_is_lost(rt: HostRuntime) -> Result<(), Fail> {
+    const STEPS: &[(u64, Step)] = &[
+        (0, Media(1)),
+        (5, Media(3)),
+        (15, Media(2)),
+        (15, Knows(0, true)),
+        (15, Follows(200)),
+        (15, Times(200, 13, 40)),
+        // No longer than half of what a place is waited for.
+        (15, Follows(12)),
+        (15, Times(200, 6, 40)),
+    ];
+    assert_eq!(rt; wrong_step(rt.alloc(), STEPS)?, None);
+    Ok(())
+}
+
+/// A packet comes behind its retransmission: it was late, by no less than it is since the ask.
+#[test]
+fn packets_that_were_not_lost(rt: HostRuntime) -> Result<(), Fail> {
+    const STEPS: &[(u64, Step)] = &[
+        (0, Media(1)),
+        (5, Media(3)),
+        (25, Asks),
+        (65, Repair(2)),
+        (65, Follows(200)),
+        // Its retransmission once more is none, nor is a packet that was never asked for.
+        (70, Repair(2)),
+        (75, Media(1)),
+        (75, Knows(40, false)),
+        (85, Media(2)),
+        (85, Knows(40, true)),
+        // 60 and a quarter are more than half of a round trip; an answer takes 65.
+        (85, Follows(200)),
+        (85, Times(200, 20, 115)),
+        // Once more it tells nothing.
+        (99, Media(2)),
+        (99, Knows(40, false)),
     ];
     assert_eq!(rt; wrong_step(rt.alloc(), STEPS)?, None);
     Ok(())

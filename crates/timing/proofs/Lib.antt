@@ -1,3 +1,5 @@
+pub mod Earned
+pub mod Few
 pub mod Held
 pub mod Leads
 pub mod Resends

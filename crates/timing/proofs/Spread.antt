@@ -1,13 +1,9 @@
 -- Asks that are spread over the time that there is.
-use Rattle.std.proofs.Common.{◌≡◌, ◌<◌, ◌≤◌, ◌+◌, ◌-◌, ◌*◌, ◌/◌, ◌==◌, ◌⊎◌, ℕ, zero, suc, min, max, inl, inr, arith, if◌then◌else◌}
-use Rattle.std.proofs.Math.Nat.{mul-div-le, lt-div-mul-add, mul-le-mul_right}
+use Rattle.std.proofs.Common.{◌≡◌, ◌<◌, ◌≤◌, ◌+◌, ◌-◌, ◌*◌, ◌/◌, ◌^◌, ◌==◌, ◌⊎◌, ℕ, zero, suc, min, max, inl, inr, arith, if◌then◌else◌}
+use Rattle.std.proofs.Math.Nat.{mul-div-le, lt-div-mul-add, mul-le-mul_right, mul-le-mul_left}
 use Rattle.std.proofs.lemmas.Bool.{cases_lt}
 use Rattle.std.proofs.lemmas.Nat.{le-div}
-use Rattle.timing.specs.declared.round_trip.Smoothed.{Smoothed}
-use Rattle.timing.specs.AskTimes.{answer_of, ask_times}
-
-some_time : (s : Smoothed) → 0 < answer_of s
-some_time s = omega arith
+use Rattle.timing.specs.AskTimes.{ask_times, delay_of}
 
 self_in : (n : ℕ) → n ≤ n
 self_in n = omega arith
@@ -38,34 +34,86 @@ late_of (suc n) more room spacing patience answer many fits within enough =
     let least : suc (suc n) * (room / suc n) ≤ more * (room / suc n) = mul-le-mul_right (room / suc n) (omega arith) in
     rw (some_more n room spacing patience) (grind (arith))
 
--- how much later than the first ask one may still be made
-abbrev room_of : Smoothed → (patience reordering : ℕ) → ℕ
-room_of s patience reordering = (patience - answer_of s) - min reordering (patience - answer_of s)
+-- so long after the first ask one may still be made
+abbrev room_of : (spacing patience reordering asks : ℕ) → ℕ
+room_of spacing patience reordering asks = patience - spacing - delay_of spacing patience reordering asks
 
-pub apart : (s : Smoothed) (patience reordering : ℕ) → answer_of s ≤ (ask_times s patience reordering).retry
-apart s patience reordering =
-    let room : ℕ = room_of s patience reordering in
-    apart_of (room / answer_of s) room (answer_of s) patience (mul-div-le room (answer_of s))
+-- an answer takes some time
+one : (answer : ℕ) → 0 < answer → max answer 1 ≡ answer
+one answer some = omega arith
+
+pub apart : (answer patience reordering asks : ℕ) → answer ≤ (ask_times answer patience reordering asks).retry
+apart answer patience reordering asks =
+    let spacing : ℕ = max answer 1 in
+    let room : ℕ = room_of spacing patience reordering asks in
+    let wide : spacing ≤ (ask_times answer patience reordering asks).retry = apart_of (room / spacing) room spacing patience (mul-div-le room spacing) in
+    omega (arith, wide)
+
+-- asks that have their answers in time by one that takes a millisecond at least
+before : (answer patience reordering taken : ℕ) → patience < 2 ^ 64 → reordering + taken ≤ patience → min reordering (patience - min taken (2 ^ 64 - 1)) ≡ reordering
+before answer patience reordering taken short fits = omega arith
+
+pub early : (answer patience reordering asks : ℕ) → 0 < answer → patience < 2 ^ 64 → reordering + asks * answer ≤ patience → (ask_times answer patience reordering asks).delay ≡ reordering
+early answer patience reordering asks some short fits = rw (one answer some) (before answer patience reordering (asks * answer) short fits)
+
+behind : (patience reordering taken least : ℕ) → patience < 2 ^ 64 → least ≤ taken → least ≤ patience → min reordering (patience - min taken (2 ^ 64 - 1)) + least ≤ patience
+behind patience reordering taken least short less fits = omega arith
+
+pub no_later : (answer patience reordering asks : ℕ) → patience < 2 ^ 64 → asks * answer ≤ patience → (ask_times answer patience reordering asks).delay + asks * answer ≤ patience
+no_later answer patience reordering asks short fits =
+    behind patience reordering (asks * max answer 1) (asks * answer) short (mul-le-mul_left asks (omega arith)) fits
+
+none_left : (patience reordering taken : ℕ) → patience < 2 ^ 64 → patience ≤ taken → min reordering (patience - min taken (2 ^ 64 - 1)) ≡ 0
+none_left patience reordering taken short all = omega arith
+
+pub at_once : (answer patience reordering asks : ℕ) → patience < 2 ^ 64 → patience ≤ asks * answer → (ask_times answer patience reordering asks).delay ≡ 0
+at_once answer patience reordering asks short all =
+    let more : asks * answer ≤ asks * max answer 1 = mul-le-mul_left asks (omega arith) in
+    none_left patience reordering (asks * max answer 1) short (omega (arith, more))
 
 -- what lies in the room lies in the patience
-in_patience : (patience answer reordering ask : ℕ) → answer ≤ patience → ask ≤ (patience - answer) - min reordering (patience - answer) → min reordering (patience - answer) + ask + answer ≤ patience
-in_patience patience answer reordering ask within in_room = omega arith
+in_patience : (patience spacing delay ask : ℕ) → delay + spacing ≤ patience → ask ≤ patience - spacing - delay → delay + ask + spacing ≤ patience
+in_patience patience spacing delay ask within in_room = omega arith
 
-pub as_many : (s : Smoothed) (patience reordering more : ℕ) → let t = ask_times s patience reordering in t.delay + more * answer_of s + answer_of s ≤ patience → t.delay + more * t.retry + answer_of s ≤ patience
-as_many s patience reordering more fits =
-    let room : ℕ = room_of s patience reordering in
-    let few : more ≤ room / answer_of s = le-div more room (answer_of s) (some_time s) (omega arith) in
-    in_patience patience (answer_of s) reordering (more * (ask_times s patience reordering).retry) (omega arith) (fit_of (room / answer_of s) more room (answer_of s) patience few)
+module _ (spacing patience reordering asks : ℕ) (some : 0 < spacing) where
+  abbrev delay : ℕ
+  delay = delay_of spacing patience reordering asks
 
-late_with : (patience answer reordering more ask : ℕ) → answer ≤ patience → (patience - answer) - min reordering (patience - answer) + answer ≤ ask + more → patience ≤ min reordering (patience - answer) + ask + more
-late_with patience answer reordering more ask within late = omega arith
+  abbrev room : ℕ
+  room = room_of spacing patience reordering asks
 
-late_or_not : (s : Smoothed) (patience reordering more : ℕ) → answer_of s ≤ patience → let t = ask_times s patience reordering in let n = room_of s patience reordering / answer_of s in (n < more) ⊎ (more ≤ n) → (t.delay + more * t.retry + answer_of s ≤ patience) ⊎ (patience ≤ t.delay + more * t.retry + more)
-late_or_not s patience reordering more within (inr few) =
-    inl (in_patience patience (answer_of s) reordering (more * (ask_times s patience reordering).retry) within (fit_of (room_of s patience reordering / answer_of s) more (room_of s patience reordering) (answer_of s) patience few))
-late_or_not s patience reordering more within (inl many) =
-    let room : ℕ = room_of s patience reordering in
-    inr (late_with patience (answer_of s) reordering more (more * (ask_times s patience reordering).retry) within (late_of (room / answer_of s) more room (answer_of s) patience (answer_of s) many (mul-div-le room (answer_of s)) (self_in (answer_of s)) (omega arith)))
+  abbrev retry : ℕ
+  retry = if room / spacing == 0 then max spacing patience else room / (room / spacing)
 
-pub not_late : (s : Smoothed) (patience reordering more : ℕ) → let t = ask_times s patience reordering in answer_of s ≤ patience → (t.delay + more * t.retry + answer_of s ≤ patience) ⊎ (patience ≤ t.delay + more * t.retry + more)
-not_late s patience reordering more within = late_or_not s patience reordering more within (cases_lt (room_of s patience reordering / answer_of s) more)
+  as_many_of : (more : ℕ) → delay + more * spacing + spacing ≤ patience → delay + more * retry + spacing ≤ patience
+  as_many_of more fits =
+      let few : more ≤ room / spacing = le-div more room spacing some (omega arith) in
+      in_patience patience spacing delay (more * retry) (omega arith) (fit_of (room / spacing) more room spacing patience few)
+
+  late_with : (more ask : ℕ) → delay + spacing ≤ patience → room + spacing ≤ ask + more → patience ≤ delay + ask + more
+  late_with more ask within late = omega arith
+
+  late_or_not : (more : ℕ) → delay + spacing ≤ patience → (room / spacing < more) ⊎ (more ≤ room / spacing)
+      → (delay + more * retry + spacing ≤ patience) ⊎ (patience ≤ delay + more * retry + more)
+  late_or_not more within (inr few) = inl (in_patience patience spacing delay (more * retry) within (fit_of (room / spacing) more room spacing patience few))
+  late_or_not more within (inl many) =
+      inr (late_with more (more * retry) within (late_of (room / spacing) more room spacing patience spacing many (mul-div-le room spacing) (self_in spacing) (omega arith)))
+
+pub as_many : (answer patience reordering asks more : ℕ) → 0 < answer → let t = ask_times answer patience reordering asks in
+    t.delay + more * answer + answer ≤ patience → t.delay + more * t.retry + answer ≤ patience
+as_many answer patience reordering asks more some = rw (one answer some) (as_many_of answer patience reordering asks some more)
+
+-- the first of one ask or more has its answer in time, where any has
+first_in_time : (patience reordering taken spacing : ℕ) → patience < 2 ^ 64 → spacing ≤ taken → spacing ≤ patience → min reordering (patience - min taken (2 ^ 64 - 1)) + spacing ≤ patience
+first_in_time patience reordering taken spacing short more fits = omega arith
+
+at_least_one : (spacing asks : ℕ) → 0 < asks → spacing ≤ asks * spacing
+at_least_one spacing zero some = absurd (omega (arith, some))
+at_least_one spacing (suc asks) some = omega arith
+
+pub not_late : (answer patience reordering asks more : ℕ) → 0 < answer → 0 < asks → patience < 2 ^ 64 → let t = ask_times answer patience reordering asks in
+    answer ≤ patience → (t.delay + more * t.retry + answer ≤ patience) ⊎ (patience ≤ t.delay + more * t.retry + more)
+not_late answer patience reordering asks more some asked short =
+    rw (one answer some) (λ fits. late_or_not answer patience reordering asks some more
+    (first_in_time patience reordering (asks * answer) answer short (at_least_one answer asks asked) fits)
+    (cases_lt (room_of answer patience reordering asks / answer) more))

@@ -1,5 +1,5 @@
 -- When missing places are asked for, so that as many asks as can be answered in time are made. All times are in milliseconds.
-use Rattle.std.specs.Prelude.{ℕ, ◌+◌, ◌-◌, ◌/◌, ◌==◌, min, max, if◌then◌else◌}
+use Rattle.std.specs.Prelude.{ℕ, ◌+◌, ◌-◌, ◌*◌, ◌/◌, ◌==◌, min, max, if◌then◌else◌}
 use Rattle.timing.specs.Capped.{capped}
 use Rattle.timing.specs.declared.ask_times.AskTimes.{AskTimes}
 use Rattle.timing.specs.declared.round_trip.Smoothed.{Smoothed}
@@ -9,14 +9,21 @@ use Rattle.timing.specs.declared.round_trip.Smoothed.{Smoothed}
 abbrev pub answer_of : Smoothed → ℕ
 answer_of s = capped (capped (s.time / 8 + s.variation / 4) + 5)
 
+-- the same where no queue is on the way: the least that one took of late, and what packets overtake each other by
+abbrev pub spacing_of : Smoothed → (least reordering : ℕ) → ℕ
+spacing_of s least reordering = min (answer_of s) (capped (capped (least + reordering) + 5))
+
 -- Asks that are `spacing` apart or more, of which the first has so much time that its answer is in time: how far apart they are, so
 -- that as many as fit are spread over that room. Where no second one fits, it comes when the place is given up.
 abbrev pub spread : (room spacing patience : ℕ) → ℕ
 spread room spacing patience = if room / spacing == 0 then max spacing patience else room / (room / spacing)
 
--- The first ask waits as long as packets come behind later ones, but no longer than its answer allows.
-abbrev pub ask_times : Smoothed → (patience reordering : ℕ) → AskTimes
-ask_times s patience reordering =
-    let in_time = patience - answer_of s in
-    let delay = min reordering in_time in
-    record { delay = delay; retry = spread (in_time - delay) (answer_of s) patience }
+-- The first ask waits as long as packets come behind later ones, but no longer than so many asks and their answers allow.
+abbrev pub delay_of : (spacing patience reordering asks : ℕ) → ℕ
+delay_of spacing patience reordering asks = min reordering (patience - capped (asks * spacing))
+
+abbrev pub times_at : (spacing patience delay : ℕ) → AskTimes
+times_at spacing patience delay = record { delay = delay; retry = spread (patience - spacing - delay) spacing patience }
+
+abbrev pub ask_times : (answer patience reordering asks : ℕ) → AskTimes
+ask_times answer patience reordering asks = times_at (max answer 1) patience (delay_of (max answer 1) patience reordering asks)

@@ -5,6 +5,8 @@ pub mod AskTimes
 pub mod Silence
 pub mod Playout
 pub mod Arrivals
+pub mod Losses
 pub mod Path
 pub mod Sightings
 pub mod ResendInterval
+pub mod FeedbackBudget

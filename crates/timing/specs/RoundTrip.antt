@@ -1,7 +1,8 @@
 -- A round-trip time, from an ask to the retransmission that answers it, smoothed as RFC 6298, section 2, has it. All times are in
 -- milliseconds.
-use Rattle.std.specs.Prelude.{ℕ, Bool, true, false, ◌+◌, ◌-◌, ◌*◌, ◌/◌, ◌==◌, ◌&&◌, nat_le, min, Option, Some, None, if◌then◌else◌}
+use Rattle.std.specs.Prelude.{ℕ, Bool, true, false, ◌+◌, ◌-◌, ◌*◌, ◌/◌, ◌==◌, ◌&&◌, ◌||◌, nat_le, nat_lt, min, Option, Some, None, if◌then◌else◌}
 use Rattle.timing.specs.Capped.{capped}
+use Rattle.timing.specs.Lately.{seen_none, seen_at, greatest_at}
 use Rattle.timing.specs.declared.round_trip.Answered.{Answered}
 use Rattle.timing.specs.declared.round_trip.Probe.{Probe}
 use Rattle.timing.specs.declared.round_trip.RoundTrip.{RoundTrip}
@@ -9,7 +10,7 @@ use Rattle.timing.specs.declared.round_trip.Smoothed.{Smoothed}
 
 -- nothing was measured
 abbrev pub measured_none : RoundTrip
-measured_none = record { probe = None; answered = None; smoothed = None; doubts = 0 }
+measured_none = record { probe = None; answered = None; repaired = None; smoothed = None; doubts = 0; idle = seen_none; once = 0; twice = 0; both = false }
 
 -- the first place that is asked for while none is measured is measured
 abbrev pub probe_with : Option Probe → (place now : ℕ) → Option Probe
@@ -53,15 +54,19 @@ abbrev pub passed_over : RoundTrip → (place asked again now : ℕ) → Bool ×
 passed_over t place asked again now =
     (false, record t { probe = None; answered = Some (record { place = place; time = time_since asked now; from = capped (now + (again - asked) / 2) }); doubts = t.doubts + 1 })
 
+-- one without doubt: the least of late may be less
+abbrev pub sure_at : RoundTrip → (r now : ℕ) → RoundTrip
+sure_at t r now = record t { idle = seen_at t.idle (60000 - r) now; once = capped (t.once + 1) }
+
 -- What is taken of a place that is measured is a measurement, and in doubt where the place was asked for again (RFC 6298, section 3). Eight
 -- in doubt are passed over in a row.
 abbrev pub heard_of : (again : Option ℕ) → RoundTrip → (place asked now : ℕ) → Bool × RoundTrip
-heard_of None t place asked now = measured t (time_since asked now)
+heard_of None t place asked now = measured (sure_at t (time_since asked now) now) (time_since asked now)
 heard_of (Some again) t place asked now = if nat_le (t.doubts + 1) 8 then passed_over t place asked again now else measured t (time_since asked now)
 
 abbrev pub heard_with : Option Probe → RoundTrip → (place now : ℕ) → Bool × RoundTrip
 heard_with None t place now = (false, t)
-heard_with (Some p) t place now = if p.place == place then heard_of p.again t place p.asked now else (false, t)
+heard_with (Some p) t place now = if p.place == place then heard_of p.again (record t { repaired = Some p }) place p.asked now else (false, t)
 
 abbrev pub heard_at : RoundTrip → (place now : ℕ) → Bool × RoundTrip
 heard_at t place now = heard_with t.probe t place now
@@ -79,12 +84,39 @@ answered_again (Some a) t place now =
     then (true, record t { answered = None; smoothed = Some (raised_with t.smoothed a.time); doubts = 0 })
     else (false, t)
 
+-- Of those that were asked for once so many were answered once more that both copies of a NACK are answered: more than half and eight.
+abbrev pub are_both : (once twice : ℕ) → Bool
+are_both once twice = nat_lt (once / 2 + 8) twice
+
+-- One more answer of a place that was asked for once is a copy, and counts once.
+abbrev pub is_first : (again : Option ℕ) → Bool
+is_first None = true
+is_first (Some again) = false
+
+abbrev pub copied_of : Option Probe → RoundTrip → (place now : ℕ) → RoundTrip
+copied_of None t place now = t
+copied_of (Some p) t place now =
+    if is_first p.again && p.place == place
+    then record t { repaired = Some (record p { again = Some now }); twice = capped (t.twice + 1); both = t.both || are_both t.once (capped (t.twice + 1)) }
+    else t
+
+abbrev pub copied_at : RoundTrip → (place now : ℕ) → RoundTrip
+copied_at t place now = copied_of t.repaired t place now
+
 abbrev pub heard_again : RoundTrip → (place now : ℕ) → Bool × RoundTrip
-heard_again t place now = answered_again t.answered t place now
+heard_again t place now = answered_again t.answered (copied_at t place now) place now
+
+-- The media packet of the place that was measured last came behind its retransmission, so long after the first ask for it.
+abbrev pub original_of : Option Probe → RoundTrip → (place now : ℕ) → Option ℕ × RoundTrip
+original_of None t place now = (None, t)
+original_of (Some p) t place now = if p.place == place then (Some (now - p.asked), record t { repaired = None }) else (None, t)
+
+abbrev pub heard_original : RoundTrip → (place now : ℕ) → Option ℕ × RoundTrip
+heard_original t place now = original_of t.repaired t place now
 
 -- all places are others
 abbrev pub forgotten : RoundTrip → RoundTrip
-forgotten t = record t { probe = None; answered = None }
+forgotten t = record t { probe = None; answered = None; repaired = None }
 
 -- a place that is played or given up is measured no longer
 abbrev pub probe_without : Option Probe → (place : ℕ) → Option Probe
@@ -98,3 +130,15 @@ passed_at t place = record t { probe = probe_without t.probe place }
 abbrev pub time_of : Option Smoothed → Option ℕ
 time_of None = None
 time_of (Some s) = Some (s.time / 8)
+
+-- the least of late of what was without doubt; a minute where none was
+abbrev pub least_of : RoundTrip → (now : ℕ) → ℕ
+least_of t now = 60000 - greatest_at t.idle now
+
+-- what the smoothed time has beyond twice that waits in a queue
+abbrev pub queued_with : (time : Option ℕ) → (least : ℕ) → ℕ
+queued_with None least = 0
+queued_with (Some time) least = time - 2 * least
+
+abbrev pub queued_in : RoundTrip → (now : ℕ) → ℕ
+queued_in t now = queued_with (time_of t.smoothed) (least_of t now)

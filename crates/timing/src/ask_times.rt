@@ -1,6 +1,6 @@
 //! When missing places are asked for, so that as many asks as can be answered in time are made.
 ghost use Rattle.std.specs.Prelude.{◌≡◌, ◌<◌};
-ghost use Rattle.timing.specs.AskTimes.{ask_times, answer_of};
+ghost use Rattle.timing.specs.AskTimes.{ask_times, answer_of, spacing_of};
 
 use crate::round_trip::Smoothed;
 
@@ -14,18 +14,19 @@ pub struct AskTimes {
 }
 
 impl AskTimes {
-    /// The times of asks for a place that is waited for so long, where packets come up to `reordering` behind later ones.
+    /// The times of asks for a place that is waited for so long, where an answer takes so long, packets come up to `reordering` behind later ones,
+    /// and so many asks go before waiting for those.
     ///
-    /// The first ask comes as soon as reordering allows, where its answer then comes in time. As many more are made as have their
-    /// answers in time and lie no closer than what one takes; they are spread over the time that there is, so that
+    /// The first ask comes as soon as reordering allows, and no later than that so many asks have their answers in time. As many more are made as
+    /// have their answers in time and lie no closer than what one takes; they are spread over the time that there is, so that
     /// an answer on its way is seldom asked for again. Where none has, none is made before the place is given up.
-    pub fn fitting(smoothed: &Smoothed, patience: u64, reordering: u64) -> AskTimes
-        ensures { result ≡ ask_times smoothed.now patience reordering }
+    pub fn fitting(answer: u64, patience: u64, reordering: u64, asks: u64) -> AskTimes
+        ensures value { result ≡ ask_times answer patience reordering asks }
+        ensures some_time { 0 < result.retry }
     {
-        let spacing = smoothed.answer();
-        let in_time = patience.saturating_sub(spacing);
-        let delay = reordering.min(in_time);
-        let room = in_time - delay;
+        let spacing = answer.max(1);
+        let delay = reordering.min(patience.saturating_sub(asks.saturating_mul(spacing)));
+        let room = patience.saturating_sub(spacing).saturating_sub(delay);
         let more = room / spacing;
         AskTimes {
             delay,
@@ -49,5 +50,15 @@ impl Smoothed {
         (self.time / 8)
             .saturating_add(self.variation / 4)
             .saturating_add(5)
+    }
+
+    /// The same where no queue is on the way: no more than the least that it took of late, and what packets overtake each other by. A queue is
+    /// left to the far side, which knows what it sent and when: a NACK more costs little, and what it retransmits in vain it may pass over.
+    pub fn spacing(&self, least: u64, reordering: u64) -> u64
+        ensures value { result ≡ spacing_of self.now least reordering }
+        ensures some_time { 0 < result }
+    {
+        self.answer()
+            .min(least.saturating_add(reordering).saturating_add(5))
     }
 }

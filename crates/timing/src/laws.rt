@@ -1,12 +1,15 @@
 //! Laws on what is measured of a path and on the times of asks. These functions compute nothing: their contracts are the laws.
 ghost use Rattle.std.specs.Prelude.{◌≡◌, ◌<◌, ◌≤◌, ◌+◌, ◌-◌, ◌*◌, ◌/◌, ◌^◌, ◌∷◌, [], ◌⊎◌, ℕ, List, length, min, Option, Some, None, false, true, IsSomeAnd};
-ghost use Rattle.timing.specs.declared.round_trip.Answered.{Answered};
-ghost use Rattle.timing.specs.declared.round_trip.Smoothed.{Smoothed};
+ghost use Rattle.timing.specs.declared.feedback_budget.FeedbackBudget.{FeedbackBudget};
+ghost use Rattle.timing.specs.declared.losses.Tally.{Tally};
+ghost use Rattle.timing.specs.declared.round_trip.RoundTrip.{RoundTrip};
 ghost use Rattle.timing.specs.declared.playout.Playout.{Playout};
 ghost use Rattle.timing.specs.declared.resend_interval.ResendInterval.{ResendInterval};
 ghost use Rattle.timing.specs.declared.silence.Silence.{Silence};
 ghost use Rattle.timing.specs.AskTimes.{ask_times, answer_of};
+ghost use Rattle.timing.specs.FeedbackBudget.{Passed, HadRoom, budget_after, many_came, many_left, nothing_earned, octets_came, octets_left, worth_came};
 ghost use Rattle.timing.specs.Lately.{greatest_at};
+ghost use Rattle.timing.specs.Losses.{asks_for, asks_where, lost_of};
 ghost use Rattle.timing.specs.Playout.{AllOdd, heard_all, heard_at, is_beyond, ms_of, release_at, ticks_of};
 ghost use Rattle.timing.specs.ResendInterval.{answers_heard, heard_after, interval_at, least_at, resent_many, TakeAtLeast};
 ghost use Rattle.timing.specs.RoundTrip.{doubted, heard_again, heard_at as taken_at, probed};
@@ -15,20 +18,24 @@ ghost use Rattle.timing.specs.Sightings.{Sighting, seen_of, IsInOrder, AreWithin
 
 /// Of asks for one place, whose patience is counted from the notice that it is missing: the first is made after the delay, and each of
 /// the others after the retry.
-#[tactic(auto, using(crate::proofs::Spread::apart, crate::proofs::Spread::as_many, crate::proofs::Spread::not_late))]
+#[tactic(auto, using(crate::proofs::Spread::apart, crate::proofs::Spread::early, crate::proofs::Spread::no_later, crate::proofs::Spread::at_once, crate::proofs::Spread::as_many, crate::proofs::Spread::not_late))]
 pub fn asks_fit_the_time()
     // No ask lies closer to the one before than its answer takes, mostly.
-    ensures apart { (s : Smoothed) (patience reordering : ℕ) → answer_of s ≤ (ask_times s patience reordering).retry }
-    // The first is made as soon as reordering allows, if its answer then comes in time, and never later than that.
-    ensures early { (s : Smoothed) (patience reordering : ℕ) → reordering + answer_of s ≤ patience → (ask_times s patience reordering).delay ≡ reordering }
-    ensures no_later { (s : Smoothed) (patience reordering : ℕ) → answer_of s ≤ patience → (ask_times s patience reordering).delay + answer_of s ≤ patience }
+    ensures apart { (answer patience reordering asks : ℕ) → answer ≤ (ask_times answer patience reordering asks).retry }
+    // The first is made as soon as reordering allows, if so many asks then have their answers in time, and never later than that.
+    ensures early { (answer patience reordering asks : ℕ) → 0 < answer → patience < 2 ^ 64 → reordering + asks * answer ≤ patience
+        → (ask_times answer patience reordering asks).delay ≡ reordering }
+    ensures no_later { (answer patience reordering asks : ℕ) → patience < 2 ^ 64 → asks * answer ≤ patience
+        → (ask_times answer patience reordering asks).delay + asks * answer ≤ patience }
+    // Where not so many fit, it is made at once, unless there is nothing to wait for.
+    ensures at_once { (answer patience reordering asks : ℕ) → patience < 2 ^ 64 → patience ≤ asks * answer → (ask_times answer patience reordering asks).delay ≡ 0 }
     // However many more would have their answers in time as close together as may be, so many have them as they are.
-    ensures as_many { (s : Smoothed) (patience reordering more : ℕ) → let t = ask_times s patience reordering in
-        t.delay + more * answer_of s + answer_of s ≤ patience → t.delay + more * t.retry + answer_of s ≤ patience }
+    ensures as_many { (answer patience reordering asks more : ℕ) → 0 < answer → let t = ask_times answer patience reordering asks in
+        t.delay + more * answer + answer ≤ patience → t.delay + more * t.retry + answer ≤ patience }
     // An ask whose answer would come too late is not made while the place is waited for; rounding may take as many milliseconds as there
     // were asks before.
-    ensures not_late { (s : Smoothed) (patience reordering more : ℕ) → let t = ask_times s patience reordering in
-        answer_of s ≤ patience → (t.delay + more * t.retry + answer_of s ≤ patience) ⊎ (patience ≤ t.delay + more * t.retry + more) }
+    ensures not_late { (answer patience reordering asks more : ℕ) → 0 < answer → 0 < asks → patience < 2 ^ 64 → let t = ask_times answer patience reordering asks in
+        answer ≤ patience → (t.delay + more * t.retry + answer ≤ patience) ⊎ (patience ≤ t.delay + more * t.retry + more) }
 {}
 
 /// Of a round trip that is longer than the time between asks, as where a queue fills on the way.
@@ -36,12 +43,39 @@ pub fn asks_fit_the_time()
 pub fn answers_that_come_twice_are_measured()
     // Where a place was asked for twice, and both asks were answered, half of what lay between them apart or more: the first answer says
     // nothing, and the second one that an answer takes no less, mostly, than the first one took from the first ask on.
-    ensures { (answered : Option Answered) (smoothed : Option Smoothed) (doubts place asked again came twice : ℕ)
-        → doubts < 8 → asked ≤ came → came ≤ asked + 60000 → came + (again - asked) / 2 ≤ twice → twice < 2 ^ 64
-        → let waited = doubted (probed (record { probe = None; answered = answered; smoothed = smoothed; doubts = doubts }) place asked) again in
+    ensures { (trip : RoundTrip) (place asked again came twice : ℕ)
+        → trip.probe ≡ None → trip.doubts < 8 → asked ≤ came → came ≤ asked + 60000 → came + (again - asked) / 2 ≤ twice → twice < 2 ^ 64
+        → let waited = doubted (probed trip place asked) again in
         let first = taken_at waited place came in
         let second = heard_again first.1 place twice in
         (first.0 ≡ false) × (second.0 ≡ true) × IsSomeAnd second.1.smoothed (λ s. came ≤ asked + answer_of s) }
+{}
+
+/// Of how many asks go before waiting for what may be late, by what of so many packets was lost.
+#[tactic(auto, using(crate::proofs::Few::stay_lost, crate::proofs::Few::no_more, crate::proofs::Few::all_needless, crate::proofs::Few::all_needed))]
+pub fn few_stay_lost()
+    // Where each ask, or its answer, is lost as often as a packet is, no more than one in 512 stays lost behind so many asks, if they are no more than
+    // two; three are made where more is lost.
+    ensures few { (lost taken : ℕ) → taken + 1 < 2 ^ 64 → asks_where lost taken < 3 → lost ^ (asks_where lost taken + 1) * 512 ≤ taken ^ (asks_where lost taken + 1) }
+    ensures three { (lost taken : ℕ) → asks_where lost taken ≤ 3 }
+    // None goes first where nothing is lost, though much comes late; and none is told where hardly anything does.
+    ensures none { (t : Tally) → t.repaired ≡ 0 → t.taken < t.late * 16 → t.late * 16 < 2 ^ 64 → asks_for t ≡ Some 0 }
+    ensures usual { (t : Tally) → t.late * 16 ≤ t.taken → asks_for t ≡ None }
+    // What came behind its retransmission was not lost.
+    ensures needless { (t : Tally) → 0 < t.measured → t.measured ≤ t.needless → lost_of t ≡ 0 }
+    ensures needed { (t : Tally) → t.needless ≡ 0 → t.repaired * t.measured < 2 ^ 64 → lost_of t ≡ t.repaired }
+{}
+
+/// Of what leaves as feedback for an address, each datagram where there is room for it.
+#[tactic(auto, using(crate::proofs::Earned::in_all, crate::proofs::Earned::many, crate::proofs::Earned::in_a_span, crate::proofs::Earned::saved_up))]
+pub fn feedback_is_earned()
+    // In all no more octets leave for it than came from there,
+    ensures octets { (passed : List Passed) → HadRoom nothing_earned passed → octets_left passed ≤ octets_came passed }
+    // and no more datagrams.
+    ensures datagrams { (passed : List Passed) → HadRoom nothing_earned passed → many_left passed ≤ many_came passed }
+    // In any span of that no more than what came in it earned, and the longest NACK has.
+    ensures span { (b : FeedbackBudget) (passed : List Passed) → b.octets ≤ 268 → HadRoom b passed → octets_left passed ≤ worth_came passed + 268 }
+    ensures saved { (passed : List Passed) → (budget_after nothing_earned passed).octets ≤ 268 }
 {}
 
 /// Of the greatest of what was seen, at moments that don't fall.

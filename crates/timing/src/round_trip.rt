@@ -1,8 +1,10 @@
 //! How long a retransmission takes, and what follows from it.
 ghost use Rattle.std.specs.Prelude.{◌≡◌};
 ghost use Rattle.std.specs.Option.{option_map};
-ghost use Rattle.timing.specs.RoundTrip.{smoothed_with, raised_with, probed, doubted, heard_at, heard_again, passed_at, forgotten, measured_none, time_of};
+ghost use Rattle.timing.specs.Lately.{seen_at};
+ghost use Rattle.timing.specs.RoundTrip.{smoothed_with, raised_with, probed, doubted, heard_at, heard_again, heard_original, copied_at, passed_at, forgotten, measured_none, time_of, least_of, queued_in, sure_at};
 
+use crate::lately::Lately;
 use places::Place;
 
 /// The longest time that is measured, in milliseconds: a minute.
@@ -10,6 +12,11 @@ const LONGEST: u64 = 60000;
 
 /// So many measurements in doubt are passed over in a row. The next one counts.
 const DOUBTS: u64 = 8;
+
+/// So many answers may come once more beside each second one. (A far side that answers one of two copies answers the other one, too, where a network
+/// lays them far apart: 45 of 100 with 40 milliseconds of jitter, which are more than half and two of the first some for every second such path,
+/// and more than half and eight for one in 25.)
+const SPARE: u64 = 8;
 
 /// A time and its variation, as they are smoothed.
 #[derive(Clone, Copy, Debug, PartialEq, Eq)]
@@ -47,17 +54,28 @@ pub struct Answered {
 ///
 /// **An answer that comes twice** ends the doubt: both asks were answered, so what came first answered the first one, and the second ask
 /// was made before its answer could have come (as RFC 3708 and RFC 8985, section 6.2, have it of a retransmission that was spurious). That
-/// is how a queue is seen that fills on the way. It counts at once, as a first measurement does, where it is longer than what was known. Times
-/// are in milliseconds.
+/// is how a queue is seen that fills on the way. It counts at once, as a first measurement does, where it is longer than what was known.
+///
+/// The least of late of what was without doubt is what an answer takes where no queue is on its way. What the smoothed time has beyond twice that
+/// is a queue: jitter seldom has so much. Times are in milliseconds.
 #[derive(Clone, Copy, Debug, PartialEq, Eq)]
 pub struct RoundTrip {
     probe: Option<Probe>,
     /// What came last while it was in doubt.
     answered: Option<Answered>,
+    /// The place whose retransmission came last of those that were measured. It is asked for again, here, once a second one comes.
+    repaired: Option<Probe>,
     /// None before the first measurement.
     smoothed: Option<Smoothed>,
     /// How many measurements in doubt were passed over since one counted.
     doubts: u64,
+    /// By how much the least of late of those without doubt is below a minute.
+    idle: Lately,
+    /// How many were without doubt; and how many of their retransmissions came once more.
+    once: u64,
+    twice: u64,
+    /// Whether these were more than half of those and eight, at any time.
+    both: bool,
 }
 
 impl RoundTrip {
@@ -68,8 +86,13 @@ impl RoundTrip {
         RoundTrip {
             probe: None,
             answered: None,
+            repaired: None,
             smoothed: None,
             doubts: 0,
+            idle: Lately::new(),
+            once: 0,
+            twice: 0,
+            both: false,
         }
     }
 
@@ -121,21 +144,33 @@ impl RoundTrip {
             return false;
         }
         self.probe = None;
+        self.repaired = Some(probe);
         let time = now.saturating_sub(probe.asked).min(LONGEST);
-        if let Some(again) = probe.again {
-            if self.doubts < DOUBTS {
-                self.doubts += 1;
-                self.answered = Some(Answered {
-                    place,
-                    time,
-                    from: now.saturating_add(again.saturating_sub(probe.asked) / 2),
-                });
-                return false;
+        match probe.again {
+            Some(again) => {
+                if self.doubts < DOUBTS {
+                    self.doubts += 1;
+                    self.answered = Some(Answered {
+                        place,
+                        time,
+                        from: now.saturating_add(again.saturating_sub(probe.asked) / 2),
+                    });
+                    return false;
+                }
             }
+            None => self.be_sure(time, now),
         }
         self.smoothed = Some(smoothed_with(self.smoothed, time));
         self.doubts = 0;
         true
+    }
+
+    /// A measurement was without doubt.
+    fn be_sure(&mut self, time: u64, now: u64)
+        ensures { self.new ≡ sure_at self.old time now }
+    {
+        self.idle.see(LONGEST.saturating_sub(time), now);
+        self.once = self.once.saturating_add(1);
     }
 
     /// One more retransmission of a place came at the moment `now`, and was refused. It answers whether that was a measurement: whether the
@@ -143,6 +178,7 @@ impl RoundTrip {
     pub fn hear_again(&mut self, place: Place, now: u64) -> bool
         ensures { (result, self.new) ≡ heard_again self.old place now }
     {
+        self.count_copy(place, now);
         let Some(answered) = self.answered else {
             return false;
         };
@@ -155,6 +191,37 @@ impl RoundTrip {
         true
     }
 
+    /// Counts a retransmission that came once more, of a place that was asked for once: as where two copies of a NACK are answered.
+    fn count_copy(&mut self, place: Place, now: u64)
+        ensures { self.new ≡ copied_at self.old place now }
+    {
+        if let Some(repaired) = self.repaired {
+            if repaired.again.is_none() && repaired.place == place {
+                self.twice = self.twice.saturating_add(1);
+                self.both = self.both || self.once / 2 + SPARE < self.twice;
+                self.repaired = Some(Probe {
+                    again: Some(now),
+                    ..repaired
+                });
+            }
+        }
+    }
+
+    /// The media packet of a place came at the moment `now`, and was refused, as a retransmission was taken before. It answers how long after the
+    /// first ask that was, if this is the place that was measured last: it was not lost, but late.
+    pub fn hear_original(&mut self, place: Place, now: u64) -> Option<u64>
+        ensures { (result, self.new) ≡ heard_original self.old place now }
+    {
+        let Some(repaired) = self.repaired else {
+            return None;
+        };
+        if repaired.place != place {
+            return None;
+        }
+        self.repaired = None;
+        Some(now.saturating_sub(repaired.asked))
+    }
+
     /// All places are others: none is waited for any more.
     pub fn forget(&mut self)
         ensures { self.new ≡ forgotten self.old }
@@ -162,6 +229,10 @@ impl RoundTrip {
         *self = RoundTrip {
             smoothed: self.smoothed,
             doubts: self.doubts,
+            idle: self.idle,
+            once: self.once,
+            twice: self.twice,
+            both: self.both,
             ..RoundTrip::new()
         };
     }
@@ -183,6 +254,31 @@ impl RoundTrip {
     {
         let smoothed = self.smoothed?;
         Some(smoothed.time / 8)
+    }
+
+    /// The least of late of what was without doubt; a minute where none was.
+    pub fn least(&self, now: u64) -> u64
+        ensures { result ≡ least_of self.now now }
+    {
+        LONGEST.saturating_sub(self.idle.greatest(now))
+    }
+
+    /// How long an answer waits in a queue, as the smoothed time shows it.
+    pub fn queued(&self, now: u64) -> u64
+        ensures { result ≡ queued_in self.now now }
+    {
+        match self.time() {
+            Some(time) => time.saturating_sub(2 * self.least(now)),
+            None => 0,
+        }
+    }
+
+    /// Whether the far side answers both of two copies of a NACK: of the places that were measured, and asked for once, more than half and eight
+    /// were answered once more at some time.
+    pub fn answers_both(&self) -> bool
+        ensures { result ≡ self.now.both }
+    {
+        self.both
     }
 
     /// What is smoothed, where it was measured.

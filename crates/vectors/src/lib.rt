@@ -7,6 +7,8 @@ mod clocks;
 #[cfg(test)]
 mod contents;
 #[cfg(test)]
+mod earned;
+#[cfg(test)]
 mod feedback;
 #[cfg(test)]
 mod framing;

@@ -105,7 +105,12 @@ fn times(round_trip: u64, reordering: u64) -> (u64, u64) {
         time: round_trip.saturating_mul(8),
         variation: 4,
     };
-    let times = AskTimes::fitting(&smoothed, 200, reordering);
+    fitting(smoothed.answer(), reordering, 1)
+}
+
+/// The times where an answer takes so long, and so many asks go before what may be late, for a patience of 200.
+fn fitting(answer: u64, reordering: u64, asks: u64) -> (u64, u64) {
+    let times = AskTimes::fitting(answer, 200, reordering, asks);
     (times.delay, times.retry)
 }
 
@@ -146,28 +151,262 @@ fn reordering_is_forgotten(_rt: HostRuntime) -> Result<(), Fail> {
 }
 
 #[test]
+fn so_many_asks_go_first(_rt: HostRuntime) -> Result<(), Fail> {
+    // An answer takes 56: two have theirs in time from 88 on, three from 32 on, and four do not fit, so the first is made at once.
+    let rows = [
+        (56, 100, 1, (100, 200)),
+        (56, 100, 2, (88, 56)),
+        (56, 100, 3, (32, 56)),
+        (56, 20, 3, (20, 62)),
+        (56, 100, 4, (0, 72)),
+        // None goes first: what is late is waited for, and nothing is asked for again.
+        (56, 190, 0, (190, 200)),
+        (56, 210, 0, (200, 200)),
+        // What takes no time takes a millisecond.
+        (0, 0, 1, (0, 1)),
+    ];
+    for (answer, reordering, asks, wanted) in rows {
+        if fitting(answer, reordering, asks) != wanted {
+            return Err(Fail::from("the asks that go first"));
+        }
+    }
+    Ok(())
+}
+
+/// Media is taken so often, and none of it was missing.
+fn take(path: &mut Path, count: u64) {
+    for _ in 0..count {
+        path.take(100);
+    }
+}
+
+/// The times that a path has at this moment, for this patience; nothing, where it has none.
+fn over(path: &Path, patience: u64, now: u64) -> (u64, u64) {
+    match path.times(patience, now) {
+        Some(times) => (times.delay, times.retry),
+        None => (0, 0),
+    }
+}
+
+#[test]
 fn reordering_is_waited_for_up_to_half_a_round_trip(_rt: HostRuntime) -> Result<(), Fail> {
     let mut path = Path::new();
-    path.see(10, 30);
-    let unknown = path.times(200, 30).is_none();
+    let nothing = path.times(200, 30).is_none();
+    let more = path.see(10, 30);
+    // Ten and a quarter more are waited for, before a round trip is known, and asks lie 40 apart.
+    let unknown = over(&path, 200, 30) == (13, 40) && over(&path, 20, 30) == (10, 40);
+    take(&mut path, 15);
     let place = Place::first(7);
     path.trip.ask(place, 20);
-    // 40, with a variation of 20: an answer takes 65. Ten and a quarter more are waited for.
+    // 40, with a variation of 20: an answer takes 65. One in sixteen came late.
     let measured = path.trip.hear(place, 60);
-    let wanted = AskTimes {
-        delay: 13,
-        retry: 122,
-    };
-    let as_seen = path.times(200, 60) == Some(wanted);
-    path.see(35, 70);
-    let wanted = AskTimes {
-        delay: 20,
-        retry: 115,
-    };
-    let half = path.times(200, 70) == Some(wanted);
-    if unknown && measured && as_seen && half {
+    let as_seen = over(&path, 200, 60) == (13, 122);
+    let most = path.see(35, 70) && !path.see(35, 70);
+    take(&mut path, 30);
+    // 44 would be waited for. Three of 48 came late.
+    let half = over(&path, 200, 70) == (20, 115);
+    if nothing && more && unknown && measured && as_seen && most && half {
         Ok(())
     } else {
         Err(Fail::from("the times over a path"))
+    }
+}
+
+/// A path whose round trip takes 40, with a variation of 20; of a thousand packets so many came late, by so much, and so many were lost.
+fn lossy(late: u64, behind: u64, lost: u64) -> Path {
+    let mut path = Path::new();
+    let place = Place::first(7);
+    path.trip.ask(place, 20);
+    let _ = path.trip.hear(place, 60);
+    for _ in 0..late {
+        let _ = path.see(behind, 100);
+    }
+    for _ in 0..lost {
+        let _ = path.repair(Place::first(9), 100);
+    }
+    take(
+        &mut path,
+        1000_u64.saturating_sub(late).saturating_sub(lost),
+    );
+    path
+}
+
+#[test]
+fn losses_say_how_many_asks_go_first(_rt: HostRuntime) -> Result<(), Fail> {
+    // 125 would be waited for, of which half of a round trip is 20, and an answer takes 65; for patiences of 140 and of 200.
+    let rows = [
+        // No more than one in sixteen came late: half of a round trip is waited for.
+        (62, 0, (20, 140), (20, 115)),
+        (62, 500, (20, 140), (20, 115)),
+        // More did, and one in a thousand was lost: what is late is waited for, where an ask still has its answer in time.
+        (63, 0, (20, 140), (125, 200)),
+        (63, 1, (20, 140), (125, 200)),
+        // One in 500, up to one in 32: one ask goes first.
+        (63, 2, (20, 140), (20, 115)),
+        (500, 31, (20, 140), (20, 115)),
+        // Up to one in eight, two.
+        (500, 32, (10, 65), (20, 115)),
+        (500, 125, (10, 65), (20, 115)),
+        // And more, three, where they fit.
+        (500, 126, (10, 65), (5, 65)),
+        (500, 500, (10, 65), (5, 65)),
+    ];
+    for (late, lost, short, long) in rows {
+        let path = lossy(late, 100, lost);
+        if over(&path, 140, 100) != short || over(&path, 200, 100) != long {
+            return Err(Fail::from("the asks by what is lost"));
+        }
+    }
+    Ok(())
+}
+
+#[test]
+fn what_is_late_is_waited_for(_rt: HostRuntime) -> Result<(), Fail> {
+    // 135 and an answer of 65 are 200; 137 are too many.
+    let fits = over(&lossy(63, 108, 0), 200, 100) == (135, 200);
+    let is_too_long = over(&lossy(63, 109, 0), 200, 100) == (20, 115);
+    if fits && is_too_long {
+        Ok(())
+    } else {
+        Err(Fail::from("what is waited for"))
+    }
+}
+
+#[test]
+fn losses_are_forgotten(_rt: HostRuntime) -> Result<(), Fail> {
+    // Counted from 0 on: for ten seconds. What comes late is waited for by what it was for longer.
+    let path = lossy(500, 100, 126);
+    let known = over(&path, 200, 4999) == (5, 65) && over(&path, 200, 9999) == (5, 65);
+    let forgotten = over(&path, 200, 10000) == (20, 115);
+    // What is counted at 5000 begins a span.
+    let mut later = lossy(500, 100, 126);
+    later.take(5000);
+    let goes_on = over(&later, 200, 9999) == (5, 65) && over(&later, 200, 10000) == (20, 115);
+    if known && forgotten && goes_on {
+        Ok(())
+    } else {
+        Err(Fail::from("what was counted"))
+    }
+}
+
+/// A place is asked for, and repaired; and then it comes itself, where it was only late. It answers whether that is later than was known.
+fn repair(path: &mut Path, seq: u16, is_late: bool) -> bool {
+    let place = Place::first(seq);
+    path.trip.ask(place, 50);
+    let _ = path.repair(place, 90);
+    is_late && path.refuse(place, 100)
+}
+
+#[test]
+fn what_is_late_is_not_lost(_rt: HostRuntime) -> Result<(), Fail> {
+    let mut path = lossy(400, 100, 96);
+    let lost = over(&path, 140, 100) == (10, 65);
+    // Three of four that are measured were late alone, by no more than others: of a hundred retransmissions 25 were needed.
+    let known = repair(&mut path, 10, true)
+        || repair(&mut path, 11, true)
+        || repair(&mut path, 12, true);
+    let one_needed = repair(&mut path, 13, false);
+    // An answer takes 40, 6 and five by now: two would have theirs in time from 13 on.
+    let few = over(&path, 115, 100) == (20, 115);
+    // One comes twice, another one was not measured last, and one is later than was known: by what is waited for.
+    let again = path.refuse(Place::first(12), 300) || path.refuse(Place::first(9), 300);
+    let much = path.refuse(Place::first(13), 350) && path.reordering.greatest(350) == 300;
+    if lost && !known && !one_needed && few && !again && much {
+        Ok(())
+    } else {
+        Err(Fail::from("what was late"))
+    }
+}
+
+#[test]
+fn queues_are_told_from_the_way(_rt: HostRuntime) -> Result<(), Fail> {
+    let mut path = Path::new();
+    for (seq, asked, came) in [(1, 0, 40), (2, 1000, 1600)] {
+        path.trip.ask(Place::first(seq), asked);
+        let _ = path.trip.hear(Place::first(seq), came);
+    }
+    // 110 on the mean, with a variation of 155, and 40 at least. An answer takes 270.
+    let told = path.trip.time() == Some(110) && path.trip.least(1600) == 40;
+    let whole = over(&path, 200, 1600) == (0, 270);
+    // Where packets come late, 30 of the patience lie in a queue, and asks lie 45 apart.
+    let _ = path.see(0, 1600);
+    let queued = path.trip.queued(1600) == 30 && over(&path, 200, 1600) == (0, 62);
+    // The least is forgotten like what is the greatest. What is in doubt is none.
+    let forgotten = path.trip.least(40000) == 60000 && path.trip.queued(40000) == 0;
+    path.trip.ask(Place::first(3), 40000);
+    path.trip.doubt(40010);
+    let doubtful = path.trip.hear(Place::first(3), 40020) || path.trip.least(40020) != 60000;
+    if told && whole && queued && forgotten && !doubtful {
+        Ok(())
+    } else {
+        Err(Fail::from("the queue"))
+    }
+}
+
+/// A place is asked for, once or twice, and so often answered.
+fn answer_often(trip: &mut RoundTrip, is_again: bool, answers: u32) {
+    let place = Place::first(7);
+    trip.ask(place, 0);
+    if is_again {
+        trip.doubt(50);
+    }
+    let _ = trip.hear(place, 60);
+    for _ in 1..answers {
+        let _ = trip.hear_again(Place::first(8), 60) || trip.hear_again(place, 60);
+    }
+}
+
+/// So many places are answered once, and then so many twice, each asked for once; and whether both copies are answered then.
+fn both_of(single: u32, double: u32) -> (RoundTrip, bool) {
+    let mut trip = RoundTrip::new();
+    for _ in 0..single {
+        answer_often(&mut trip, false, 1);
+    }
+    for _ in 0..double {
+        answer_often(&mut trip, false, 2);
+    }
+    (trip, trip.answers_both())
+}
+
+#[test]
+fn both_copies_are_answered(_rt: HostRuntime) -> Result<(), Fail> {
+    let rows = [
+        // Half of all, and eight
+        (0, 0, false),
+        (0, 16, false),
+        (0, 17, true),
+        (1, 17, false),
+        (1, 18, true),
+        (100, 116, false),
+        (100, 117, true),
+    ];
+    for (single, double, wanted) in rows {
+        if both_of(single, double).1 != wanted {
+            return Err(Fail::from("the copies"));
+        }
+    }
+    Ok(())
+}
+
+#[test]
+fn other_answers_are_no_copies(_rt: HostRuntime) -> Result<(), Fail> {
+    let mut trip = RoundTrip::new();
+    for _ in 0..16 {
+        // What comes a third time counts no more, nor does what was asked for twice.
+        answer_often(&mut trip, false, 9);
+        answer_often(&mut trip, true, 2);
+    }
+    let none = !trip.answers_both();
+    // It stays so, whatever comes then.
+    let (mut both, is_both) = both_of(0, 17);
+    for _ in 0..50 {
+        answer_often(&mut both, false, 1);
+    }
+    both.forget();
+    answer_often(&mut both, false, 2);
+    if none && is_both && both.answers_both() {
+        Ok(())
+    } else {
+        Err(Fail::from("other answers"))
     }
 }
