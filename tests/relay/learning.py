@@ -133,7 +133,8 @@ def first(checks, stage):
 def burst(checks, stage):
     """Of 299 missing places the first 256 are asked for in one datagram, and the others in the next one."""
     player = End(stage)
-    far, receiver = plays(stage, player, [(96, 65400, SSRC), (96, 65400 + 300 & 65535, SSRC)], "--latency", 20000)
+    sent = [65391 + i for i in range(10)] + [65400 + 300 & 65535]  # so many that two NACKs of 76 octets and two of 24 are earned
+    far, receiver = plays(stage, player, [(96, number, SSRC) for number in sent], "--latency", 20000)
     checks.count(far.waits_for(4), f"a burst: {len(far.came)} NACKs came")
     missing = [65400 + i & 65535 for i in range(1, 300)]
     asked = [nacked(one) for one in far.octets()[:4]]  # each NACK leaves twice

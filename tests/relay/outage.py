@@ -12,7 +12,8 @@ from net import App, End, Path, settled, udp
 from restarts import PAUSE, goes_on
 from rtp import index, nack, original, packet, parse, plain
 
-MANY, RATE = 3000, 2000
+MANY, RATE = 6000, 2000
+SHORT = 3000  # a stream that ends right behind the outage
 OUT = range(500, 2700)  # what is lost when it is sent first: less than the 3000 that any window takes for a gap
 MEDIA = 0x1a2b3c4d
 WINDOW = re.compile(r"the window of (\d+) packets is too short for (\d+) packets a second and a latency of (\d+) ms"
@@ -25,22 +26,22 @@ def told(relay, form):
     return [found.groups() for found in map(form.fullmatch, relay.errors().splitlines()) if found]
 
 
-def through(stage, player, *words):
-    """A stream through a path that is out for most of it. Both relays have the sizes that they have by default, but for what the words
+def through(stage, player, *words, many=MANY):
+    """A stream through a path that is out for much of it. Both relays have the sizes that they have by default, but for what the words
     say of the receiving one's. The sending one goes on, since with a bound it would not wait for what is still to be retransmitted."""
-    receiver = stage.receive(player.at, "--packets", MANY, *words)
+    receiver = stage.receive(player.at, "--packets", many, *words)
     path = Path(stage, receiver.at,
                 lambda way, octets: () if way == "forth" and parse(octets).ssrc == MEDIA and parse(octets).number in OUT else (0,))
     sender = stage.send(path.at)
     app = App(stage, sender.at, number=0, heed=(path.at[1], receiver.at[1], player.at[1]))
-    app.stream(plain(MANY), RATE)
+    app.stream(plain(many), RATE)
     return app, path, sender, receiver
 
 
 @on_time(0.05)
 def bridged(checks, stage):
-    """More packets in a row are lost than a window of 2048 holds, and all of them are played. On a machine that is too busy to pass
-    them on, some are asked for in vain as often as they may be."""
+    """More packets in a row are lost than a window of 2048 holds, the stream goes on, and all of them are played. On a machine that is too busy to
+    pass them on, some are asked for in vain as often as they may be."""
     name, player = "an outage", End(stage)
     app, path, sender, receiver = through(stage, player, "--latency", 20000)
     ends(checks, name, receiver)
@@ -54,6 +55,20 @@ def bridged(checks, stage):
     checks.same(told(sender, HISTORY), [], f"{name}: a history that is too short")
     ledger.whole(checks, name, sender)
     ledger.whole(checks, name, receiver)
+    ledger.sums(checks, name, receiver)
+
+
+@on_time(0.05)
+def ended(checks, stage):
+    """The same stream ends 150 milliseconds behind it. What the last second of it earned is retransmitted, as far as feedback asks for it before that
+    has run out, on a machine that wakes in time nine of ten that were lost; the rest is given up, and counted."""
+    name, player = "a stream that ends behind an outage", End(stage)
+    _, _, sender, receiver = through(stage, player, "--latency", 3000, many=SHORT)
+    ends(checks, name, receiver)
+    counts = {one: receiver.counts().get(one) for one in ("played", "gaps", "overrun", "abandoned", "restarts")}
+    checks.count(len(player.came) >= 1600, f"{name}: {len(player.came)} of {SHORT} came")
+    checks.same(counts, {"played": len(player.came), "gaps": SHORT - len(player.came), "overrun": 0, "abandoned": 0, "restarts": 0}, f"{name}: counts")
+    ledger.whole(checks, name, sender)
     ledger.sums(checks, name, receiver)
 
 
@@ -201,4 +216,4 @@ def gone(checks, stage):
 
 
 if __name__ == "__main__":
-    part(bridged, left_behind, swallowed, overran, too_fast, faster, too_long, enough, gone)
+    part(bridged, ended, left_behind, swallowed, overran, too_fast, faster, too_long, enough, gone)

@@ -2,6 +2,8 @@
 """How fast retransmissions leave, and that media does not wait for them.
 
     rate.py PROGRAM"""
+import struct
+import threading
 import time
 
 from base import ends, on_time, part, soon
@@ -60,26 +62,142 @@ def at_once(checks, stage):
     ends(checks, name, sender)
 
 
+def named(many):
+    """The octets of a NACK that names packets from 0 on, so many and some more: seventeen by a pair."""
+    pairs = b"".join(struct.pack(">HH", first, 65535) for first in range(0, many, 17))
+    return struct.pack(">BBHII", 0x81, 205, 2 + len(pairs) // 4, 0x0f0f0f0f, MEDIA) + pairs
+
+
+def events(sender):
+    """What a relay's log has of media that left, of retransmissions and of feedback: the moment, the word and the octets of the packet."""
+    lines = [one.split(" ") for one in sender.log.read_text().splitlines()]
+    return [(int(one[0]), one[1], len(one[4]) // 2 if one[1] != "marked" else 0) for one in lines if one[1] in ("sent", "repair", "marked")]
+
+
+def saved_up(log, share):
+    """The bits that are saved up before each retransmission of a log, and at its end: 32 KiB at first, and half of the share of media as it
+    leaves; never more than 32 KiB and half of the share of what is left of the last second's media, also where feedback is heard."""
+    credit, bits, last, before = 262144, 0, 0, []
+    for now, word, octets in log:
+        left = bits * max(0, 1000 - (now - last)) // 1000
+        if word == "repair":
+            before.append(credit)
+            credit -= octets * 8
+        elif word == "sent":
+            bits, last = left + octets * 8, now
+            credit = min(credit + share * octets * 8 // 200, 262144 + share * bits // 200)
+        else:
+            credit = min(credit, 262144 + share * left // 200)
+    return [*before, credit]
+
+
+def rests(far, seconds=0.5):
+    """Waits until nothing comes for so long."""
+    before = -1
+    while before != len(far.came):
+        before = len(far.came)
+        time.sleep(seconds)
+
+
 @on_time(0.02)
 def shared(checks, stage, *words, share=200, many=400):
-    """By a share of the media's rate 32 KiB leave at once, and the others at that share. The media's rate is at most all that was sent
-    and the two megabits that are taken for granted."""
+    """By a share of the media's rate as much may leave as half of that share of a second has, and 32 KiB: 64 KiB at once, and the rest eight times as
+    fast as the rate, or by 64 megabits. What may leave does."""
     name, long = f"{share} per cent", 1014 * 8
     far, sender = burst(stage, many, 1000, *words)
-    asks(far, sender, many)
-    checks.same([original(one)[0] for one in far.packets()[-many:]], list(range(many)), f"{name}: the order")
+    far.send(named(many), ("127.0.0.1", sender.source[1]))
+    rests(far)
     ends(checks, name, sender)
-    times = [int(one.split()[0]) for one in sender.log.read_text().splitlines() if one.split()[1] == "repair"][-many:]
+    log = events(sender)
+    saved, least = saved_up(log, share), 8 * 1600
+    times = [now for now, word, _ in log if word == "repair"][1:]  # but for the last packet's own
+    numbers = [original(one)[0] for one in far.packets()[many + 1:]]
+    checks.same(numbers, list(range(len(times))), f"{name}: the order")
+    checks.count(min(saved[:-1]) >= least, f"{name}: {min(saved[:-1])} bits were saved up as one left")
+    checks.count(len(times) == many or saved[-1] < least, f"{name}: {len(times)} left, and {saved[-1]} bits stayed")
     at_once = sum(one <= times[0] + 100 for one in times)
-    checks.count(at_once >= 27, f"{name}: {at_once} retransmissions left in a tenth of a second")
-    most = share * (2000000 + many * 1012 * 8) // 100000
-    early = [i for i, one in enumerate(times) if i * long > 262144 + most * (one - times[0] + 1)]
-    checks.same((len(times), early[:2]), (many, []), f"{name}: retransmissions in the log, and those that left too early")
+    checks.count(at_once >= 50, f"{name}: {at_once} retransmissions left in a tenth of a second")
+    rate = share * many * 1012 * 8 / 200 / 1000
+    fast = max(2 * rate, min(8 * rate, 64000))
+    early = [i for i, one in enumerate(times) if i * long > 524288 + fast * (one - times[0] + 1)]
+    checks.same(early[:2], [], f"{name}: retransmissions that left too early")
 
 
 @on_time(0.02)
 def halved(checks, stage):
     shared(checks, stage, "--rate", "50%", share=50, many=150)
+
+
+@on_time(0.3)
+def silent(checks, stage):
+    """A second behind a stream 262,144 bits are left of what it earned. 31 retransmissions of 8112 leave fewer than the longest datagram has,
+    12,800; and whatever is asked for then, no other leaves."""
+    name, many = "a silent stream", 400
+    far, sender = burst(stage, many, 1000)
+    time.sleep(1.1)
+    for _ in range(20):
+        far.send(named(many), ("127.0.0.1", sender.source[1]))
+        time.sleep(0.02)
+    ends(checks, name, sender)
+    checks.same(len(far.came) - many - 1, 31, f"{name}: retransmissions")
+
+
+def asked_each_10(sender, far, many, runs):
+    """Names so many packets each ten milliseconds, as long as that runs."""
+    octets = named(many)
+    while runs():
+        far.send(octets, ("127.0.0.1", sender.source[1]))
+        time.sleep(0.01)
+
+
+def stopped(checks, stage):
+    """A stream of 20 megabits stops after two seconds, and 340 packets are asked for each ten milliseconds, sixteen times as many as leave, until
+    three seconds after that. In any second no more is retransmitted than twice the media of that and of the one before it, 32 KiB and two
+    packets; and from a second after the stop on no more than 32 KiB."""
+    name, many, rate = "a stream that stops", 4166, 2083
+    far = End(stage)
+    sender = stage.send(far.at, "--min-resend", 0)
+    app = App(stage, sender.at, ssrc=MEDIA, number=0)
+    stream = threading.Thread(target=app.stream, args=(plain(many, 1188), rate), daemon=True)
+    stream.start()
+    far.waits_for(20)
+    asked_each_10(sender, far, 340, stream.is_alive)
+    until = time.monotonic() + 3
+    asked_each_10(sender, far, 340, lambda: time.monotonic() < until)
+    sender.stop()
+    log = events(sender)
+    media, again = ([(now, octets) for now, word, octets in log if word == kind] for kind in ("sent", "repair"))
+    stop = media[-1][0]
+    checks.same(len(media), many, f"{name}: what was sent")
+    checks.count(2 * sum(size for _, size in again) >= sum(size for _, size in media), f"{name}: {len(again)} were retransmitted")
+    over = [(at, these, those) for at in range(0, stop + 3000, 50)
+            for these, those in [(between(again, at, at + 1000), between(media, at - 1000, at + 1000))] if these > 2 * those + 32768 + 2 * 1202]
+    checks.same(over[:2], [], f"{name}: seconds with too much, their octets, and the media's of two")
+    behind = between(again, stop + 1000, stop + 9000)
+    checks.count(behind <= 32768, f"{name}: {behind} octets left more than a second behind it")
+
+
+def between(packets, start, end):
+    """The octets of what left between two moments."""
+    return sum(octets for now, octets in packets if start <= now < end)
+
+
+def seldom(checks, stage):
+    """Beside a packet each 1.1 seconds, and NACKs for all each ten milliseconds, no more is retransmitted in all than the media's octets and
+    32 KiB."""
+    name, many = "a packet now and then", 5
+    far = End(stage)
+    sender = stage.send(far.at, "--min-resend", 0)
+    app = App(stage, sender.at, ssrc=MEDIA, number=0)
+    for one in plain(many, 1188):
+        app.send(one)
+        until = time.monotonic() + 1.1
+        asked_each_10(sender, far, many, lambda: time.monotonic() < until)
+    sender.stop()
+    log = events(sender)
+    media, again = (sum(octets for _, word, octets in log if word == kind) for kind in ("sent", "repair"))
+    checks.same(media, many * 1200, f"{name}: the media's octets")
+    checks.count(30000 <= again <= media + 32768, f"{name}: {again} octets were retransmitted, of {media}")
 
 
 @on_time(0.05)
@@ -141,4 +259,4 @@ def ruled(checks, stage):
 
 
 if __name__ == "__main__":
-    part(paced, at_once, shared, halved, media_first, queued, ruled)
+    part(paced, at_once, shared, halved, silent, stopped, seldom, media_first, queued, ruled)

@@ -138,8 +138,8 @@ def other_port(checks, stage):
 
 
 def gun(checks, stage):
-    """Whatever NACKs come: over any second at most twice the octets of the media are retransmitted, and 32 KiB more. (The media has more
-    than the two megabits a second that it is taken for at first.)"""
+    """Whatever NACKs come: over any second at most twice the octets of the media are retransmitted, and 32 KiB more; and in all no more than the
+    media's octets, and 32 KiB."""
     far, count, length = End(stage), 600, 1000
     sender = stage.send(far.at, "--min-resend", 0)
     app = App(stage, sender.at, ssrc=OWN, number=0)
@@ -155,6 +155,8 @@ def gun(checks, stage):
     came = [(moment, len(octets), int.from_bytes(octets[8:12], "big") == OWN) for moment, _, octets in far.came]
     media, again = (in_a_second([(at, size) for at, size, is_media in came if is_media == one]) for one in (True, False))
     checks.count(media < again <= 2 * 1.05 * media + 32768, f"the gun: of {media} octets in a second {again} are retransmitted")
+    media, again = (sum(size for _, size, is_media in came if is_media == one) for one in (True, False))
+    checks.count(again <= media + 32768, f"the gun: of {media} octets in all {again} are retransmitted")
 
 
 def in_a_second(came):

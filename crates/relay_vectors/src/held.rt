@@ -166,8 +166,8 @@ const LATE: &[Passing] = &[
     (1100, Far, FAR, Stamped(16, 100)),
 ];
 
-/// An answer takes 40 + 20 + 5, and the first ask waits for 10, a quarter longer than those 8. Of the latency of 200 asks have to fit into
-/// 192 where packets are held: two do, 192 - 65 - 10 apart.
+/// An answer takes 40 + 10 + 5, and the first ask waits for 10, a quarter longer than those 8. Of the latency of 200 asks have to fit into
+/// 192 where packets are held: three do, half of 192 - 55 - 10 apart.
 #[test]
 fn asks_have_what_is_left_of_the_latency(rt: HostRuntime) -> Result<(), Fail> {
     const ASKS: &[(u64, Packet)] = &[
@@ -177,14 +177,16 @@ fn asks_have_what_is_left_of_the_latency(rt: HostRuntime) -> Result<(), Fail> {
         (1070, Nack(13)),
         (1110, Nack(15)),
         (1110, Nack(15)),
-        (1227, Nack(15)),
-        (1227, Nack(15)),
+        (1173, Nack(15)),
+        (1173, Nack(15)),
+        (1236, Nack(15)),
+        (1236, Nack(15)),
     ];
     assert!(rt; asks(rt.alloc(), true, 7, LATE, ASKS)?);
     Ok(())
 }
 
-/// And into all of it where none is: 200 - 65 - 10.
+/// And into all of it where none is, half of 200 - 55 - 10 apart.
 #[test]
 fn asks_have_all_the_latency_else(rt: HostRuntime) -> Result<(), Fail> {
     const ASKS: &[(u64, Packet)] = &[
@@ -194,8 +196,10 @@ fn asks_have_all_the_latency_else(rt: HostRuntime) -> Result<(), Fail> {
         (1070, Nack(13)),
         (1110, Nack(15)),
         (1110, Nack(15)),
-        (1235, Nack(15)),
-        (1235, Nack(15)),
+        (1177, Nack(15)),
+        (1177, Nack(15)),
+        (1244, Nack(15)),
+        (1244, Nack(15)),
     ];
     assert!(rt; asks(rt.alloc(), false, 7, LATE, ASKS)?);
     Ok(())

@@ -4,6 +4,8 @@
 #[cfg(test)]
 mod claims;
 #[cfg(test)]
+mod earned;
+#[cfg(test)]
 mod held;
 #[cfg(test)]
 mod lossy;

@@ -202,15 +202,17 @@ fn a_stream_that_takes_the_place_of_another(rt: HostRuntime) -> Result<(), Fail>
     Ok(())
 }
 
-/// Forty packets of the application at moment 5, of 1200 octets each, and a NACK for all of them at moment 20.
-fn forty(alloc: Global) -> Result<Script, Fail> {
+/// Eighty packets of the application at moment 5, of 1200 octets each, and a NACK for all of them at each of these moments.
+fn eighty(alloc: Global, asked: &[u64]) -> Result<Script, Fail> {
     const ALL: &[u8] =
-        b"\x81\xcd\x00\x05\x33\x33\x33\x33\x11\x11\x11\x11\xff\xff\xff\xff\x00\x10\xff\xff\x00\x21\x00\x1f";
+        b"\x81\xcd\x00\x07\x33\x33\x33\x33\x11\x11\x11\x11\xff\xff\xff\xff\x00\x10\xff\xff\x00\x21\xff\xff\x00\x32\xff\xff\x00\x43\x07\xff";
     let mut script = Script::new(alloc, &[])?;
-    for number in 0..40 {
+    for number in 0..80 {
         script.comes(&(5, Near, APPLICATION, Packet::Long(number)))?;
     }
-    script.comes(&(20, Far, FAR, These(ALL)))?;
+    for moment in asked {
+        script.comes(&(*moment, Far, FAR, These(ALL)))?;
+    }
     Ok(script)
 }
 
@@ -223,26 +225,50 @@ fn moments<const N: usize>(script: &Script, first: usize) -> [u64; N] {
     moments
 }
 
-/// The moments at which the first 28 of the retransmissions leave, and the next three, and how much leaves.
-fn retransmitted(alloc: Global) -> Result<([u64; 28], [u64; 3], usize), Fail> {
-    let mut script = forty(alloc)?;
+/// The moments at which the first 55 of the retransmissions leave, and the next six, and how much leaves.
+fn retransmitted(alloc: Global) -> Result<([u64; 55], [u64; 6], usize), Fail> {
+    let mut script = eighty(alloc, &[20])?;
     let pace = Pace::new(Rate::Percent(200));
-    let relay = relay(alloc, 40, pace, ResendRule::ALWAYS)?;
+    let relay = relay(alloc, 80, pace, ResendRule::ALWAYS)?;
     let _ = runs(&mut script, relay, &[])?;
     Ok((
-        moments(&script, 40),
-        moments(&script, 68),
+        moments(&script, 80),
+        moments(&script, 135),
         script.gone.len(),
     ))
 }
 
-/// Twice the media's rate, by a NACK for forty packets: 28 of their retransmissions are the burst, of 1202 octets each, and leave at
-/// once. Forty packets of 9600 bits at once, beside two megabits that are taken for granted, are 2,384,000 bits a second: 4768 a
-/// millisecond are the pace. 28 are 269,248 bits, and the burst 262,144, so the next ones wait for 7104, 7184 and 7264 bits to run out.
+/// Twice the media's rate, by a NACK for eighty packets: 55 of their retransmissions leave at once, of 1202 octets each, since 54 have 519,264 bits, no
+/// more than 524,288. Eighty packets of 9600 bits at once are 768,000 bits a second, so 6144 run out each millisecond: 522,736 are left at 21, then of one
+/// more 526,208 and 520,064, of the next 523,536, of the next 527,008 and 520,864, then 524,336 and 518,192, and 521,664.
 #[test]
-fn few_leave_at_once_and_many_at_twice_the_rate(rt: HostRuntime) -> Result<(), Fail> {
+fn few_leave_at_once_and_many_fast(rt: HostRuntime) -> Result<(), Fail> {
     let (at_once, behind, gone) = retransmitted(rt.alloc())?;
-    assert!(rt; at_once == [20; 28] && behind == [22, 24, 26] && gone >= 79);
+    assert!(rt; at_once == [20; 55] && behind == [21, 23, 24, 26, 28, 29] && gone >= 141);
+    Ok(())
+}
+
+/// The moments at which what is behind the eighty leaves, and how much leaves, where all of them are asked for when the stream is silent for a second, and
+/// again, and a last packet comes.
+fn stopped(alloc: Global) -> Result<([u64; 29], usize), Fail> {
+    let mut script = eighty(alloc, &[1005, 1300, 1500])?;
+    script.comes(&(1600, Near, APPLICATION, Packet::Long(80)))?;
+    let pace = Pace::new(Rate::Percent(200));
+    let relay = relay(alloc, 81, pace, ResendRule::ALWAYS)?;
+    let _ = runs(&mut script, relay, &[])?;
+    Ok((moments(&script, 80), script.gone.len()))
+}
+
+/// The stream falls silent, and its last packet leaves again. A second after the stream 262,144 bits are left of what it earned: 26 retransmissions of 9616
+/// leave 12,128 of them, and no other leaves, since the longest datagram has 12,800. A packet of media earns 9600, so another one leaves. It leaves 12,112, too
+/// few for the last packet's own.
+#[test]
+fn a_stream_that_stopped_leaves_little(rt: HostRuntime) -> Result<(), Fail> {
+    let (behind, gone) = stopped(rt.alloc())?;
+    let mut wanted = [1005; 29];
+    wanted[0] = 105;
+    wanted[27..].copy_from_slice(&[1600, 1600]);
+    assert!(rt; behind == wanted && gone == 109);
     Ok(())
 }
 

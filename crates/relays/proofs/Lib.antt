@@ -6,3 +6,4 @@ pub mod Taking
 pub mod Waking
 pub mod Marked
 pub mod Holes
+pub mod Within

@@ -8,6 +8,7 @@ pub mod Pacing
 pub mod Paced
 pub mod Ending
 pub mod Following
+pub mod Feedback
 pub mod Holding
 pub mod Numbering
 pub mod Leaving

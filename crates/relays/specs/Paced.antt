@@ -1,41 +1,62 @@
--- A run of a pace: media packets that leave whenever they come, and retransmissions, each at a moment at which the pace is open.
-use Rattle.std.specs.Prelude.{◌≡◌, ℕ, ◌≤◌, true, List, [], ◌∷◌}
-use Rattle.std.specs.List.{sum_by}
-use Rattle.relays.specs.Pacing.{is_open, kilobits_of, opens_after, paced_beside}
+-- A run of a pace: retransmissions, each at a moment at which the pace is open, media packets that leave whenever they come, and feedback that is
+-- heard.
+use Rattle.std.specs.Prelude.{◌≡◌, ℕ, ◌+◌, ◌≤◌, true, List, [], ◌∷◌}
+use Rattle.rtpwire.specs.declared.limits.TheConstants.{MAX_DATAGRAM}
+use Rattle.relays.specs.Pacing.{drain_of, fallen, is_open, opens_after, paced_beside}
 use Rattle.relays.specs.declared.pace.Pace.{Pace}
 
--- a packet that leaves: how many octets it has, and the moment
-pub data Left : Type 0 where
-  repaired : (octets now : ℕ) → Left  -- a retransmission
-  sent : (octets now : ℕ) → Left  -- media
+-- a packet of so many octets leaves at a moment, or feedback is heard
+pub data Step : Type 0 where
+  repaired : (octets now : ℕ) → Step  -- a retransmission
+  sent : (octets now : ℕ) → Step  -- media
+  heard : (now : ℕ) → Step  -- feedback
 
-abbrev pub Follows : Pace → Left → Pace → Type 0
-Follows old (repaired octets now) new = (is_open old now ≡ true) × (new ≡ opens_after old octets now)
-Follows old (sent octets now) new = new ≡ paced_beside old octets now
+-- a pace after these steps, the newest first
+abbrev pub pace_after : Pace → List Step → Pace
+pace_after p [] = p
+pace_after p (repaired octets now ∷ before) = opens_after (pace_after p before) octets now
+pace_after p (sent octets now ∷ before) = paced_beside (pace_after p before) octets now
+pace_after p (heard now ∷ before) = fallen (pace_after p before) now
 
-abbrev pub octets_in : Left → ℕ
-octets_in (repaired octets now) = octets
-octets_in (sent octets now) = 0
+-- the pace was open for each retransmission, and none was longer than a datagram is
+abbrev pub MayLeave : Pace → List Step → Type 0
+MayLeave p [] = Unit {0}
+MayLeave p (repaired octets now ∷ before) = (octets ≤ MAX_DATAGRAM) × (is_open (pace_after p before) now ≡ true) × MayLeave p before
+MayLeave p (sent octets now ∷ before) = MayLeave p before
+MayLeave p (heard now ∷ before) = MayLeave p before
 
-abbrev pub moment_of : Left → ℕ
+abbrev pub octets_repaired : List Step → ℕ
+octets_repaired [] = 0
+octets_repaired (repaired octets now ∷ before) = octets + octets_repaired before
+octets_repaired (sent octets now ∷ before) = octets_repaired before
+octets_repaired (heard now ∷ before) = octets_repaired before
+
+abbrev pub octets_sent : List Step → ℕ
+octets_sent [] = 0
+octets_sent (repaired octets now ∷ before) = octets_sent before
+octets_sent (sent octets now ∷ before) = octets + octets_sent before
+octets_sent (heard now ∷ before) = octets_sent before
+
+-- at a moment no media left for a second
+abbrev pub IsSilentAt : (now : ℕ) → List Step → Type 0
+IsSilentAt now [] = Unit {0}
+IsSilentAt now (repaired octets at ∷ before) = IsSilentAt now before
+IsSilentAt now (sent octets at ∷ before) = (at + 1000 ≤ now) × IsSilentAt now before
+IsSilentAt now (heard at ∷ before) = IsSilentAt now before
+
+abbrev pub moment_of : Step → ℕ
 moment_of (repaired octets now) = now
 moment_of (sent octets now) = now
+moment_of (heard now) = now
 
--- it leaves between two moments, and is no retransmission of more than so many octets
-pub record IsBetween (start end longest : ℕ) (one : Left) : Type 0 where
-  pub from_on : start ≤ moment_of one
-  pub until : moment_of one ≤ end
-  pub short : octets_in one ≤ longest
+abbrev pub AreBetween : (start end : ℕ) → List Step → Type 0
+AreBetween start end [] = Unit {0}
+AreBetween start end (one ∷ before) = (start ≤ moment_of one) × (moment_of one ≤ end) × AreBetween start end before
 
--- What leaves between two moments, the newest first, at a rate that is never above so many kilobits a second.
-abbrev pub Leave : (start end longest most : ℕ) → Pace → List Left → Pace → Type 0
-Leave start end longest most old [] new = (new ≡ old) × (kilobits_of old ≤ most)
-Leave start end longest most old (one ∷ before) new =
-    (mid : Pace) × Leave start end longest most old before mid × IsBetween start end longest one × Follows mid one new × (kilobits_of new ≤ most)
-
--- the octets of the retransmissions
-abbrev pub octets_of : List Left → ℕ
-octets_of steps = sum_by octets_in steps
+-- at no time more than so many kilobits a second run out of the bucket
+abbrev pub DrainsUpTo : (most : ℕ) → Pace → List Step → Type 0
+DrainsUpTo most p [] = drain_of p ≤ most
+DrainsUpTo most p (one ∷ before) = (drain_of (pace_after p (one ∷ before)) ≤ most) × DrainsUpTo most p before
 
 -- retransmissions of so many octets leave at a moment, the newest first
 abbrev pub after_all : Pace → (now : ℕ) → (octets : List ℕ) → Pace

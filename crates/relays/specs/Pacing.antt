@@ -1,8 +1,10 @@
--- How fast retransmissions leave (RFC 4588, section 7): a bucket, into which each one pours its bits, and out of which as many run each
--- millisecond as the rate is in kilobits a second. Moments are in milliseconds.
-use Rattle.std.specs.Prelude.{ℕ, Bool, true, false, ◌+◌, ◌*◌, ◌/◌, ◌-◌, ◌||◌, nat_le, max}
+-- How fast retransmissions leave (RFC 4588, section 7). By a share of the media they are earned by the media that leaves, and each one spends what
+-- was earned. By that and by kilobits a second each pours its bits into a bucket, out of which so many run each millisecond. Moments are in
+-- milliseconds.
+use Rattle.std.specs.Prelude.{ℕ, Bool, true, false, ◌+◌, ◌*◌, ◌/◌, ◌-◌, ◌||◌, ◌&&◌, nat_le, max, min}
+use Rattle.rtpwire.specs.declared.limits.TheConstants.{MAX_DATAGRAM}
 pub use Rattle.relays.specs.Capping.{capped}
-use Rattle.relays.specs.MediaRate.{measured_after, unmeasured}
+use Rattle.relays.specs.MediaRate.{measured_after, measured_at, unmeasured}
 use Rattle.relays.specs.declared.pace.Pace.{Pace}
 use Rattle.relays.specs.declared.pace.Rate.{Rate}
 use Rattle.relays.specs.declared.pace.Rate.TheVariants.{Free, Kilobits, Percent}
@@ -11,40 +13,68 @@ abbrev pub is_free : Rate → Bool
 is_free Free = true
 is_free rate = false
 
--- a rate in kilobits a second, beside media of so many bits a second
-abbrev pub kilobits_beside : (bits : ℕ) → Rate → ℕ
-kilobits_beside bits Free = 0
-kilobits_beside bits (Kilobits kilobits) = kilobits
-kilobits_beside bits (Percent share) = capped (share * bits) / 100000
+-- ---- what is earned
 
--- it is one at least, so that what waits leaves at last
-abbrev pub kilobits_of : Pace → ℕ
-kilobits_of p = max (kilobits_beside p.media.bits p.rate) 1
+-- so many bits of media earn half of the share of them
+abbrev pub earned_by : Rate → (bits : ℕ) → ℕ
+earned_by (Percent share) bits = capped (share * bits) / 200
+earned_by rate bits = 0
 
--- so many bits may leave at once: by a share of the media's rate 32 KiB
-abbrev pub burst_of : Rate → ℕ
-burst_of (Percent share) = 262144
-burst_of rate = 0
+-- beside media of so many bits a second no more is saved up than a second of it earns, and 32 KiB
+abbrev pub most_beside : Rate → (bits : ℕ) → ℕ
+most_beside rate bits = 262144 + earned_by rate bits
 
-abbrev pub new_pace : Rate → Pace
-new_pace rate = record { rate = rate; media = unmeasured; owed = 0; since = 0 }
+-- by a share one may leave where the longest datagram's bits are saved up
+abbrev pub least_by : Rate → ℕ
+least_by (Percent share) = MAX_DATAGRAM * 8
+least_by rate = 0
+
+-- ---- what runs out
+
+-- a rate in kilobits a second, beside media of so many bits a second; it is one at least, so that what waits leaves at last
+abbrev pub kilobits_beside : Rate → (bits : ℕ) → ℕ
+kilobits_beside (Kilobits kilobits) bits = max kilobits 1
+kilobits_beside rate bits = max (earned_by rate bits / 1000) 1
+
+-- what was earned leaves eight times as fast, up to 64 megabits a second or twice the rate
+abbrev pub fast_of : (kilobits : ℕ) → ℕ
+fast_of kilobits = min (capped (kilobits * 8)) (max (capped (kilobits * 2)) 64000)
+
+-- so much runs out of the bucket each millisecond
+abbrev pub drain_beside : Rate → (bits : ℕ) → ℕ
+drain_beside (Percent share) bits = fast_of (kilobits_beside (Percent share) bits)
+drain_beside rate bits = kilobits_beside rate bits
+
+abbrev pub drain_of : Pace → ℕ
+drain_of p = drain_beside p.rate p.media.bits
+
+-- one may leave where no more than so much is left in the bucket: 64 KiB by a share, and nothing by kilobits a second
+abbrev pub depth_by : Rate → ℕ
+depth_by (Percent share) = 524288
+depth_by rate = 0
 
 -- what is left in the bucket at a moment
 abbrev pub owed_at : Pace → (now : ℕ) → ℕ
-owed_at p now = p.owed - capped (kilobits_of p * (now - p.since))
+owed_at p now = p.owed - capped (drain_of p * (now - p.since))
 
--- one may leave where that is no more than the burst
+-- ---- a pace
+
+abbrev pub new_pace : Rate → Pace
+new_pace rate = record { rate = rate; media = unmeasured; credit = 262144; owed = 0; since = 0 }
+
+-- one may leave where enough is saved up, and little enough is left in the bucket
 abbrev pub is_open : Pace → (now : ℕ) → Bool
-is_open p now = is_free p.rate || nat_le (owed_at p now) (burst_of p.rate)
-
--- the bucket as it is at a moment
-abbrev pub settled : Pace → (now : ℕ) → Pace
-settled p now = record { rate = p.rate; media = p.media; owed = owed_at p now; since = max p.since now }
+is_open p now = is_free p.rate || (nat_le (least_by p.rate) p.credit && nat_le (owed_at p now) (depth_by p.rate))
 
 -- a retransmission of so many octets leaves
 abbrev pub opens_after : Pace → (octets now : ℕ) → Pace
-opens_after p octets now = record (settled p now) { owed = capped (owed_at p now + capped (octets * 8)) }
+opens_after p octets now = record p { credit = p.credit - capped (octets * 8); owed = capped (owed_at p now + capped (octets * 8)); since = max p.since now }
 
--- a media packet of so many octets leaves, and the rate follows it
+-- a media packet of so many octets leaves: the rate follows it, and it earns what retransmissions may have
 abbrev pub paced_beside : Pace → (octets now : ℕ) → Pace
-paced_beside p octets now = record (settled p now) { media = measured_after p.media octets now }
+paced_beside p octets now = let media = measured_after p.media octets now in
+    record p { media = media; credit = min (capped (p.credit + earned_by p.rate (capped (octets * 8)))) (most_beside p.rate media.bits); owed = owed_at p now; since = max p.since now }
+
+-- feedback is heard: of what was earned no more stays than the media as it is then would have saved up
+abbrev pub fallen : Pace → (now : ℕ) → Pace
+fallen p now = record p { credit = min p.credit (most_beside p.rate (measured_at p.media now)) }

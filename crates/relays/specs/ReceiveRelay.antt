@@ -1,6 +1,6 @@
 -- The relay behind a network that loses: what it does with what comes, and what it does of its own. Each case of what it notes has
 -- its equation, and what stands nowhere is never done.
-use Rattle.std.specs.Prelude.{◌≡◌, ℕ, zero, suc, ◌&&◌, max, min, Bool, true, false, List, Option, Some, None, Result, Ok}
+use Rattle.std.specs.Prelude.{◌≡◌, ◌≤◌, ◌<◌, ◌-◌, ◌/◌, ◌⊎◌, ℕ, zero, suc, ◌&&◌, max, min, Bool, true, false, List, length, take, Option, Some, None, Result, Ok, Err, if◌then◌else◌}
 use Rattle.std.specs.declared.net.socket_addr.SocketAddr.{SocketAddr}
 use Rattle.arrayvec.specs.ArrayVec.{ArrayVec}
 use Rattle.rtpwire.specs.Rtp.{RtpSpells}
@@ -11,7 +11,8 @@ use Rattle.receiver.specs.declared.answer.Played.TheVariants.{Packet, Gap, Wait}
 use Rattle.receiver.specs.declared.fault.ReceiveFault.{ReceiveFault}
 use Rattle.receiver.specs.Receiver.{Receiving, state_of}
 use Rattle.receiver.specs.Peeking.{play_of, receiver_passed}
-use Rattle.receiver.specs.Asks.{AsksMost}
+use Rattle.receiver.specs.Asks.{AnyNeedsRoom, AsksMost}
+use Rattle.rtpwire.specs.declared.fault.TooShort.{TooShort}
 use Rattle.receiver.specs.Config.{Config}
 use Rattle.endpoint.specs.declared.holding.Run.{Run}
 use Rattle.endpoint.specs.declared.heard.Heard.{Heard}
@@ -35,6 +36,7 @@ use Rattle.relays.specs.declared.outside.Side.{Side}
 use Rattle.relays.specs.declared.outside.Side.TheVariants.{Near, Far}
 use Rattle.relays.specs.declared.numbering.Numbering.{Numbering}
 use Rattle.timing.specs.declared.ask_times.AskTimes.{AskTimes}
+use Rattle.timing.specs.declared.feedback_budget.FeedbackBudget.{FeedbackBudget}
 use Rattle.relays.specs.declared.relay.Note.{Note}
 use Rattle.relays.specs.declared.relay.Note.TheVariants as note
 use Rattle.relays.specs.declared.relay.Departure.{Departure}
@@ -46,6 +48,7 @@ use Rattle.timing.specs.Path.{times_over}
 use Rattle.timing.specs.RoundTrip.{time_of}
 use Rattle.timing.specs.declared.playout.Playout.{Playout}
 use Rattle.relays.specs.Holding.{asking_time, clock_after, held_by, timestamp_of, wait_by}
+use Rattle.relays.specs.Feedback.{after_move, after_nack, after_octets, leaves_twice, room_for}
 use Rattle.relays.specs.Leaving.{GoesTo, octets_of}
 use Rattle.relays.specs.Moving.{is_next, is_quiet}
 
@@ -68,6 +71,7 @@ pub record ReceiveSide : Type 0 where
   pub meter : PathMeter  -- what it measured of the path
   pub last : Option ℕ  -- the moment of the last play
   pub copy : Option (ArrayVec ℕ)  -- the NACK that left last, where it is still to leave a second time
+  pub budget : Option FeedbackBudget  -- what may leave for the far side, where that is earned by what comes from there
   pub bounds : Bounds
 
 -- By how much less a number may lie ahead to be believed at once (MAX_DROPOUT of RFC 3550, appendix A.1): 3000, or as many as the
@@ -99,6 +103,7 @@ new_receive_side config capacity far player numbering hold bounds =
       meter = new_meter;
       last = None;
       copy = None;
+      budget = None;
       bounds = bounds;
     }
 
@@ -131,14 +136,18 @@ pub record HearsFrom (old : ReceiveSide) (from : SocketAddr) (octets : List ℕ)
   pub standing : Standing
   pub stood : IsStanding old.core octets standing
   pub is_kind : IsKind old.asked old.core.config.session (highest_of old.core.span) octets answer kind
-  pub rest : new ≡ record old { core = new.core; spare = new.spare; run = new.run; counts = count_heard answer old.counts; asked = kept_after answer old.asked; kinds = count_kind kind answer old.kinds; seen = seen_after answer octets old.seen; far = from; came = Some now; numbering = numbering_after answer old.numbering; hold = clock_after answer (timestamp_of octets) now old.hold; meter = meter_heard answer standing now old.meter }
+  pub rest : new ≡ record old { core = new.core; spare = new.spare; run = new.run; counts = count_heard answer old.counts; asked = kept_after answer old.asked; kinds = count_kind kind answer old.kinds; seen = seen_after answer octets old.seen; far = from; came = Some now; numbering = numbering_after answer old.numbering; hold = clock_after answer (timestamp_of octets) now old.hold; meter = meter_heard answer standing now old.meter; budget = after_octets (length octets) old.budget }
+
+-- a far side that moved has earned nothing where it is now, and what was asked for is not asked for there a second time
+abbrev pub moved : ReceiveSide → ReceiveSide
+moved s = record s { copy = None; budget = after_move s.budget }
 
 -- What is done with a datagram at the far side's socket: the endpoint hears what the far side sent, or what shows it at another
 -- address, which is its address from then on, and nobody else's.
 abbrev pub HearsFar : ReceiveSide → (from : SocketAddr) → (octets : List ℕ) → (now : ℕ) → Note → Option Departure → ReceiveSide → Type 0
 HearsFar old from octets now (note.Heard answer kind) None new = (from ≡ old.far) × HearsFrom old from octets now answer kind new
 HearsFar old from octets now (note.Moved far answer kind) None new =
-    (from ≡ old.far → ⊥) × Moves old octets now true × (far ≡ from) × HearsFrom old from octets now answer kind new
+    (from ≡ old.far → ⊥) × Moves old octets now true × (far ≡ from) × HearsFrom (moved old) from octets now answer kind new
 HearsFar old from octets now note.Stray None new = (from ≡ old.far → ⊥) × Moves old octets now false × (new ≡ old)
 HearsFar old from octets now n leaves new = ⊥
 
@@ -171,13 +180,55 @@ patience_left s = min (left_at s.meter.path.arrivals s.core.config.patience s.co
 abbrev pub next_play : ReceiveSide → (now : ℕ) → Played
 next_play s now = held_by s.hold s.core.config.patience now (play_of (patience_left s) now s.core.span)
 
--- places that are due are asked for at the far side, at most 256 in one datagram
+-- nothing is due
+abbrev pub NothingDue : ReceiveSide → (now : ℕ) → Type 0
+NothingDue old now = AsksMost old.core.config (state_of old.core) now 256 None (state_of old.core)
+
+-- How many places have room in so many octets with a pair each, and so are asked for where those of one datagram, 256, have not.
+abbrev pub fewer_in : (room : ℕ) → ℕ
+fewer_in room = (room - 12) / 4
+
+-- its endpoint writes a NACK of so many places at most that are due, which has these octets and no more than there is room for
+pub record AsksOf (room most : ℕ) (old : ReceiveSide) (now len : ℕ) (out : List ℕ) (new : ReceiveSide) : Type 0 where
+  pub asks : AsksMost old.core.config (state_of old.core) now most (Some (record { items = take len out })) (state_of new.core)
+  pub earned : len ≤ room
+  pub counted : CountsAsk (Some (record { items = take len out })) old.counts new.counts
+  pub asked : RemembersAsk (highest_of old.core.span) (Some (record { items = take len out })) old.asked new.asked
+
+-- all else stays
+abbrev pub StaysBut : ReceiveSide → ReceiveSide → Type 0
+StaysBut old new = new ≡ record old { core = new.core; counts = new.counts; asked = new.asked }
+
+-- such a NACK would have more octets than there is room for
+pub record IsTooLong (room most : ℕ) (old : ReceiveSide) (now : ℕ) : Type 0 where
+  pub needed : ℕ
+  pub needs : AnyNeedsRoom old.core.config (state_of old.core) now most needed
+  pub beyond : room < needed
+
+abbrev pub AsksIn : (room most : ℕ) → ReceiveSide → (now : ℕ) → Result (Option ℕ) TooShort → (out : List ℕ) → ReceiveSide → Type 0
+AsksIn room most old now (Ok (Some len)) out new = AsksOf room most old now len out new × StaysBut old new
+AsksIn room most old now (Ok None) out new = AsksMost old.core.config (state_of old.core) now most None (state_of old.core) × (new ≡ old)
+AsksIn room most old now (Err short) out new = IsTooLong room most old now × (new ≡ old)
+
+-- of all that one may name is asked for, or of fewer places where that is too long
+abbrev pub AsksWithin : (room : ℕ) → ReceiveSide → (now len : ℕ) → (out : List ℕ) → ReceiveSide → Type 0
+AsksWithin room old now len out new = AsksOf room 256 old now len out new ⊎ (IsTooLong room 256 old now × AsksOf room (fewer_in room) old now len out new)
+
+-- or none: nothing is due, or what is has no room there
+abbrev pub AsksNot : (room : ℕ) → ReceiveSide → (now : ℕ) → Type 0
+AsksNot room old now =
+    NothingDue old now ⊎ (IsTooLong room 256 old now × (AsksMost old.core.config (state_of old.core) now (fewer_in room) None (state_of old.core) ⊎ IsTooLong room (fewer_in room) old now))
+
+-- the NACK is to leave a second time
+abbrev pub copy_for : (octets : List ℕ) → (is_twice : Bool) → Option (ArrayVec ℕ)
+copy_for octets true = Some (record { items = octets })
+copy_for octets false = None
+
+-- places that are due are asked for at the far side, within what was earned
 pub record AsksFar (old : ReceiveSide) (now : ℕ) (d : Departure) (out : List ℕ) (new : ReceiveSide) : Type 0 where
-  pub asks : AsksMost old.core.config (state_of old.core) now 256 (Some (record { items = octets_of d out })) (state_of new.core)
+  pub asks : AsksWithin (room_for old.budget) old now d.len out new
   pub goes : GoesTo d Far old.far
-  pub counted : CountsAsk (Some (record { items = octets_of d out })) old.counts new.counts
-  pub asked : RemembersAsk (highest_of old.core.span) (Some (record { items = octets_of d out })) old.asked new.asked
-  pub rest : new ≡ record old { core = new.core; counts = new.counts; asked = new.asked; meter = meter_asked new.core.span (octets_of d out) now old.meter; copy = Some (record { items = octets_of d out }) }
+  pub rest : new ≡ record old { core = new.core; counts = new.counts; asked = new.asked; meter = meter_asked new.core.span (octets_of d out) now old.meter; copy = copy_for (octets_of d out) (leaves_twice d.len old.budget); budget = after_nack d.len old.budget }
 
 abbrev pub Asks : ReceiveSide → (now : ℕ) → Note → Option Departure → (out : List ℕ) → ReceiveSide → Type 0
 Asks old now note.Asked (Some d) out new = AsksFar old now d out new
@@ -208,10 +259,10 @@ SpeaksAs old now note.AskedAgain leaves out new = (old.meter.is_new ≡ false) �
 SpeaksAs old now note.Asked leaves out new = (old.meter.is_new ≡ false) × (next_play old now ≡ Wait) × (old.copy ≡ None) × Asks old now note.Asked leaves out new
 SpeaksAs old now n leaves out new = ⊥
 
--- nothing is due
-abbrev pub NothingDue : ReceiveSide → (now : ℕ) → Type 0
-NothingDue old now = AsksMost old.core.config (state_of old.core) now 256 None (state_of old.core)
+-- nothing is asked for: a NACK has no room in what was earned, or none is written
+pub record NothingAsked (old : ReceiveSide) (now : ℕ) : Type 0 where
+  pub either : (room_for old.budget < 16) ⊎ AsksNot (room_for old.budget) old now
 
 abbrev pub Speaks : ReceiveSide → (now : ℕ) → Option Turn → (out : List ℕ) → ReceiveSide → Type 0
-Speaks old now None out new = (old.meter.is_new ≡ false) × (next_play old now ≡ Wait) × (old.copy ≡ None) × NothingDue old now × (new ≡ old)
+Speaks old now None out new = (old.meter.is_new ≡ false) × (next_play old now ≡ Wait) × (old.copy ≡ None) × NothingAsked old now × (new ≡ old)
 Speaks old now (Some turn) out new = SpeaksAs old now turn.note turn.leaves out new

@@ -36,7 +36,7 @@ use Rattle.relays.specs.declared.relay.Departure.{Departure}
 use Rattle.relays.specs.declared.relay.Turn.{Turn}
 use Rattle.relays.specs.Following.{follows, followed_at}
 use Rattle.relays.specs.Ending.{is_over}
-use Rattle.relays.specs.Pacing.{is_open, opens_after, paced_beside}
+use Rattle.relays.specs.Pacing.{fallen, is_open, opens_after, paced_beside}
 use Rattle.relays.specs.Leaving.{GoesTo, octets_of}
 
 -- what a relay is between two calls
@@ -100,11 +100,11 @@ Forwards old octets now Unsent None out new =
     ((packet : RtpPacket) (content : Content) → Carries old.core.config.session old.stream octets now packet content → 2 ^ 48 ≤ old.core.next) × (new ≡ old)
 Forwards old octets now note leaves out new = ⊥
 
--- The path is measured by a datagram of the far side, and the endpoint hears it.
+-- The path is measured by a datagram of the far side, what retransmissions may have falls with the media's rate, and the endpoint hears it.
 pub record HearsFeedback (old : SendSide) (octets : List ℕ) (now : ℕ) (answer : Result Answer FeedbackFault) (new : SendSide) : Type 0 where
   pub measures : HearsTime old.core.config old.core.past old.moments octets now old.meter.interval new.meter.interval
   pub tells : TellsKind (is_control octets) old.core octets answer new.core
-  pub rest : new ≡ record old { core = new.core; counts = count_told answer old.counts; meter = new.meter }
+  pub rest : new ≡ record old { core = new.core; counts = count_told answer old.counts; meter = new.meter; pace = fallen old.pace now }
 
 -- what is done with a datagram at the other socket: the endpoint hears what the far side sent, and nobody else's
 abbrev pub HearsFar : SendSide → (from : SocketAddr) → (octets : List ℕ) → (now : ℕ) → Note → Option Departure → SendSide → Type 0

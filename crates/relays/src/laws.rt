@@ -1,28 +1,50 @@
 //! Laws of a pace, and of the player's numbers. These functions compute nothing: their contracts are the laws.
-ghost use Rattle.std.specs.Prelude.{◌≡◌, ◌+◌, ◌-◌, ◌*◌, ◌%◌, ◌^◌, ◌<◌, ◌≤◌, ℕ, List, Ok, false, true, sum};
+ghost use Rattle.std.specs.Prelude.{◌≡◌, ◌+◌, ◌-◌, ◌*◌, ◌/◌, ◌%◌, ◌<◌, ◌≤◌, ◌∷◌, ℕ, List, Ok, false, true, max, sum};
 ghost use Rattle.endpoint.specs.declared.heard.Heard.TheVariants.{Restarted};
 ghost use Rattle.endpoint.specs.declared.heard.Restart.{Restart};
 ghost use Rattle.relays.specs.Numbering.{numbered, numbered_after};
 ghost use Rattle.relays.specs.ReceiveRelay.{numbering_after};
 ghost use Rattle.relays.specs.declared.numbering.Numbering.{Numbering};
+ghost use Rattle.rtpwire.specs.declared.limits.TheConstants.{MAX_DATAGRAM};
 ghost use Rattle.relays.specs.declared.pace.Pace.{Pace};
-ghost use Rattle.relays.specs.Pacing.{burst_of, is_free, is_open, owed_at};
-ghost use Rattle.relays.specs.Paced.{Leave, Left, after_all, octets_of};
+ghost use Rattle.relays.specs.declared.pace.Rate.TheVariants.{Kilobits, Percent};
+ghost use Rattle.relays.specs.Pacing.{depth_by, is_free, is_open, new_pace, owed_at};
+ghost use Rattle.relays.specs.Paced.{AreBetween, DrainsUpTo, IsSilentAt, MayLeave, Step, heard, after_all, octets_repaired, octets_sent, pace_after};
 
-/// A pace is kept.
-#[tactic(auto, using(crate::proofs::Keeping::keeps))]
+/// A pace is kept. No retransmission is longer than a datagram is.
+#[tactic(auto, using(crate::proofs::Keeping::in_a_span, crate::proofs::Keeping::in_all, crate::proofs::Keeping::falls, crate::proofs::Keeping::silent_leaves, crate::proofs::Keeping::keeps, crate::proofs::Keeping::keeps_kilobits))]
 pub fn pace_is_kept()
-    // Between two moments no more bits are retransmitted than the burst, what the rate lets leave in that time, and one packet.
-    ensures { (start end longest most : ℕ) (old : Pace) (packets : List Left) (new : Pace)
-        → is_free old.rate ≡ false → old.since ≤ end → longest * 8 < 2 ^ 63 → Leave start end longest most old packets new
-        → octets_of packets * 8 ≤ burst_of old.rate + most * (end - start) + longest * 8 }
+    // By a share no more is retransmitted in any span than was saved up at its beginning, and half of the share of the media that leaves in it.
+    ensures span { (share : ℕ) (p : Pace) (steps : List Step) → p.rate ≡ Percent share → MayLeave p steps
+        → octets_repaired steps * 8 ≤ p.credit + share * (octets_sent steps * 8) / 200 }
+    // In all it is no more than 32 KiB, and half of the share of all media.
+    ensures all { (share : ℕ) (steps : List Step) → MayLeave (new_pace (Percent share)) steps
+        → octets_repaired steps * 8 ≤ 262144 + share * (octets_sent steps * 8) / 200 }
+    // In a second, before which no more than so many bits a second were measured, and in which no more of media leave, it is no more than the share of
+    // these, and 32 KiB.
+    ensures second { (share bits : ℕ) (before steps : List Step) → let p = pace_after (new_pace (Percent share)) before in
+        p.media.bits ≤ bits → octets_sent steps * 8 ≤ bits → MayLeave p steps → octets_repaired steps * 8 ≤ 262144 + share * bits / 100 }
+    // Where no media left for a second as feedback is heard, 32 KiB are saved up at most,
+    ensures falls { (share now : ℕ) (before : List Step) → IsSilentAt now before → (pace_after (new_pace (Percent share)) (heard now ∷ before)).credit ≤ 262144 }
+    // and no more is retransmitted until media leaves, whatever is heard.
+    ensures silent { (share now : ℕ) (before steps : List Step) → IsSilentAt now before → let p = pace_after (new_pace (Percent share)) (heard now ∷ before) in
+        MayLeave p steps → octets_sent steps ≡ 0 → octets_repaired steps * 8 ≤ 262144 }
+    // Between two moments it is no more than may leave at once, what the greatest rate lets run out in that time, and one datagram;
+    ensures any { (start end most : ℕ) (p : Pace) (steps : List Step)
+        → is_free p.rate ≡ false → p.since ≤ end → AreBetween start end steps → DrainsUpTo most p steps → MayLeave p steps
+        → octets_repaired steps * 8 ≤ depth_by p.rate + most * (end - start) + MAX_DATAGRAM * 8 }
+    // by kilobits a second what these let leave in that time, and one datagram.
+    ensures kilobits { (start end kilobits : ℕ) (p : Pace) (steps : List Step)
+        → p.rate ≡ Kilobits kilobits → p.since ≤ end → AreBetween start end steps → MayLeave p steps
+        → octets_repaired steps * 8 ≤ max kilobits 1 * (end - start) + MAX_DATAGRAM * 8 }
 {}
 
 /// What few packets lose is retransmitted at once.
 #[tactic(auto, using(crate::proofs::Keeping::stays_open))]
 pub fn bursts_leave_at_once()
-    // Where the bucket is empty the pace stays open at that moment until more than the burst has left.
-    ensures { (p : Pace) (now : ℕ) (octets : List ℕ) → owed_at p now ≡ 0 → sum octets * 8 ≤ burst_of p.rate → is_open (after_all p now octets) now ≡ true }
+    // Where the bucket is empty the pace stays open at that moment until more than 64 KiB has left, or less than a datagram is saved up.
+    ensures { (share : ℕ) (p : Pace) (now : ℕ) (octets : List ℕ) → p.rate ≡ Percent share → owed_at p now ≡ 0 → sum octets * 8 ≤ 524288
+        → sum octets * 8 + MAX_DATAGRAM * 8 ≤ p.credit → is_open (after_all p now octets) now ≡ true }
 {}
 
 /// What a jump passes over is a hole, and other numbers leave none.

@@ -5,6 +5,7 @@ mod bounds;
 mod claims;
 mod driving;
 mod dropout;
+mod feedback;
 mod holding;
 mod laws;
 mod media_rate;

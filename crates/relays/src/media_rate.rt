@@ -1,15 +1,12 @@
 //! How fast media is forwarded.
 ghost use Rattle.std.specs.Prelude.{◌≡◌};
-ghost use Rattle.relays.specs.MediaRate.{measured_after, measured_before, unmeasured};
+ghost use Rattle.relays.specs.MediaRate.{measured_after, measured_at, unmeasured};
 
-/// Media is taken to have so many bits a second until it was measured.
-const FIRST: u64 = 2_000_000;
-
-/// Over how long it is measured, in milliseconds. A stream that is silent for so long is measured anew.
+/// Over how long it is measured, in milliseconds. Of a stream that is silent for so long nothing is left.
 const SECOND: u64 = 1000;
 
 /// The rate of media as it is measured: its octets with a weight each, which is one as they leave and falls by a thousandth each
-/// millisecond. So it is the mean over about a second.
+/// millisecond. So it is the mean over about a second. Nothing is taken for granted.
 #[derive(Clone, Copy, Debug, PartialEq, Eq)]
 pub struct MediaRate {
     /// In bits a second.
@@ -24,7 +21,7 @@ impl MediaRate {
         ensures { result ≡ unmeasured }
     {
         MediaRate {
-            bits: FIRST,
+            bits: 0,
             last: None,
         }
     }
@@ -34,26 +31,23 @@ impl MediaRate {
         ensures { self.new ≡ measured_after self.old octets now }
     {
         self.bits = self
-            .before(now)
+            .bits_at(now)
             .saturating_add((octets as u64).saturating_mul(8));
         self.last = Some(now);
     }
 
-    /// What is left at the moment `now` of what was measured.
-    fn before(&self, now: u64) -> u64
-        ensures { result ≡ measured_before self.now.last self.now.bits now }
+    /// What is left at the moment `now` of what was measured, in bits a second.
+    pub fn bits_at(&self, now: u64) -> u64
+        ensures { result ≡ measured_at self.now now }
     {
         let Some(last) = self.last else {
-            return FIRST;
+            return 0;
         };
-        let passed = now.saturating_sub(last);
-        if passed >= SECOND {
-            return FIRST;
-        }
-        self.bits.saturating_mul(SECOND - passed) / SECOND
+        let left = SECOND.saturating_sub(now.saturating_sub(last));
+        self.bits.saturating_mul(left) / SECOND
     }
 
-    /// The rate, in bits a second.
+    /// The rate as the last packet left, in bits a second.
     pub fn bits(&self) -> u64
         ensures { result ≡ self.now.bits }
     {

@@ -1,12 +1,25 @@
 //! How fast retransmissions leave (RFC 4588, section 7: they share the rate of the session).
-ghost use Rattle.std.specs.Prelude.{◌≡◌, ◌<◌, ◌*◌, ◌^◌, ℕ, IsTrue, nat_le};
+ghost use Rattle.std.specs.Prelude.{◌≡◌, ◌<◌, ◌-◌, ◌*◌, ◌^◌, ◌&&◌, ℕ, nat_le};
 ghost use Rattle.stores.specs.Asking.{has_come};
-ghost use Rattle.relays.specs.Pacing.{burst_of, is_free, is_open, kilobits_of, new_pace, opens_after, owed_at, paced_beside, settled};
+ghost use Rattle.relays.specs.Pacing.{capped, depth_by, drain_beside, drain_of, earned_by, fallen, fast_of, is_free, is_open, kilobits_beside, least_by, most_beside, new_pace, opens_after, owed_at, paced_beside};
 
 use crate::media_rate::MediaRate;
+use rtpwire::MAX_DATAGRAM;
 
-/// So many bits may leave at once beside media: 32 KiB.
+/// So many bits may leave before any media has earned them, and are saved up beside media of any rate: 32 KiB.
 const BURST: u64 = 262_144;
+
+/// The bits of the longest datagram.
+const LONGEST: u64 = 8 * MAX_DATAGRAM as u64;
+
+/// No more bits leave at once, so that the usual buffer of a socket takes them: 64 KiB.
+const LUMP: u64 = 524_288;
+
+/// What is more leaves so many times as fast as the rate is,
+const FAST: u64 = 8;
+
+/// up to so many kilobits a second, or twice the rate.
+const FASTEST: u64 = 64_000;
 
 /// How fast retransmissions may leave.
 #[derive(Clone, Copy, Debug, PartialEq, Eq)]
@@ -15,16 +28,21 @@ pub enum Rate {
     Free,
     /// At so many kilobits a second, none before the one before it had its time.
     Kilobits(u64),
-    /// At so many per cent of the media's own rate. 32 KiB may leave at once, so that few that are lost never wait.
+    /// In no second more than so many per cent of the media's octets, and 32 KiB, so that few that are lost never wait; and in all no more than half
+    /// of that share, and 32 KiB. Each packet of media that leaves earns half of the share of its octets. What a second of it earns is saved up, and
+    /// 32 KiB, and leaves as fast as a network takes it: behind an outage what fills a queue leaves before more media does.
     Percent(u64),
 }
 
-/// A rate of retransmissions, and what left. It is a bucket: each one pours its bits in, as many run out each millisecond as the
-/// rate is in kilobits a second, and the next one may leave where no more than the burst is left in it.
+/// A rate of retransmissions, what left, and what was earned. Each retransmission spends its bits of what was earned, and pours them into a bucket, out
+/// of which as many run each millisecond as a rate is in kilobits a second; the next one may leave where little enough is left in it. So what was
+/// earned leaves fast, and not at once.
 #[derive(Clone, Copy, Debug, PartialEq, Eq)]
 pub struct Pace {
     rate: Rate,
     media: MediaRate,
+    /// The bits that were earned and not spent.
+    credit: u64,
     /// The bits in the bucket at the moment `since`, in milliseconds.
     owed: u64,
     since: u64,
@@ -38,6 +56,7 @@ impl Pace {
         Pace {
             rate,
             media: MediaRate::new(),
+            credit: BURST,
             owed: 0,
             since: 0,
         }
@@ -47,34 +66,51 @@ impl Pace {
     pub fn is_open(&self, now: u64) -> bool
         ensures { result ≡ is_open self.now now }
     {
-        self.rate.is_free() || self.owed_at(now) <= self.rate.burst()
+        self.rate.is_free()
+            || self.credit >= self.rate.least() && self.owed_at(now) <= self.rate.depth()
     }
 
     /// A retransmission of so many octets leaves at the moment `now`.
     pub fn spend(&mut self, octets: usize, now: u64)
         ensures { self.new ≡ opens_after self.old octets now }
     {
-        self.settle(now);
-        self.owed = self.owed.saturating_add((octets as u64).saturating_mul(8));
+        let bits = (octets as u64).saturating_mul(8);
+        self.credit = self.credit.saturating_sub(bits);
+        self.owed = self.owed_at(now).saturating_add(bits);
+        self.since = self.since.max(now);
     }
 
-    /// A media packet of so many octets leaves at the moment `now`.
+    /// A media packet of so many octets leaves at the moment `now`, and earns what retransmissions may have.
     pub fn measure(&mut self, octets: usize, now: u64)
         ensures { self.new ≡ paced_beside self.old octets now }
     {
-        self.settle(now);
+        self.owed = self.owed_at(now);
+        self.since = self.since.max(now);
         self.media.measure(octets, now);
+        let earned = self.rate.earned((octets as u64).saturating_mul(8));
+        let most = self.rate.most(self.media.bits());
+        self.credit = self.credit.saturating_add(earned).min(most);
     }
 
-    /// The moment from which on one may leave, in milliseconds. None: at no moment that is told.
+    /// Feedback is heard at the moment `now`. What was saved up falls with the media's rate, so that a stream that has stopped leaves 32 KiB.
+    pub fn fall(&mut self, now: u64)
+        ensures { self.new ≡ fallen self.old now }
+    {
+        let most = self.rate.most(self.media.bits_at(now));
+        self.credit = self.credit.min(most);
+    }
+
+    /// The moment from which on one may leave, in milliseconds. None: at no moment that is told, or not before media leaves.
     pub fn opens(&self) -> Option<u64>
         ensures { (now : ℕ) → now < 2 ^ 64 → has_come result now ≡ is_open self.now now }
     {
-        let more = self.owed.saturating_sub(self.rate.burst());
-        if self.rate.is_free() || more == 0 {
+        if self.rate.is_free() {
             return Some(0);
         }
-        self.since.checked_add(time_of(more, self.kilobits()))
+        if self.credit < self.rate.least() {
+            return None;
+        }
+        runs_out(self.since, self.owed, self.rate.depth(), self.drain())
     }
 
     /// What is left in the bucket at the moment `now`.
@@ -83,28 +119,15 @@ impl Pace {
     {
         let passed = now.saturating_sub(self.since);
         self.owed
-            .saturating_sub(self.kilobits().saturating_mul(passed))
+            .saturating_sub(self.drain().saturating_mul(passed))
     }
 
-    /// From the moment `now` on the bucket is looked at as it is then.
-    fn settle(&mut self, now: u64)
-        ensures { self.new ≡ settled self.old now }
-    {
-        self.owed = self.owed_at(now);
-        self.since = self.since.max(now);
-    }
-
-    /// The rate, in kilobits a second.
-    fn kilobits(&self) -> u64
-        ensures value { result ≡ kilobits_of self.now }
+    /// How much of it runs out each millisecond.
+    fn drain(&self) -> u64
+        ensures value { result ≡ drain_of self.now }
         ensures positive { 0 < result }
     {
-        let kilobits = match self.rate {
-            Rate::Free => 0,
-            Rate::Kilobits(kilobits) => kilobits,
-            Rate::Percent(share) => share.saturating_mul(self.media.bits()) / 100_000,
-        };
-        kilobits.max(1)
+        self.rate.drain(self.media.bits())
     }
 }
 
@@ -118,15 +141,90 @@ impl Rate {
         }
     }
 
-    /// How many bits may leave at once.
-    fn burst(&self) -> u64
-        ensures { result ≡ burst_of self.now }
+    /// What media of so many bits earns.
+    fn earned(&self, bits: u64) -> u64
+        ensures value { result ≡ earned_by self.now bits }
+        ensures small { result < 2 ^ 57 }
     {
         match self {
-            Rate::Percent(_) => BURST,
+            Rate::Percent(share) => share.saturating_mul(bits) / 200,
             _ => 0,
         }
     }
+
+    /// How much is saved up at most, beside media of so many bits a second.
+    fn most(&self, bits: u64) -> u64
+        ensures { result ≡ most_beside self.now bits }
+    {
+        BURST + self.earned(bits)
+    }
+
+    /// How much has to be saved up where one may leave.
+    fn least(&self) -> u64
+        ensures { result ≡ least_by self.now }
+    {
+        match self {
+            Rate::Percent(_) => LONGEST,
+            _ => 0,
+        }
+    }
+
+    /// How much may be left in the bucket where one may leave.
+    fn depth(&self) -> u64
+        ensures { result ≡ depth_by self.now }
+    {
+        match self {
+            Rate::Percent(_) => LUMP,
+            _ => 0,
+        }
+    }
+
+    /// The rate, in kilobits a second, beside media of so many bits a second.
+    fn kilobits(&self, bits: u64) -> u64
+        ensures value { result ≡ kilobits_beside self.now bits }
+        ensures positive { 0 < result }
+    {
+        let kilobits = match self {
+            Rate::Kilobits(kilobits) => *kilobits,
+            _ => self.earned(bits) / 1000,
+        };
+        kilobits.max(1)
+    }
+
+    /// How much runs out of the bucket each millisecond, beside media of so many bits a second.
+    fn drain(&self, bits: u64) -> u64
+        ensures value { result ≡ drain_beside self.now bits }
+        ensures positive { 0 < result }
+    {
+        let kilobits = self.kilobits(bits);
+        match self {
+            Rate::Percent(_) => fast(kilobits),
+            _ => kilobits,
+        }
+    }
+}
+
+/// How fast leaves what was earned, by a rate of so many kilobits a second.
+fn fast(kilobits: u64) -> u64
+    requires { 0 < kilobits }
+    ensures value { result ≡ fast_of kilobits }
+    ensures positive { 0 < result }
+{
+    let twice = kilobits.saturating_mul(2);
+    kilobits.saturating_mul(FAST).min(twice.max(FASTEST))
+}
+
+/// The moment from which on no more than so many bits are left of those that a bucket had, where so many kilobits run out each second. None: at no
+/// moment that is told.
+fn runs_out(since: u64, bits: u64, left: u64, kilobits: u64) -> Option<u64>
+    requires { 0 < kilobits }
+    ensures { (now : ℕ) → now < 2 ^ 64 → has_come result now ≡ nat_le (bits - capped (kilobits * (now - since))) left }
+{
+    let more = bits.saturating_sub(left);
+    if more == 0 {
+        return Some(0);
+    }
+    since.checked_add(time_of(more, kilobits))
 }
 
 /// How many milliseconds so many bits take.

@@ -1,5 +1,5 @@
 //! The relay behind a network that loses.
-ghost use Rattle.std.specs.Prelude.{◌≡◌, ◌↔◌, ◌+◌, ◌^◌, ◌≤◌, ◌<◌, ℕ, List, false, length, None, IfSome, IfOk, IsOk, OnErr, OnOk, take, true};
+ghost use Rattle.std.specs.Prelude.{◌≡◌, ◌↔◌, ◌+◌, ◌^◌, ◌≤◌, ◌<◌, ℕ, List, false, length, None, Some, IfSome, IfOk, IsOk, OnErr, OnOk, take, true};
 ghost use Rattle.receiver.specs.declared.answer.Played.TheVariants.{Gap, Packet, Wait};
 ghost use Rattle.receiver.specs.Peeking.{play_of};
 ghost use Rattle.rtpwire.specs.declared.content.Content.{Content};
@@ -9,11 +9,13 @@ ghost use Rattle.rtpwire.specs.Rtp.{RtpSpells};
 ghost use Rattle.rtpwire.specs.Content.{packet_of};
 ghost use Rattle.receiver.specs.Receiver.{begun, state_of};
 ghost use Rattle.stores.specs.Asking.{has_come};
+ghost use Rattle.timing.specs.FeedbackBudget.{nothing_earned};
 ghost use Rattle.relays.specs.Passing.{IsWithin};
-ghost use Rattle.relays.specs.ReceiveRelay.{Asks, AsksAgain, GoesOn, HearsFar, HearsFrom, Moves, is_done, new_receive_side, next_play, NothingDue, numbering_after, passes, patience_left, PlaysOut, SpeaksAs};
+ghost use Rattle.relays.specs.ReceiveRelay.{Asks, AsksAgain, AsksIn, AsksNot, AsksWithin, fewer_in, GoesOn, HearsFar, HearsFrom, Moves, is_done, moved, new_receive_side, next_play, NothingAsked, NothingDue, numbering_after, passes, patience_left, PlaysOut, SpeaksAs, StaysBut};
 
 use crate::bounds::Bounds;
 use crate::dropout::{dropout, probation};
+use crate::feedback::{earn, renew, room_for, spend};
 use crate::holding::{asking_time, hear_clock, release, timestamp_of, wait};
 use crate::moving::{is_next, is_quiet, media_number};
 use crate::numbering::Numbering;
@@ -23,15 +25,18 @@ use crate::writing::{copy_of, write};
 use endpoint::{AskingEndpoint, Heard, Kind, KindCounts, PathMeter, ReceiveCounts, Standing};
 use places::Place;
 use receiver::{HasStarted, Peeked, ReceiveFault, Receiver, ReceiverConfig};
-use rtpwire::{Datagram, MAX_DATAGRAM, Session};
+use rtpwire::{Datagram, MAX_DATAGRAM, Session, TooShort};
 use std::alloc::Global;
 use std::marker::Model;
 use std::net::SocketAddr;
 use stores::{AskRule, OutOfMemory, SlotRef, Window, sooner, window_by_place};
-use timing::Playout;
+use timing::{FeedbackBudget, Playout};
 
 /// How many places one ask names at most.
 const MOST: usize = 256;
+
+/// A NACK has so many octets at least.
+const SHORTEST: usize = 16;
 
 /// It takes a session from a network, asks the far side for what is lost, and hands what is played to a player as RTP of one SSRC,
 /// whose sequence numbers have holes only where places were given up or overrun, or a jump of the stream passed over them. How long it
@@ -54,6 +59,8 @@ pub struct ReceiveRelay<W: Window> {
     last: Option<u64>,
     /// The NACK that left last, where it is still to leave a second time.
     copy: Option<Datagram>,
+    /// What may leave for the far side, where that is earned by what comes from there.
+    budget: Option<FeedbackBudget>,
     bounds: Bounds,
 }
 
@@ -62,7 +69,7 @@ impl<W: Window> Model for ReceiveRelay<W> {
 
     ghost Value = { ReceiveSide };
 
-    ghost view = { λ r. record { core = r.endpoint.endpoint.core; spare = r.endpoint.endpoint.spare; run = r.endpoint.endpoint.run; probation = r.endpoint.endpoint.probation; counts = r.endpoint.endpoint.counts; asked = r.endpoint.asked; kinds = r.endpoint.kinds; seen = r.endpoint.endpoint.seen; far = r.far; came = r.came; reach = r.reach; player = r.player; numbering = r.numbering; hold = r.hold; meter = r.meter; last = r.last; copy = r.copy; bounds = r.bounds } };
+    ghost view = { λ r. record { core = r.endpoint.endpoint.core; spare = r.endpoint.endpoint.spare; run = r.endpoint.endpoint.run; probation = r.endpoint.endpoint.probation; counts = r.endpoint.endpoint.counts; asked = r.endpoint.asked; kinds = r.endpoint.kinds; seen = r.endpoint.endpoint.seen; far = r.far; came = r.came; reach = r.reach; player = r.player; numbering = r.numbering; hold = r.hold; meter = r.meter; last = r.last; copy = r.copy; budget = r.budget; bounds = r.bounds } };
 }
 
 impl<W: Window> ReceiveRelay<W> {
@@ -96,8 +103,16 @@ impl<W: Window> ReceiveRelay<W> {
             meter: PathMeter::new(),
             last: None,
             copy: None,
+            budget: None,
             bounds,
         })
+    }
+
+    /// What leaves for the far side is earned by what comes from there, from now on: so nobody can have it ask an address that sends nothing.
+    pub fn earn_feedback(&mut self)
+        ensures { self.new ≡ record self.old { budget = Some nothing_earned } }
+    {
+        self.budget = Some(FeedbackBudget::new());
     }
 
     /// What its endpoint answered so far.
@@ -139,6 +154,16 @@ impl<W: Window> ReceiveRelay<W> {
 
     /// From when on something is to be asked for.
     fn ask_moment(&self) -> Option<u64>
+        ensures { (now : ℕ) → now < 2 ^ 64 → has_come result now ≡ false → NothingAsked self.now now }
+    {
+        if room_for(&self.budget) < SHORTEST {
+            return None;
+        }
+        self.due_moment()
+    }
+
+    /// From when on a place is due.
+    fn due_moment(&self) -> Option<u64>
         ensures { (now : ℕ) → now < 2 ^ 64 → has_come result now ≡ false → NothingDue self.now now }
     {
         window_by_place();
@@ -178,6 +203,14 @@ impl<W: Window> ReceiveRelay<W> {
         }
     }
 
+    /// From when on something is to be played or asked for.
+    fn own_moment(&self) -> Option<u64>
+        ensures plays { (now : ℕ) → now < 2 ^ 64 → has_come result now ≡ false → next_play self.now now ≡ Wait }
+        ensures asks { (now : ℕ) → now < 2 ^ 64 → has_come result now ≡ false → NothingAsked self.now now }
+    {
+        sooner(self.front_moment(), self.ask_moment())
+    }
+
     /// Has the stream begin with this sequence number: so what is lost before the first packet that comes is asked for too.
     ///
     /// `HasStarted` (40): a packet was taken already, or it began before. The relay is then as it was.
@@ -212,12 +245,23 @@ impl<W: Window> ReceiveRelay<W> {
         if !is_far && !self.has_moved(octets, now) {
             return silent(Note::Stray);
         }
+        if !is_far {
+            self.move_away();
+        }
         let (answer, kind) = self.hear_session(from, octets, now);
         if is_far {
             silent(Note::Heard(answer, kind))
         } else {
             silent(Note::Moved(from, answer, kind))
         }
+    }
+
+    /// The far side is at another address: what was asked for is not asked for there a second time.
+    fn move_away(&mut self)
+        ensures { self.new ≡ moved self.old }
+    {
+        self.copy = None;
+        renew(&mut self.budget);
     }
 
     /// Hears a datagram of the far side, which is at this address, and measures the path by it.
@@ -232,6 +276,7 @@ impl<W: Window> ReceiveRelay<W> {
         let standing = Standing::before(self.core(), octets);
         self.far = from;
         self.came = Some(now);
+        earn(&mut self.budget, octets);
         let (answer, kind) = self.endpoint.on_datagram(octets, now);
         renumber(&mut self.numbering, &answer);
         hear_clock(&mut self.hold, &answer, timestamp_of(octets), now);
@@ -326,28 +371,66 @@ impl<W: Window> ReceiveRelay<W> {
     fn ask(&mut self, now: u64, out: &mut [u8]) -> Option<Turn>
         requires { length out.old ≡ MAX_DATAGRAM }
         ensures some { IfSome result (λ turn. Asks self.old now turn.note turn.leaves out.new self.new) }
-        ensures none { result ≡ None → NothingDue self.old now }
+        ensures none { result ≡ None → NothingAsked self.old now }
         ensures same { result ≡ None → self.new ≡ self.old }
         ensures within { IfSome result IsWithin }
         ensures room { length out.new ≡ MAX_DATAGRAM }
     {
-        match self.endpoint.ask_most_into(out, now, MOST) {
-            Ok(Some(len)) => {
-                self.meter
-                    .ask(self.endpoint.endpoint().core(), &out[..len], now);
-                self.copy = Some(copy_of(&out[..len]));
-                Some(Turn {
-                    note: Note::Asked,
-                    leaves: Some(Departure {
-                        side: Side::Far,
-                        to: self.far,
-                        len,
-                    }),
-                })
-            }
-            Ok(None) => None,
-            Err(_) => None,
+        let room = room_for(&self.budget);
+        if room < SHORTEST {
+            return None;
         }
+        let len = self.ask_within(room, now, out)?;
+        self.meter
+            .ask(self.endpoint.endpoint().core(), &out[..len], now);
+        self.copy = if spend(&mut self.budget, len) {
+            Some(copy_of(&out[..len]))
+        } else {
+            None
+        };
+        Some(Turn {
+            note: Note::Asked,
+            leaves: Some(Departure {
+                side: Side::Far,
+                to: self.far,
+                len,
+            }),
+        })
+    }
+
+    /// Writes a NACK of so many octets at most: of all that is due, as far as one has room for it, or else of as many places as have, a pair each.
+    fn ask_within(&mut self, room: usize, now: u64, out: &mut [u8]) -> Option<usize>
+        requires whole { length out.old ≡ MAX_DATAGRAM }
+        requires limit { room ≤ 268 }
+        ensures some { IfSome result (λ len. AsksWithin room self.old now len out.new self.new) }
+        ensures stays { StaysBut self.old self.new }
+        ensures none { result ≡ None → AsksNot room self.old now }
+        ensures same { result ≡ None → self.new ≡ self.old }
+        ensures room { length out.new ≡ MAX_DATAGRAM }
+    {
+        match self.ask_most(room, MOST, now, out) {
+            Ok(len) => len,
+            Err(_) => match self.ask_most(room, fewer_in(room), now, out) {
+                Ok(len) => len,
+                Err(_) => None,
+            },
+        }
+    }
+
+    /// Writes a NACK of so many places at most that are due, which has so many octets at most.
+    fn ask_most(
+        &mut self,
+        room: usize,
+        most: usize,
+        now: u64,
+        out: &mut [u8],
+    ) -> Result<Option<usize>, TooShort>
+        requires whole { length out.old ≡ MAX_DATAGRAM }
+        requires limit { room ≤ 268 }
+        ensures asks { AsksIn room most self.old now result out.new self.new }
+        ensures room { length out.new ≡ MAX_DATAGRAM }
+    {
+        self.endpoint.ask_most_into(&mut out[..room], now, most)
     }
 
     /// Sends the last NACK once more, so that the loss of one of both costs no time.
@@ -375,6 +458,13 @@ impl<W: Window> ReceiveRelay<W> {
             }),
         })
     }
+}
+
+/// How many places have room in a NACK of so many octets, with a pair each (RFC 4585, section 6.2.1).
+fn fewer_in(room: usize) -> usize
+    ensures { result ≡ fewer_in room }
+{
+    room.saturating_sub(12) / 4
 }
 
 /// Where a stream restarts with other numbers, those of what is played go on. What a jump ahead passed over is a hole.
@@ -428,7 +518,7 @@ impl<W: Window> Relay for ReceiveRelay<W> {
         if self.meter.is_new() || self.copy.is_some() {
             return Some(0);
         }
-        sooner(sooner(self.front_moment(), self.ask_moment()), self.end())
+        sooner(self.own_moment(), self.end())
     }
 
     fn is_done(&self, now: u64) -> bool {

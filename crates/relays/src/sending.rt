@@ -145,7 +145,7 @@ impl<H: History> SendRelay<H> {
         }
     }
 
-    /// Hears a datagram at the far side's socket, and measures the path by it.
+    /// Hears a datagram at the far side's socket, and measures the path by it. What retransmissions may have falls with the media's rate.
     fn hear_far(&mut self, from: SocketAddr, octets: &[u8], now: u64) -> Turn
         ensures hears { HearsFar self.old from octets.now now result.note result.leaves self.new }
         ensures within { IsWithin result }
@@ -154,6 +154,7 @@ impl<H: History> SendRelay<H> {
             return silent(Note::Stray);
         }
         self.meter.hear(&self.endpoint, &self.config, octets, now);
+        self.pace.fall(now);
         self.is_pending = true;
         silent(Note::Told(self.endpoint.on_datagram(octets)))
     }

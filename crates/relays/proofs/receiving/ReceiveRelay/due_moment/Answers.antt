@@ -2,7 +2,7 @@ use Rattle.std.proofs.Common.{◌≡◌, ℕ, rules, subst}
 use Rattle.stores.specs.Asking.{IsNextDue}
 use Rattle.stores.specs.Span.{Span}
 use Rattle.relays.proofs.Waking.{asks_nothing}
-use Rattle.relays.proofs.receiving.ReceiveRelay.ask_moment.Goals as goal
+use Rattle.relays.proofs.receiving.ReceiveRelay.due_moment.Goals as goal
 
 pub returns : goal.returns
 returns g c = λ now fits never.
