@@ -62,8 +62,10 @@ def one_type(checks, stage):
     """With a type, other packets of the application are not sent, whichever come first."""
     far = End(stage)
     sender = stage.send(far.at, "--type", 100, "--packets", 10)
-    for kind, ssrc in ((96, 1), (100, 2), (101, 2), (100, 2)):
-        App(stage, sender.at, kind=kind, ssrc=ssrc, number=10).stream(plain(5, first=kind), 1000)
+    app = App(stage, sender.at)
+    for app.kind, app.ssrc in ((96, 1), (100, 2), (101, 2), (100, 2)):
+        app.number = 10
+        app.stream(plain(5, first=app.kind), 1000)
     ends(checks, "a type", sender)
     media = [one for one in far.packets() if one.kind == 100]
     checks.same({(one.ssrc, one.kind) for one in far.packets()}, {(2, 100), (3, 101)}, "a type: SSRCs and types")

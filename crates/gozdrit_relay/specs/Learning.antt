@@ -23,7 +23,8 @@ use Rattle.relays.specs.Numbering.{anew}
 use Rattle.relays.specs.Pacing.{new_pace}
 use Rattle.relays.specs.ReceiveRelay.{Moves, ReceiveSide, new_receive_side}
 use Rattle.timing.specs.FeedbackBudget.{nothing_earned}
-use Rattle.relays.specs.SendRelay.{SendSide, is_of_stream, new_send_side}
+use Rattle.relays.specs.Following.{new_stream}
+use Rattle.relays.specs.SendRelay.{SendSide, IsOfStream, is_kept_from, new_send_side}
 use Rattle.gozdrit_relay.specs.declared.known.Known.{Known}
 use Rattle.gozdrit_relay.specs.declared.learners.ReceiveLearner.{ReceiveLearner}
 use Rattle.gozdrit_relay.specs.declared.learners.SendLearner.{SendLearner}
@@ -40,17 +41,25 @@ abbrev pub BeginsBeside : (is_of : Bool) → Known → RtpPacket → (ssrc : ℕ
 BeginsBeside true k p ssrc b = b ≡ None
 BeginsBeside false k p ssrc b = BeginsUnder k p ssrc b
 
--- Before a network: a packet of the application that the relay there is would not send.
-abbrev pub is_of_sender : Option SendSide → RtpPacket → (now : ℕ) → Bool
-is_of_sender None p now = false
-is_of_sender (Some r) p now = is_of_stream r p.ssrc p.payload_type now
+-- Before a network: a packet of the application that the relay there is would send, or one beside a stream that is bound to another SSRC,
+-- begins none.
+abbrev pub IsOfSender : Option SendSide → SocketAddr → RtpPacket → (now : ℕ) → Bool → Type 0
+IsOfSender None from p now answer = answer ≡ false
+IsOfSender (Some r) from p now answer =
+    (is_of : Bool) × IsOfStream r from p.ssrc p.payload_type now is_of × (answer ≡ (is_of || is_kept_from r p.ssrc))
 
-abbrev pub SendBeginsOf : SendLearner → Option SendSide → (now : ℕ) → RtpPacket → Option Beginning → Type 0
-SendBeginsOf l before now p b = BeginsBeside (is_of_sender before p now) l.known p (given l.known.ssrc p.ssrc) b
+abbrev pub SendBeginsOf : SendLearner → (from : SocketAddr) → Option SendSide → (now : ℕ) → RtpPacket → Option Beginning → Type 0
+SendBeginsOf l from before now p b =
+    (is_of : Bool) × IsOfSender before from p now is_of × BeginsBeside is_of l.known p (given l.known.ssrc p.ssrc) b
 
-abbrev pub SendBegins : SendLearner → Side → (octets : List ℕ) → Option SendSide → (now : ℕ) → Option Beginning → Type 0
-SendBegins l Far octets before now b = b ≡ None
-SendBegins l Near octets before now b = BeginsWith (SendBeginsOf l before now) octets b
+abbrev pub SendBegins : SendLearner → Side → (from : SocketAddr) → (octets : List ℕ) → Option SendSide → (now : ℕ) → Option Beginning → Type 0
+SendBegins l Far from octets before now b = b ≡ None
+SendBegins l Near from octets before now b = BeginsWith (SendBeginsOf l from before now) octets b
+
+-- The stream under the SSRC that an option gives is bound to it. One under another SSRC, which is sent under the option's, is not.
+abbrev pub is_bound : (given : Option ℕ) → (ssrc : ℕ) → Bool
+is_bound None ssrc = false
+is_bound (Some wanted) ssrc = wanted == ssrc
 
 -- what bounds leave for a session after others that had so many packets
 abbrev pub packets_left : Option ℕ → (passed : ℕ) → Option ℕ
@@ -71,7 +80,7 @@ followed_if follows s = record s { meter = if follows then meter_following else 
 -- The relay sends that stream under that session, to the far side: every reporter is heard, and a packet is retransmitted 255 times at most.
 pub record SendMakes (l : SendLearner) (b : Beginning) (before : Option SendSide) (relay : SendSide) (note : Note) (l' : SendLearner) : Type 0 where
   pub is_relay : relay ≡ followed_if l.follows
-      (new_send_side (new_sending (sending.config_of b.session (given l.first b.number) l.rtx_first 255 true) (empty_past l.history)) l.rule relay.moments l.far (record { ssrc = b.ssrc; last = None })
+      (new_send_side (new_sending (sending.config_of b.session (given l.first b.number) l.rtx_first 255 true) (empty_past l.history)) l.rule relay.moments l.far (new_stream b.ssrc (is_bound l.known.ssrc b.ssrc))
       (new_pace l.rate) (bounds_left l.bounds (sent_before before l.passed)))
   pub moments : length relay.moments ≡ l.history
   pub told : note ≡ Began b.session (given l.first b.number) l.far

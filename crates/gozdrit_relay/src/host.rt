@@ -45,6 +45,8 @@ pub struct Host<'a> {
     /// From where the last datagram came, and what of such came from elsewhere.
     from: Option<SocketAddr>,
     strays: Seldom,
+    /// Where the last packet came from that was sent on.
+    application: Option<SocketAddr>,
     /// Packets whose payload is too long.
     too_long: Seldom,
     /// A line of counts each so many milliseconds, and the moment of the next one.
@@ -90,6 +92,7 @@ impl<'a> Host<'a> {
             journal,
             from: None,
             strays: Seldom::NONE,
+            application: None,
             too_long: Seldom::NONE,
             stats: match stats {
                 Some(seconds) => {
@@ -224,15 +227,35 @@ impl<'a> Host<'a> {
 
     /// Writes the line of datagrams that came from elsewhere, at most each ten seconds.
     fn tell_strays(&mut self, note: &Note, now: u64) {
-        let (Note::Stray, Some(from)) = (note, self.from) else {
+        let Some(from) = self.from else {
             return;
         };
+        if !self.is_stray(note, from) {
+            return;
+        }
         let Some(count) = self.strays.come(now) else {
             return;
         };
         self.line.clear();
         if push_strays(self.rt, &mut self.line, count, from).is_ok() {
             let _ = self.rt.stderr().write_all(&self.line);
+        }
+    }
+
+    /// Whether a datagram came from elsewhere than what the relay has a session with: a stray, or a packet of another application than the
+    /// one whose stream is sent on.
+    fn is_stray(&mut self, note: &Note, from: SocketAddr) -> bool {
+        match note {
+            Note::Stray => true,
+            Note::Sent(_) => {
+                self.application = Some(from);
+                false
+            }
+            Note::Unsent => match self.application {
+                Some(application) => from != application,
+                None => false,
+            },
+            _ => false,
         }
     }
 

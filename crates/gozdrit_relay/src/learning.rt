@@ -3,7 +3,8 @@ ghost use Rattle.std.specs.Prelude.{◌≡◌, ◌<◌, false, Some, IfSome};
 ghost use Rattle.relays.specs.declared.outside.Side.TheVariants.{Near, Far};
 ghost use Rattle.rtpwire.specs.Rtp.{RtpPacket, RtpSpells};
 ghost use Rattle.endpoint.specs.Demultiplex.{is_control};
-ghost use Rattle.gozdrit_relay.specs.Learning.{BeginsAs, IsBelieved, IsOfReceiver, ReceiveBegins, ReceiveBeginsOf, SendBegins, SendBeginsOf, bounds_left, config_for, first_retry, followed_if, held_by, is_of_sender, numbering_for, played_before, sent_before};
+ghost use Rattle.relays.specs.Following.{new_stream};
+ghost use Rattle.gozdrit_relay.specs.Learning.{BeginsAs, IsBelieved, IsOfReceiver, ReceiveBegins, ReceiveBeginsOf, SendBegins, SendBeginsOf, bounds_left, config_for, first_retry, followed_if, held_by, IsOfSender, is_bound, numbering_for, played_before, sent_before};
 
 use crate::learners::{ReceiveLearner, SendLearner};
 use crate::machine::{Beginning, Learner, Learnt};
@@ -55,13 +56,31 @@ fn bounds_left(bounds: Bounds, passed: u64) -> Bounds
     }
 }
 
-/// Whether a packet is of the session that a relay has.
-fn is_of_sender<H: History>(before: &Option<SendRelay<H>>, view: &RtpView<'_>, now: u64) -> bool
-    ensures { result ≡ is_of_sender before.now view.now now }
+/// Whether a packet from an address is of the session that a relay has, or one that its stream keeps out.
+fn is_of_sender<H: History>(
+    before: &Option<SendRelay<H>>,
+    from: SocketAddr,
+    view: &RtpView<'_>,
+    now: u64,
+) -> bool
+    ensures { IsOfSender before.now from view.now now result }
 {
     match before {
-        Some(relay) => relay.is_of(view.ssrc(), view.payload_type(), now),
+        Some(relay) => {
+            let is_of = relay.is_of(from, view.ssrc(), view.payload_type(), now);
+            is_of | relay.is_kept_from(view.ssrc())
+        }
         None => false,
+    }
+}
+
+/// The stream of an application under this SSRC, which is bound to it where an option gives it.
+fn stream_of(given: Option<u32>, ssrc: u32) -> Stream
+    ensures { result ≡ new_stream ssrc (is_bound given ssrc) }
+{
+    match given {
+        Some(wanted) if wanted == ssrc => Stream::bound(ssrc),
+        _ => Stream::new(ssrc),
     }
 }
 
@@ -76,17 +95,18 @@ fn sent_before<H: History>(before: &Option<SendRelay<H>>, passed: u64) -> u64
 }
 
 impl SendLearner {
-    /// Which session a datagram of the application may begin beside that of a relay.
+    /// Which session a datagram from an address may begin beside that of a relay.
     fn heard<H: History>(
         &self,
+        from: SocketAddr,
         octets: &[u8],
         before: &Option<SendRelay<H>>,
         now: u64,
     ) -> Option<Beginning>
-        ensures { SendBegins self.now Near octets.now before.now now result }
+        ensures { SendBegins self.now Near from octets.now before.now now result }
     {
         match packet_in(octets) {
-            Some(view) => self.of_packet(&view, before, now),
+            Some(view) => self.of_packet(&view, from, before, now),
             None => None,
         }
     }
@@ -95,12 +115,13 @@ impl SendLearner {
     fn of_packet<H: History>(
         &self,
         view: &RtpView<'_>,
+        from: SocketAddr,
         before: &Option<SendRelay<H>>,
         now: u64,
     ) -> Option<Beginning>
-        ensures { SendBeginsOf self.now before.now now view.now result }
+        ensures { SendBeginsOf self.now from before.now now view.now result }
     {
-        if is_of_sender(before, view, now) {
+        if is_of_sender(before, from, view, now) {
             return None;
         }
         let ssrc = self.known.ssrc.unwrap_or(view.ssrc());
@@ -123,7 +144,7 @@ impl<H: History> Learner<SendRelay<H>> for SendLearner {
 
     ghost listens = { λ learner. Near };
 
-    ghost begins = { λ learner side from octets before now beginning. SendBegins learner side octets before now beginning };
+    ghost begins = { λ learner side from octets before now beginning. SendBegins learner side from octets before now beginning };
 
     ghost makes = { λ learner beginning from before relay note new. SendMakes learner beginning before relay note new };
 
@@ -134,13 +155,13 @@ impl<H: History> Learner<SendRelay<H>> for SendLearner {
     fn beginning(
         &self,
         side: Side,
-        _from: SocketAddr,
+        from: SocketAddr,
         octets: &[u8],
         before: &Option<SendRelay<H>>,
         now: u64,
     ) -> Option<Beginning> {
         match side {
-            Side::Near => self.heard(octets, before, now),
+            Side::Near => self.heard(from, octets, before, now),
             Side::Far => None,
         }
     }
@@ -160,7 +181,7 @@ impl<H: History> Learner<SendRelay<H>> for SendLearner {
             self.rule,
             self.history,
             self.far,
-            Stream::new(beginning.ssrc),
+            stream_of(self.known.ssrc, beginning.ssrc),
             Pace::new(self.rate),
             bounds_left(self.bounds, passed),
         )?;

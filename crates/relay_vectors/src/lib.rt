@@ -21,3 +21,5 @@ mod script;
 mod sending;
 #[cfg(test)]
 mod silences;
+#[cfg(test)]
+mod streams;

@@ -16,6 +16,9 @@ const FAR: u16 = 6004;
 
 const STRANGER: u16 = 6666;
 
+/// Another application.
+const OTHERS: u16 = 4001;
+
 /// A relay of a session whose first number is 65535, for an application's stream, until so many packets were sent, by a rule of what is
 /// retransmitted.
 fn relay(
@@ -199,6 +202,28 @@ fn a_stream_that_takes_the_place_of_another(rt: HostRuntime) -> Result<(), Fail>
     const LEAVES: &[(usize, Passing)] = &[(2, (1005, Far, FAR, SENT_SECOND))];
     let done = done(rt.alloc(), Rate::Free, COMES, LEAVES)?;
     assert!(rt; done.has_left && done.sent == 2);
+    Ok(())
+}
+
+/// From the port of another one, packets of a stream's SSRC are sent once the stream was silent for a second, as another SSRC's are; and
+/// then no more from the first one's.
+#[test]
+fn a_stream_that_comes_from_elsewhere(rt: HostRuntime) -> Result<(), Fail> {
+    const COMES: &[Passing] = &[
+        (5, Near, APPLICATION, FIRST),
+        (1004, Near, OTHERS, SECOND),
+        (1005, Near, OTHERS, SECOND),
+        (1006, Near, APPLICATION, FIRST),
+    ];
+    const LEAVES: &[(usize, Passing)] = &[
+        (0, (5, Far, FAR, SENT_FIRST)),
+        // Silent for a tenth of a second.
+        (1, (105, Far, FAR, REPAIRED_FIRST)),
+        (2, (1005, Far, FAR, SENT_SECOND)),
+        (3, (1105, Far, FAR, REPAIRED_SECOND)),
+    ];
+    let done = done(rt.alloc(), Rate::Free, COMES, LEAVES)?;
+    assert!(rt; done.has_left && done.sent == 2 && done.gone == 4);
     Ok(())
 }
 

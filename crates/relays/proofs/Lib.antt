@@ -7,3 +7,4 @@ pub mod Waking
 pub mod Marked
 pub mod Holes
 pub mod Within
+pub mod Following

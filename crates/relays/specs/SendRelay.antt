@@ -34,7 +34,7 @@ use Rattle.relays.specs.declared.relay.Note.{Note}
 use Rattle.relays.specs.declared.relay.Note.TheVariants.{Sent, Unsent, Told, Stray, Retransmitted, PassedOver, Marked}
 use Rattle.relays.specs.declared.relay.Departure.{Departure}
 use Rattle.relays.specs.declared.relay.Turn.{Turn}
-use Rattle.relays.specs.Following.{follows, followed_at}
+use Rattle.relays.specs.Following.{Follows, followed_by, keeps_out}
 use Rattle.relays.specs.Ending.{is_over}
 use Rattle.relays.specs.Pacing.{fallen, is_open, opens_after, paced_beside}
 use Rattle.relays.specs.Leaving.{GoesTo, octets_of}
@@ -62,43 +62,49 @@ new_send_side core rule moments far stream pace bounds =
 abbrev pub is_done : SendSide → (now : ℕ) → Bool
 is_done s now = is_over s.bounds s.counts.sent s.stream.last now
 
--- a packet of this SSRC and type is of its stream, or of one that takes its place
-abbrev pub is_of_stream : SendSide → (ssrc payload_type now : ℕ) → Bool
-is_of_stream s ssrc payload_type now = (payload_type == s.core.config.session.media_type) && follows s.stream ssrc now
+-- a packet of this SSRC and type from this address is of its stream, or of one that takes its place
+abbrev pub IsOfStream : SendSide → SocketAddr → (ssrc payload_type now : ℕ) → Bool → Type 0
+IsOfStream s from ssrc payload_type now answer =
+    (of_stream : Bool) × Follows s.stream from ssrc now of_stream
+    × (answer ≡ ((payload_type == s.core.config.session.media_type) && of_stream))
+
+-- its stream is bound to another SSRC
+abbrev pub is_kept_from : SendSide → (ssrc : ℕ) → Bool
+is_kept_from s ssrc = keeps_out s.stream ssrc
 
 -- A datagram of the application is this packet of the stream, with the session's media type, and carries this content.
-pub record Carries (session : Streams) (stream : Stream) (octets : List ℕ) (now : ℕ) (packet : RtpPacket) (content : Content) : Type 0 where
+pub record Carries (session : Streams) (stream : Stream) (from : SocketAddr) (octets : List ℕ) (now : ℕ) (packet : RtpPacket) (content : Content) : Type 0 where
   pub spelled : RtpSpells packet octets
   pub of_type : packet.payload_type ≡ session.media_type
-  pub of_stream : follows stream packet.ssrc now ≡ true
+  pub of_stream : Follows stream from packet.ssrc now true
   pub holds : IsTooLong packet → ⊥
   pub carried : packet_of content packet.padding packet.sequence packet.payload_type packet.ssrc ≡ packet
 
-abbrev pub CarriesNothing : Streams → Stream → (octets : List ℕ) → (now : ℕ) → Type 0
-CarriesNothing session stream octets now = (packet : RtpPacket) (content : Content) → Carries session stream octets now packet content → ⊥
+abbrev pub CarriesNothing : Streams → Stream → (from : SocketAddr) → (octets : List ℕ) → (now : ℕ) → Type 0
+CarriesNothing session stream from octets now = (packet : RtpPacket) (content : Content) → Carries session stream from octets now packet content → ⊥
 
 -- it carries this content under this SSRC
-pub record IsCarried (session : Streams) (stream : Stream) (octets : List ℕ) (now ssrc : ℕ) (content : Content) : Type 0 where
+pub record IsCarried (session : Streams) (stream : Stream) (from : SocketAddr) (octets : List ℕ) (now ssrc : ℕ) (content : Content) : Type 0 where
   pub packet : RtpPacket
-  pub carries : Carries session stream octets now packet content
+  pub carries : Carries session stream from octets now packet content
   pub ssrc_is : packet.ssrc ≡ ssrc
 
 -- It is sent at the next place of the session, to the far side, and retransmissions are paced by what left.
-pub record Forwarded (old : SendSide) (octets : List ℕ) (now place : ℕ) (d : Departure) (out : List ℕ) (new : SendSide) : Type 0 where
+pub record Forwarded (old : SendSide) (from : SocketAddr) (octets : List ℕ) (now place : ℕ) (d : Departure) (out : List ℕ) (new : SendSide) : Type 0 where
   pub packet : RtpPacket
   pub content : Content
-  pub carries : Carries old.core.config.session old.stream octets now packet content
+  pub carries : Carries old.core.config.session old.stream from octets now packet content
   pub sends : SendsAt old.core.config.session old.core.past.capacity (state_of old.core) content 0 place (octets_of d out) (state_of new.core)
   pub goes : GoesTo d Far old.far
   pub config : new.core.config ≡ old.core.config
-  pub rest : new ≡ record old { core = new.core; counts = count_sent (length content.payload.items) old.counts; moments = told old.moments place (just_sent now); meter = meter_sent old.meter now; stream = followed_at packet.ssrc now; pace = paced_beside old.pace d.len now; tail = true }
+  pub rest : new ≡ record old { core = new.core; counts = count_sent (length content.payload.items) old.counts; moments = told old.moments place (just_sent now); meter = meter_sent old.meter now; stream = followed_by old.stream from packet.ssrc now; pace = paced_beside old.pace d.len now; tail = true }
 
 -- what is done with a datagram of the application: it is sent, or it carries nothing, or there is no place left
-abbrev pub Forwards : SendSide → (octets : List ℕ) → (now : ℕ) → Note → Option Departure → (out : List ℕ) → SendSide → Type 0
-Forwards old octets now (Sent place) (Some d) out new = Forwarded old octets now place d out new
-Forwards old octets now Unsent None out new =
-    ((packet : RtpPacket) (content : Content) → Carries old.core.config.session old.stream octets now packet content → 2 ^ 48 ≤ old.core.next) × (new ≡ old)
-Forwards old octets now note leaves out new = ⊥
+abbrev pub Forwards : SendSide → (from : SocketAddr) → (octets : List ℕ) → (now : ℕ) → Note → Option Departure → (out : List ℕ) → SendSide → Type 0
+Forwards old from octets now (Sent place) (Some d) out new = Forwarded old from octets now place d out new
+Forwards old from octets now Unsent None out new =
+    ((packet : RtpPacket) (content : Content) → Carries old.core.config.session old.stream from octets now packet content → 2 ^ 48 ≤ old.core.next) × (new ≡ old)
+Forwards old from octets now note leaves out new = ⊥
 
 -- The path is measured by a datagram of the far side, what retransmissions may have falls with the media's rate, and the endpoint hears it.
 pub record HearsFeedback (old : SendSide) (octets : List ℕ) (now : ℕ) (answer : Result Answer FeedbackFault) (new : SendSide) : Type 0 where
@@ -113,7 +119,7 @@ HearsFar old from octets now Stray None new = (from ≡ old.far → ⊥) × (new
 HearsFar old from octets now note leaves new = ⊥
 
 abbrev pub Hears : SendSide → Side → (from : SocketAddr) → (octets : List ℕ) → (now : ℕ) → Turn → (out : List ℕ) → SendSide → Type 0
-Hears old Near from octets now turn out new = Forwards old octets now turn.note turn.leaves out new
+Hears old Near from octets now turn out new = Forwards old from octets now turn.note turn.leaves out new
 Hears old Far from octets now turn out new = HearsFar old from octets now turn.note turn.leaves new
 
 -- the stream, of which something came, is silent for a tenth of a second

@@ -6,7 +6,7 @@ ghost use Rattle.stores.specs.Past.{empty_past};
 ghost use Rattle.stores.specs.Asking.{has_come};
 ghost use Rattle.endpoint.specs.ResendMetering.{meter_following};
 ghost use Rattle.relays.specs.Passing.{IsWithin};
-ghost use Rattle.relays.specs.SendRelay.{CarriesNothing, Forwards, HearsFar, IsCarried, is_done, is_of_stream, is_tail_at, new_send_side, NothingOpen, SpeaksAs};
+ghost use Rattle.relays.specs.SendRelay.{CarriesNothing, Forwards, HearsFar, IsCarried, is_done, is_kept_from, IsOfStream, is_tail_at, new_send_side, NothingOpen, SpeaksAs};
 
 use crate::bounds::Bounds;
 use crate::outside::Side;
@@ -109,28 +109,37 @@ impl<H: History> SendRelay<H> {
         self.endpoint.passed()
     }
 
-    /// Whether a packet of this SSRC and payload type is one of its stream, at the moment `now`, or of one that takes its place.
-    pub fn is_of(&self, ssrc: u32, payload_type: u8, now: u64) -> bool
-        ensures { result ≡ is_of_stream self.now ssrc payload_type now }
+    /// Whether a packet from an address, of this SSRC and payload type, is one of its stream at the moment `now`, or of one that takes its
+    /// place.
+    pub fn is_of(&self, from: SocketAddr, ssrc: u32, payload_type: u8, now: u64) -> bool
+        ensures { IsOfStream self.now from ssrc payload_type now result }
     {
-        payload_type == self.config.session().media_type() && self.stream.follows(ssrc, now)
+        let of_stream = self.stream.follows(from, ssrc, now);
+        payload_type == self.config.session().media_type() && of_stream
+    }
+
+    /// Whether its stream is bound to another SSRC.
+    pub fn is_kept_from(&self, ssrc: u32) -> bool
+        ensures { result ≡ is_kept_from self.now ssrc }
+    {
+        self.stream.keeps_out(ssrc)
     }
 
     /// Sends a datagram of the application, if it is a packet of the stream.
-    fn forward(&mut self, octets: &[u8], now: u64, out: &mut [u8]) -> Turn
+    fn forward(&mut self, from: SocketAddr, octets: &[u8], now: u64, out: &mut [u8]) -> Turn
         requires { length out.old ≡ MAX_DATAGRAM }
-        ensures forwards { Forwards self.old octets.now now result.note result.leaves out.new self.new }
+        ensures forwards { Forwards self.old from octets.now now result.note result.leaves out.new self.new }
         ensures within { IsWithin result }
         ensures room { length out.new ≡ MAX_DATAGRAM }
     {
         let session = self.config.session();
-        let Some((ssrc, carried)) = carried(&session, &self.stream, octets, now) else {
+        let Some((ssrc, carried)) = carried(&session, &self.stream, from, octets, now) else {
             return silent(Note::Unsent);
         };
         let Ok(Ok((place, len))) = self.endpoint.send_into(out, &carried, 0, now) else {
             return silent(Note::Unsent);
         };
-        self.stream.follow(ssrc, now);
+        self.stream.follow(from, ssrc, now);
         self.pace.measure(len, now);
         self.meter.send(now);
         self.tail = true;
@@ -240,11 +249,12 @@ impl<H: History> SendRelay<H> {
 fn carried<'a>(
     session: &Session,
     stream: &Stream,
+    from: SocketAddr,
     octets: &'a [u8],
     now: u64,
 ) -> Option<(u32, Carried<'a>)>
-    ensures some { IfSome result (λ c. IsCarried session.now stream.now octets.now now c.0 c.1) }
-    ensures none { result ≡ None → CarriesNothing session.now stream.now octets.now now }
+    ensures some { IfSome result (λ c. IsCarried session.now stream.now from octets.now now c.0 c.1) }
+    ensures none { result ≡ None → CarriesNothing session.now stream.now from octets.now now }
 {
     let Ok(view) = RtpView::read(octets) else {
         return None;
@@ -253,7 +263,7 @@ fn carried<'a>(
     if view.payload_type() != session.media_type() {
         return None;
     }
-    if !stream.follows(ssrc, now) {
+    if !stream.follows(from, ssrc, now) {
         return None;
     }
     match Carried::with_payload(&view, view.payload()) {
@@ -280,7 +290,7 @@ impl<H: History> Relay for SendRelay<H> {
         out: &mut [u8],
     ) -> Turn {
         match side {
-            Side::Near => self.forward(octets, now, out),
+            Side::Near => self.forward(from, octets, now, out),
             Side::Far => self.hear_far(from, octets, now),
         }
     }

@@ -1,8 +1,9 @@
-use Rattle.std.proofs.Common.{◌≡◌, ◌∙◌, ℕ, List, ap, refl, subst, sym}
+use Rattle.std.proofs.Common.{◌≡◌, ◌∙◌, ℕ, List, true, false, ap, refl, subst, sym}
 use Rattle.std.proofs.lemmas.Bool.{true≢false}
 use Rattle.rtpwire.specs.Rtp.{RtpPacket}
 use Rattle.rtpwire.specs.Content.{IsTooLong}
-use Rattle.relays.specs.Following.{follows}
+use Rattle.relays.specs.Following.{Follows}
+use Rattle.relays.proofs.Following.{follows_alike}
 use Rattle.relays.proofs.Reading.{same_packet}
 use Rattle.relays.proofs.sending.carried.Goals as goal
 
@@ -22,7 +23,8 @@ pub returns-then-not-follows-clause-none : goal.returns-then-not-follows-clause-
 returns-then-not-follows-clause-none c same packet content carries =
     let is = same_packet c.read.result c.in-Ok.view packet c.in-Ok.is (c.read.ensures.only packet carries.spelled) in
     let its : packet.ssrc ≡ c.ssrc-ssrc.result = ap (λ (p : RtpPacket). p.ssrc) (sym is) ∙ sym c.ssrc-ssrc.ensures in
-    true≢false (sym carries.of_stream ∙ ap (λ (n : ℕ). follows c.args.stream.now n c.args.now) its ∙ sym c.if-not-follows.ensures)
+    let does = subst (λ (n : ℕ). Follows c.args.stream.now c.args.from n c.args.now true) its carries.of_stream in
+    true≢false (follows_alike c.args.stream.now c.args.from c.ssrc-ssrc.result c.args.now true false does c.if-not-follows.ensures)
 
 pub returns-in-Err-clause-none : goal.returns-in-Err-clause-none
 returns-in-Err-clause-none c same packet content carries =

@@ -12,9 +12,9 @@ returns-in_default-clause-forwards g c =
     let its : old.core.config.session ≡ c.session-session.result =
     ap (λ (s : SendSide). s.core.config.session) (sym c.self.view_is) ∙ ap (λ (config : Config). config.session) (sym c.self.invariant.0) ∙ sym c.session-session.ensures in
     let followed : old.stream ≡ c.self.inside.stream = ap (λ (s : SendSide). s.stream) (sym c.self.view_is) in
-    subst (λ (turn : Turn). Forwards old c.args.octets.now c.args.now turn.note turn.leaves c.args.out.now old) (sym c.silent.ensures) (
+    subst (λ (turn : Turn). Forwards old c.args.from c.args.octets.now c.args.now turn.note turn.leaves c.args.out.now old) (sym c.silent.ensures) (
       (λ packet content carries. absurd (c.carried.ensures.none c.in_default.is packet content
-          (subst (λ (s : Streams). Carries s c.self.inside.stream c.args.octets.now c.args.now packet content) its
-          (subst (λ (s : Stream). Carries old.core.config.session s c.args.octets.now c.args.now packet content) followed carries)))),
+          (subst (λ (s : Streams). Carries s c.self.inside.stream c.args.from c.args.octets.now c.args.now packet content) its
+          (subst (λ (s : Stream). Carries old.core.config.session s c.args.from c.args.octets.now c.args.now packet content) followed carries)))),
       refl,
     )
