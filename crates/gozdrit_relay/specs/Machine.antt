@@ -1,5 +1,6 @@
 -- A relay that learns its session: which one there is, whom it falls to, and what is done with what comes.
 use Rattle.std.specs.Prelude.{◌≡◌, ℕ, ◌-◌, ◌||◌, Bool, true, false, not, nat_le, List, Option, Some, None, is_some, Result, Ok, if◌then◌else◌}
+use Rattle.std.specs.Global.{Global}
 use Rattle.std.specs.declared.net.socket_addr.SocketAddr.{SocketAddr}
 use Rattle.stores.specs.Asking.{has_come}
 use Rattle.endpoint.specs.declared.heard.Heard.{Heard}
@@ -12,7 +13,7 @@ use Rattle.relays.specs.declared.peers.Peer.{Peer}
 use Rattle.relays.specs.declared.relay.Note.{Note}
 use Rattle.relays.specs.declared.relay.Note.TheVariants as note
 use Rattle.relays.specs.declared.relay.Turn.{Turn}
-use Rattle.relays.specs.Claims.{HearsClaim, no_claims, taken_once, unclaimed}
+use Rattle.relays.specs.Claims.{HearsClaim, begun_anew, no_claims, taken_once}
 use Rattle.relays.specs.Peers.{are_admitted}
 use Rattle.relays.specs.Running.{Hearing, Speaking, Ending}
 use Rattle.gozdrit_relay.specs.declared.machine.Beginning.{Beginning}
@@ -26,14 +27,14 @@ abbrev pub Makings : (L R : Type 0) → Type 1
 Makings L R = L → Beginning → SocketAddr → Option R → R → Note → L → Type 0
 
 -- it learnt nothing
-abbrev pub new_machine : {L R : Type 0} → L → List Peer → (stream : ℕ) → (until : Option ℕ) → Machine L R
-new_machine learner peers stream until =
+abbrev pub new_machine : {L R : Type 0} → Global → L → List Peer → (stream : ℕ) → (until : Option ℕ) → Machine L R
+new_machine alloc learner peers stream until =
     record {
       learner = learner;
       relay = None;
       note = None;
       last = 0;
-      claims = no_claims stream;
+      claims = no_claims alloc stream;
       peers = peers;
       until = until;
       is_out_of_memory = false;
@@ -51,7 +52,7 @@ is_quiet last now = nat_le 1000 (now - last)
 
 -- The session falls to the sender of a packet at once where there is none, or where it is quiet, and else by what that claims.
 abbrev pub FallsBy : (is_free : Bool) → Claims → Stranger → (now : ℕ) → (falls : Bool) → Claims → Type 0
-FallsBy true old s now falls new = (falls ≡ true) × (new ≡ unclaimed old)
+FallsBy true old s now falls new = (falls ≡ true) × (new ≡ begun_anew old)
 FallsBy false old s now falls new = HearsClaim old s now falls new
 
 abbrev pub is_free : {L R : Type 0} → Machine L R → (now : ℕ) → Bool

@@ -20,7 +20,7 @@ pub struct Options<'a> {
     pub from: Option<&'a str>,
     /// Who may send a stream, as a list with commas; anybody where there is none.
     pub peers: Option<&'a str>,
-    /// So many packets in a second are a stream.
+    /// So many packets in sequence are a stream.
     pub stream: u64,
     pub ssrc: Option<u32>,
     pub rtx_ssrc: Option<u32>,
@@ -69,7 +69,7 @@ const SHARE: u64 = 200;
 /// relay sends each NACK twice.
 const MIN_RESEND: u64 = 10;
 
-/// How many packets in a second are a stream by default: with less than 100 milliseconds between two of them.
+/// How many packets in sequence are a stream by default.
 const STREAM: u64 = 10;
 
 /// The greatest share.

@@ -158,7 +158,13 @@ fn go<'a, R: Relay + Drop, L: Learner<R> + Drop>(
     let Ok(mut host) = Host::new(rt, near, far, draws, journal, stats, store, shows_repair) else {
         return Err(Fault::Outside);
     };
-    let mut machine = Machine::<L, R>::new(learner, peers, options.stream, bounds(options).until);
+    let mut machine = Machine::<L, R>::new(
+        rt.alloc(),
+        learner,
+        peers,
+        options.stream,
+        bounds(options).until,
+    );
     let outcome = run(&mut host, &mut machine);
     host.write_counts();
     if let (Some(journal), Some(file)) = (&host.journal, options.log) {

@@ -8,6 +8,7 @@ ghost use Rattle.gozdrit_relay.specs.Machine.{FallsTo, Learns, goes_on, is_quiet
 use endpoint::Heard;
 use relays::{Claims, Note, Peers, Relay, Side, Stranger, Turn};
 use rtpwire::{MAX_DATAGRAM, Session};
+use std::alloc::Global;
 use std::net::SocketAddr;
 use stores::OutOfMemory;
 
@@ -93,17 +94,23 @@ pub struct Machine<L, R> {
 }
 
 impl<R: Relay + Drop, L: Learner<R>> Machine<L, R> {
-    /// It learnt nothing so far. It hears streams of these peers, or of anybody where there are none, and takes so many packets in a
-    /// second for one.
-    pub fn new(learner: L, peers: Peers, stream: u64, until: Option<u64>) -> Machine<L, R>
-        ensures { result ≡ new_machine learner peers stream until }
+    /// It learnt nothing so far. It hears streams of these peers, or of anybody where there are none, and takes so many packets in
+    /// sequence for one.
+    pub fn new(
+        alloc: Global,
+        learner: L,
+        peers: Peers,
+        stream: u64,
+        until: Option<u64>,
+    ) -> Machine<L, R>
+        ensures { result ≡ new_machine alloc learner peers stream until }
     {
         Machine {
             learner,
             relay: None,
             note: None,
             last: 0,
-            claims: Claims::new(stream),
+            claims: Claims::new(alloc, stream),
             peers,
             until,
             is_out_of_memory: false,

@@ -154,7 +154,7 @@ fn of_peers<'a>(alloc: Global, command: Command<'a>) -> Result<Command<'a>, Allo
             alloc,
             "stream",
             "N",
-            "How many packets in a second are a stream, to which a session falls whose sender has none; 10 by default",
+            "How many packets in sequence are a stream, to which a session falls whose sender has none; 10 by default",
         ))
 }
 

@@ -1,3 +1,4 @@
+mod Claiming
 pub mod Going
 pub mod Keeping
 pub mod Stamps

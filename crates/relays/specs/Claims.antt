@@ -1,74 +1,108 @@
 -- Who may take a session that another sender has. (The rule is this project's own.)
-use Rattle.std.specs.Prelude.{◌≡◌, ◌↔◌, ℕ, ◌+◌, ◌-◌, ◌==◌, ◌&&◌, ◌||◌, Bool, true, false, not, nat_le, nat_lt, Option, Some, None, if◌then◌else◌}
+use Rattle.std.specs.Prelude.{◌≡◌, ℕ, ◌+◌, ◌-◌, ◌*◌, ◌&&◌, ◌||◌, Bool, true, false, nat_le, nat_lt, Option, Some, None, if◌then◌else◌}
+use Rattle.std.specs.Global.{Global}
 use Rattle.endpoint.specs.Probation.{ahead}
 use Rattle.timing.specs.Capped.{capped}
-use Rattle.relays.specs.declared.claims.Claim.{Claim}
+use Rattle.relays.specs.ClaimTables.{HasPlace, claim_of, keeps, no_tables}
+use Rattle.relays.specs.declared.claim_tables.Claim.{Claim}
+use Rattle.relays.specs.declared.claim_tables.Claimant.{Claimant}
+use Rattle.relays.specs.declared.claim_tables.ClaimTables.{ClaimTables}
 use Rattle.relays.specs.declared.claims.Claims.{Claims}
+use Rattle.relays.specs.declared.claims.Step.{Step}
+use Rattle.relays.specs.declared.claims.Step.TheVariants as steps
 use Rattle.relays.specs.declared.claims.Stranger.{Stranger}
 
 -- a session that took nothing so far, and nobody claims
-abbrev pub no_claims : (stream : ℕ) → Claims
-no_claims stream = record { stream = stream; held = 0; claim = None }
+abbrev pub no_claims : Global → (stream : ℕ) → Claims
+no_claims alloc stream = record { alloc = alloc; stream = stream; held = 0; start = 0; tables = None }
 
+-- another session begins, which is claimed as the one before was
+abbrev pub begun_anew : Claims → Claims
+begun_anew c = record c { start = c.held }
+
+-- another session begins, and nobody claims it
 abbrev pub unclaimed : Claims → Claims
-unclaimed c = no_claims c.stream
+unclaimed c = record c { start = c.held; tables = None }
 
--- the stranger claims it from this moment on
-abbrev pub claimed : Claims → Stranger → (now : ℕ) → Claims
-claimed c stranger now = record c { claim = Some (record { stranger = stranger; since = now; packets = 1; taken = 0 }) }
+-- how many packets the session took since it began
+abbrev pub taken_of : Claims → ℕ
+taken_of c = c.held - c.start
 
 -- the session took a packet
-abbrev pub taken_by : Option Claim → Option Claim
-taken_by None = None
-taken_by (Some claim) = Some (record claim { taken = capped (claim.taken + 1) })
-
 abbrev pub taken_once : Claims → Claims
-taken_once c = record c { held = capped (c.held + 1); claim = taken_by c.claim }
+taken_once c = record c { held = capped (c.held + 1) }
+
+abbrev pub tables_in : Option ClaimTables → ClaimTables
+tables_in None = no_tables
+tables_in (Some tables) = tables
+
+abbrev pub tables_of : Claims → ClaimTables
+tables_of c = tables_in c.tables
+
+-- a stranger claims by its address and its SSRC
+abbrev pub claimant_of : Stranger → Claimant
+claimant_of s = record { from = s.from; ssrc = s.ssrc }
+
+-- a claim begins with a packet, and has one more
+abbrev pub begun : Claims → (number now : ℕ) → Claim
+begun c number now = record { number = number; since = now; last = now; packets = 1; held = c.held }
+
+abbrev pub counted : Claim → (number now : ℕ) → Claim
+counted claim number now = record claim { number = number; last = now; packets = capped (claim.packets + 1) }
 
 -- one of the next numbers behind another, in a sequence of 16 bits
 abbrev pub is_next_number : (before number : ℕ) → Bool
 is_next_number before number = nat_lt 0 (ahead before number) && nat_lt (ahead before number) 3000
 
--- A packet goes on with a claim, or it doesn't: it came from the same address under the same SSRC, with one of the next numbers.
-abbrev pub GoesOn : Claim → Stranger → Bool → Type 0
-GoesOn claim s answer =
-    (is_same : Bool) × ((is_same ≡ true) ↔ (claim.stranger.from ≡ s.from))
-    × (answer ≡ (is_same && ((claim.stranger.ssrc == s.ssrc) && is_next_number claim.stranger.number s.number)))
+-- A packet goes on with a claim by one of the next numbers, where the last one in sequence is two seconds old at most.
+abbrev pub goes_on : Claim → (number now : ℕ) → Bool
+goes_on claim number now = is_next_number claim.number number && nat_le (now - claim.last) 2000
 
-abbrev pub with_packet : Claim → Stranger → Claim
-with_packet claim s = record claim { stranger = s; packets = capped (claim.packets + 1) }
+-- the last one in sequence is a second old
+abbrev pub is_stale : Claim → (now : ℕ) → Bool
+is_stale claim now = nat_le 1000 (now - claim.last)
 
--- a stream claims the session, and the session had none beside it
-abbrev pub is_stream : (stream : ℕ) → Claim → Bool
-is_stream stream claim = nat_le stream claim.packets && nat_lt claim.taken stream
+-- how many packets the sessions took since a claim began
+abbrev pub taken_beside : Claims → Claim → ℕ
+taken_beside c claim = c.held - claim.held
 
--- The session falls to a stranger with a packet that goes on with its claim if it sends a stream and the session has none: once a second
--- has passed since the claim began, or at once if the session never had one.
-abbrev pub falls_to : Claims → Claim → Stranger → (span : ℕ) → (goes_on : Bool) → Bool
-falls_to c claim s span goes_on =
-    (nat_le 1000 span || nat_lt c.held c.stream) && (goes_on && is_stream c.stream (with_packet claim s))
+-- A session is weak that took less than 1.8 packets a second, by more than two.
+abbrev pub is_weak : (taken span : ℕ) → Bool
+is_weak taken span = nat_lt (5000 * (taken + 2)) (9 * span)
 
--- Else its packets are counted in that second; and behind it another claim begins, unless the stranger may still send that packet within
--- another second.
-abbrev pub counted_in : Claims → Claim → Stranger → (goes_on : Bool) → Claims
-counted_in c claim s goes_on = if goes_on then record c { claim = Some (with_packet claim s) } else c
+-- The session falls to a claim of a stream, at once if it never had one itself, or where it is weak beside it.
+abbrev pub falls_to : Claims → Claim → (taken now : ℕ) → Bool
+falls_to c claim taken now = nat_le c.stream claim.packets && (nat_lt (taken_of c) c.stream || is_weak taken (now - claim.since))
 
-abbrev pub claimed_anew : Claims → Claim → Stranger → (now span : ℕ) → (goes_on : Bool) → Claims
-claimed_anew c claim s now span goes_on =
-    if goes_on || (nat_le 2000 span || not (is_stream c.stream claim)) then claimed c s now else c
+abbrev pub step_of : Claims → Claim → (taken now : ℕ) → Step
+step_of c claim taken now = if falls_to c claim taken now then steps.Falls else steps.Claims claim
 
-abbrev pub claimed_still : Claims → Claim → Stranger → (now span : ℕ) → (goes_on : Bool) → Claims
-claimed_still c claim s now span goes_on = if nat_lt span 1000 then counted_in c claim s goes_on else claimed_anew c claim s now span goes_on
+-- A packet that goes on with a claim is counted in it, unless the session took a stream since that began: then it begins anew.
+abbrev pub step : Claims → Claim → (number now : ℕ) → Step
+step c claim number now =
+    if nat_le c.stream (taken_beside c claim) then steps.Claims (begun c number now) else step_of c (counted claim number now) (taken_beside c claim) now
 
-abbrev pub claims_after : Claims → Claim → Stranger → (now span : ℕ) → (goes_on : Bool) → Claims
-claims_after c claim s now span goes_on = if falls_to c claim s span goes_on then unclaimed c else claimed_still c claim s now span goes_on
+-- One that does not is passed over, unless the claim is stale: then it begins anew too.
+abbrev pub answer : Claims → Option Claim → (number now : ℕ) → Step
+answer c None number now = steps.Claims (begun c number now)
+answer c (Some claim) number now =
+    if goes_on claim number now then step c claim number now else if is_stale claim now then steps.Claims (begun c number now) else steps.Passes
 
--- a packet of a stranger is heard: whether the session falls to it, and who claims it then
-abbrev pub HearsOver : Claims → Option Claim → Stranger → (now : ℕ) → (falls : Bool) → Claims → Type 0
-HearsOver old None s now falls new = (falls ≡ false) × (new ≡ claimed old s now)
-HearsOver old (Some claim) s now falls new =
-    (goes_on : Bool) × GoesOn claim s goes_on
-    × (falls ≡ falls_to old claim s (now - claim.since) goes_on) × (new ≡ claims_after old claim s now (now - claim.since) goes_on)
+-- the session falls by it
+abbrev pub falls_in : Step → Bool
+falls_in steps.Falls = true
+falls_in s = false
+
+-- a claim is kept, if there is memory where it takes some, and nothing else changes
+pub record Keeps (old : Claims) (k : Claimant) (claim : Claim) (new : Claims) : Type 0 where
+  pub tables : (is_kept : Bool) × (HasPlace k claim (tables_of old) → is_kept ≡ true) × (tables_of new ≡ keeps is_kept k claim (tables_of old))
+  pub rest : new ≡ record old { tables = new.tables }
+
+-- a packet of a stranger is heard: whether the session falls to it, and what is claimed then
+abbrev pub Hears : Step → Claims → Claimant → (falls : Bool) → Claims → Type 0
+Hears steps.Passes old k falls new = (falls ≡ false) × (new ≡ old)
+Hears (steps.Claims claim) old k falls new = (falls ≡ false) × Keeps old k claim new
+Hears steps.Falls old k falls new = (falls ≡ true) × (new ≡ unclaimed old)
 
 abbrev pub HearsClaim : Claims → Stranger → (now : ℕ) → (falls : Bool) → Claims → Type 0
-HearsClaim old s now falls new = HearsOver old old.claim s now falls new
+HearsClaim old s now falls new = Hears (answer old (claim_of (claimant_of s) (tables_of old)) s.number now) old (claimant_of s) falls new

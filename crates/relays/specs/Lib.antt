@@ -1,3 +1,4 @@
+pub mod ClaimTables
 pub mod Claims
 pub mod Peers
 pub mod Passing

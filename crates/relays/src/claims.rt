@@ -1,11 +1,17 @@
 //! Who may take a session that another sender has.
 ghost use Rattle.std.specs.Prelude.{◌≡◌};
-ghost use Rattle.relays.specs.Claims.{GoesOn, HearsClaim, claimed, claimed_still, falls_to, is_next_number, is_stream, no_claims, taken_once, unclaimed, with_packet};
+ghost use Rattle.relays.specs.ClaimTables.{claim_of};
+ghost use Rattle.relays.specs.Claims.{HearsClaim, Keeps, answer, begun, begun_anew, claimant_of, counted, falls_to, goes_on, is_next_number, is_stale, is_weak, no_claims, step, taken_once, tables_of, unclaimed};
 
+use crate::claim_tables::{Claim, ClaimTables, Claimant};
+use std::alloc::Global;
 use std::net::SocketAddr;
 
-/// How long a claim is looked at, in milliseconds, and for twice as long at most.
-const SPAN: u64 = 1000;
+/// For how long a claim waits for its next packet in sequence before any other one may begin it anew, in milliseconds.
+const STALE: u64 = 1000;
+
+/// How old its last packet in sequence may be for the next one to go on with it, in milliseconds.
+const OLD: u64 = 2000;
 
 /// By how much less a number may lie ahead of the one before that goes on with it.
 const REACH: u16 = 3000;
@@ -18,49 +24,62 @@ pub struct Stranger {
     pub number: u16,
 }
 
-/// What a stranger sent, and the session's own sender beside it.
+/// What comes of a packet of a stranger.
 #[derive(Clone, Copy, Debug, PartialEq, Eq)]
-pub struct Claim {
-    /// Its last packet that went on with the one before.
-    stranger: Stranger,
-    /// The moment of its first packet.
-    since: u64,
-    /// How many of its packets went on one with another.
-    packets: u64,
-    /// How many packets the session took since then.
-    taken: u64,
+pub enum Step {
+    /// Nothing: it goes on with no claim of it, and begins none.
+    Passes,
+    /// It claims this.
+    Claims(Claim),
+    /// The session falls to it.
+    Falls,
 }
 
-/// The stranger that claims a session. A session falls to one that sends a stream for a second while the session's own sender sends
-/// none, and as soon as it has sent one if that never did. So whoever comes first and sends a packet now and then does not keep out the
-/// sender of a stream; and however fast a stranger sends, it takes no session whose own sender sends a stream.
-#[derive(Clone, Copy, Debug, PartialEq, Eq)]
+/// The strangers that claim a session. It falls to one that sends a stream while the session's own sender sends less than some two packets a
+/// second, and as soon as it has sent one if that never did. So whoever comes first and sends a packet now and then does not keep out the
+/// sender of a stream, nor does anybody by how many others it sends as; and however fast a stranger sends, it takes no session whose own
+/// sender sends two packets in every second.
+#[derive(Drop)]
 pub struct Claims {
-    /// How many packets in a second are a stream.
+    alloc: Global,
+    /// How many packets in sequence are a stream.
     stream: u64,
-    /// How many packets the session took since it began.
+    /// How many packets this session and those before it took,
     held: u64,
-    claim: Option<Claim>,
+    /// and how many those before it.
+    start: u64,
+    /// What is claimed. None: nothing so far.
+    tables: Option<ClaimTables>,
 }
 
 impl Claims {
-    /// Nobody claims the session so far. So many packets in a second are a stream.
-    pub fn new(stream: u64) -> Claims
-        ensures { result ≡ no_claims stream }
+    /// Nobody claims the session so far. So many packets in sequence are a stream.
+    pub fn new(alloc: Global, stream: u64) -> Claims
+        ensures { result ≡ no_claims alloc stream }
     {
         Claims {
+            alloc,
             stream,
             held: 0,
-            claim: None,
+            start: 0,
+            tables: None,
         }
     }
 
-    /// A session begins, and nobody claims it so far.
+    /// A session begins where there was none, or where the one before was quiet. Who claimed that goes on with it: else whoever begins one
+    /// each second keeps out who sends a slow stream.
     pub fn begin(&mut self)
+        ensures { self.new ≡ begun_anew self.old }
+    {
+        self.start = self.held;
+    }
+
+    /// A session begins that fell to who claimed the one before. Nobody else claims it so far.
+    fn fall(&mut self)
         ensures { self.new ≡ unclaimed self.old }
     {
-        self.held = 0;
-        self.claim = None;
+        self.begin();
+        self.tables = None;
     }
 
     /// The session took a packet.
@@ -68,96 +87,151 @@ impl Claims {
         ensures { self.new ≡ taken_once self.old }
     {
         self.held = self.held.saturating_add(1);
-        if let Some(claim) = &mut self.claim {
-            claim.taken = claim.taken.saturating_add(1);
-        }
     }
 
     /// A packet of a stranger came at the moment `now`, in milliseconds. It answers whether the session falls to it, as another one
-    /// that begins.
+    /// that begins. Without memory for what it claims nothing changes.
     pub fn hear(&mut self, stranger: &Stranger, now: u64) -> bool
         ensures { HearsClaim self.old stranger.now now result self.new }
     {
-        let Some(claim) = self.claim else {
-            self.claim(stranger, now);
-            return false;
-        };
-        let goes_on = claim.goes_on(stranger);
-        let span = now.saturating_sub(claim.since);
-        if self.falls_to(&claim, stranger, span, goes_on) {
-            self.begin();
-            return true;
-        }
-        self.go_on(&claim, stranger, now, span, goes_on);
-        false
-    }
-
-    /// Whether the session falls to a stranger by a packet that goes on with its claim or not, so long after that began.
-    fn falls_to(&self, claim: &Claim, stranger: &Stranger, span: u64, goes_on: bool) -> bool
-        ensures { result ≡ falls_to self.now claim.now stranger.now span goes_on }
-    {
-        let is_due = span >= SPAN || self.held < self.stream;
-        let is_stream = goes_on && is_stream(&claim.with(stranger), self.stream);
-        is_due && is_stream
-    }
-
-    /// Counts a packet by which the session does not fall to the stranger, or has another claim begin.
-    fn go_on(&mut self, claim: &Claim, stranger: &Stranger, now: u64, span: u64, goes_on: bool)
-        ensures { self.new ≡ claimed_still self.old claim.now stranger.now now span goes_on }
-    {
-        if span < SPAN {
-            if goes_on {
-                self.claim = Some(claim.with(stranger));
+        let claimant = stranger.claimant();
+        let claim = self.claim_of(&claimant);
+        match self.answer(claim, stranger.number, now) {
+            Step::Passes => false,
+            Step::Claims(claim) => {
+                self.keep(claimant, claim);
+                false
             }
+            Step::Falls => {
+                self.fall();
+                true
+            }
+        }
+    }
+
+    /// What somebody claims.
+    fn claim_of(&self, claimant: &Claimant) -> Option<Claim>
+        ensures { result ≡ claim_of claimant.now (tables_of self.now) }
+    {
+        match &self.tables {
+            Some(tables) => tables.claim_of(claimant),
+            None => None,
+        }
+    }
+
+    /// What comes of a packet with this number of somebody who claims this.
+    fn answer(&self, claim: Option<Claim>, number: u16, now: u64) -> Step
+        ensures { result ≡ answer self.now claim number now }
+    {
+        let Some(claim) = claim else {
+            return Step::Claims(self.begun(number, now));
+        };
+        if claim.goes_on(number, now) {
+            self.step(&claim, number, now)
+        } else if claim.is_stale(now) {
+            Step::Claims(self.begun(number, now))
+        } else {
+            Step::Passes
+        }
+    }
+
+    /// What comes of a packet that goes on with a claim. Where the session took a stream beside it, it begins anew.
+    fn step(&self, claim: &Claim, number: u16, now: u64) -> Step
+        ensures { result ≡ step self.now claim.now number now }
+    {
+        let taken = self.held.saturating_sub(claim.held);
+        if taken >= self.stream {
+            return Step::Claims(self.begun(number, now));
+        }
+        let claim = claim.counted(number, now);
+        if self.falls_to(&claim, taken, now) {
+            Step::Falls
+        } else {
+            Step::Claims(claim)
+        }
+    }
+
+    /// Whether the session falls to a claim, beside which it took so many packets.
+    fn falls_to(&self, claim: &Claim, taken: u64, now: u64) -> bool
+        ensures { result ≡ falls_to self.now claim.now taken now }
+    {
+        let never_had_one = self.held.saturating_sub(self.start) < self.stream;
+        let span = now.saturating_sub(claim.since);
+        claim.packets >= self.stream && (never_had_one || is_weak(taken, span))
+    }
+
+    /// A claim that begins with a packet of this number.
+    fn begun(&self, number: u16, now: u64) -> Claim
+        ensures { result ≡ begun self.now number now }
+    {
+        Claim {
+            number,
+            since: now,
+            last: now,
+            packets: 1,
+            held: self.held,
+        }
+    }
+
+    /// Keeps what somebody claims, if there is memory for it.
+    fn keep(&mut self, claimant: Claimant, claim: Claim)
+        ensures { Keeps self.old claimant claim self.new }
+    {
+        if let Some(tables) = &mut self.tables {
+            tables.keep(claimant, claim);
             return;
         }
-        let is_over = span >= 2 * SPAN || !is_stream(claim, self.stream);
-        if goes_on || is_over {
-            self.claim(stranger, now);
+        if let Ok(mut tables) = ClaimTables::new(self.alloc) {
+            tables.keep(claimant, claim);
+            self.tables = Some(tables);
         }
     }
+}
 
-    /// The stranger claims the session from now on.
-    fn claim(&mut self, stranger: &Stranger, now: u64)
-        ensures { self.new ≡ claimed self.old stranger.now now }
+impl Stranger {
+    fn claimant(&self) -> Claimant
+        ensures { result ≡ claimant_of self.now }
     {
-        self.claim = Some(Claim {
-            stranger: *stranger,
-            since: now,
-            packets: 1,
-            taken: 0,
-        });
+        Claimant {
+            from: self.from,
+            ssrc: self.ssrc,
+        }
     }
 }
 
 impl Claim {
-    /// Whether a packet goes on with it: it came from the same address under the same SSRC, with one of the next numbers.
-    fn goes_on(&self, stranger: &Stranger) -> bool
-        ensures { GoesOn self.now stranger.now result }
+    /// Whether a packet goes on with it: its number is one of the next ones, and the one before is not old.
+    fn goes_on(&self, number: u16, now: u64) -> bool
+        ensures { result ≡ goes_on self.now number now }
     {
-        let is_same = self.stranger.from == stranger.from;
-        is_same
-            && self.stranger.ssrc == stranger.ssrc
-            && is_next_number(self.stranger.number, stranger.number)
+        is_next_number(self.number, number) && now.saturating_sub(self.last) <= OLD
+    }
+
+    /// Whether it waits for its next packet for so long that any other one may begin it anew.
+    fn is_stale(&self, now: u64) -> bool
+        ensures { result ≡ is_stale self.now now }
+    {
+        now.saturating_sub(self.last) >= STALE
     }
 
     /// It with one more packet.
-    fn with(&self, stranger: &Stranger) -> Claim
-        ensures { result ≡ with_packet self.now stranger.now }
+    fn counted(&self, number: u16, now: u64) -> Claim
+        ensures { result ≡ counted self.now number now }
     {
         Claim {
-            stranger: *stranger,
+            number,
+            last: now,
             packets: self.packets.saturating_add(1),
             ..*self
         }
     }
 }
 
-/// Whether a claim is a stream, of so many packets, and the session had none beside it.
-fn is_stream(claim: &Claim, stream: u64) -> bool
-    ensures { result ≡ is_stream stream claim.now }
+/// Whether a session that took so many packets in so many milliseconds took less than 1.8 a second, and less by two: those may be late.
+fn is_weak(taken: u64, span: u64) -> bool
+    ensures { result ≡ is_weak taken span }
 {
-    claim.packets >= stream && claim.taken < stream
+    9 * u128::from(span) > 5000 * (u128::from(taken) + 2)
 }
 
 /// Whether a number is one of the next ones behind another.

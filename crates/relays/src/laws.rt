@@ -1,9 +1,12 @@
-//! Laws of a pace, and of the player's numbers. These functions compute nothing: their contracts are the laws.
-ghost use Rattle.std.specs.Prelude.{◌≡◌, ◌+◌, ◌-◌, ◌*◌, ◌/◌, ◌%◌, ◌<◌, ◌≤◌, ◌∷◌, ℕ, List, Ok, false, true, max, sum};
+//! Laws of a pace, of the player's numbers, and of who keeps a session. These functions compute nothing: their contracts are the laws.
+ghost use Rattle.std.specs.Prelude.{◌≡◌, ◌+◌, ◌-◌, ◌*◌, ◌/◌, ◌%◌, ◌<◌, ◌≤◌, ◌∷◌, ℕ, List, Ok, Some, false, true, max, sum};
 ghost use Rattle.endpoint.specs.declared.heard.Heard.TheVariants.{Restarted};
 ghost use Rattle.endpoint.specs.declared.heard.Restart.{Restart};
+ghost use Rattle.relays.specs.Claims.{answer, falls_in, taken_beside, taken_of};
 ghost use Rattle.relays.specs.Numbering.{numbered, numbered_after};
 ghost use Rattle.relays.specs.ReceiveRelay.{numbering_after};
+ghost use Rattle.relays.specs.declared.claim_tables.Claim.{Claim};
+ghost use Rattle.relays.specs.declared.claims.Claims.{Claims};
 ghost use Rattle.relays.specs.declared.numbering.Numbering.{Numbering};
 ghost use Rattle.rtpwire.specs.declared.limits.TheConstants.{MAX_DATAGRAM};
 ghost use Rattle.relays.specs.declared.pace.Pace.{Pace};
@@ -56,4 +59,12 @@ pub fn jumps_are_holes()
     // Where it restarts behind, it is the next one.
     ensures behind { (n : Numbering) (restart : Restart) (last place : ℕ) → restart.skipped ≡ 0
         → numbered (numbering_after (Ok (Restarted restart)) (numbered_after n last)) place ≡ (numbered n last + 1) % 65536 }
+{}
+
+/// A session whose sender has had a stream in it, and two packets in every second since a stranger's claim began, does not fall to that
+/// stranger, whatever it sends.
+#[tactic(auto, using(crate::proofs::Claiming::falls_not))]
+pub fn two_in_each_second_are_enough()
+    ensures { (c : Claims) (claim : Claim) (number now : ℕ) → c.stream ≤ taken_of c → 2 * ((now - claim.since) / 1000) ≤ taken_beside c claim
+        → falls_in (answer c (Some claim) number now) ≡ false }
 {}

@@ -2,6 +2,7 @@
 #![tactic(auto)]
 
 mod bounds;
+mod claim_tables;
 mod claims;
 mod driving;
 mod dropout;
@@ -21,9 +22,10 @@ mod stream;
 mod writing;
 
 pub use bounds::Bounds;
-pub use claims::{Claim, Claims, Stranger};
+pub use claim_tables::{Claim, ClaimTables, Claimant};
+pub use claims::{Claims, Step, Stranger};
 pub use driving::run;
-pub use laws::{bursts_leave_at_once, pace_is_kept};
+pub use laws::{bursts_leave_at_once, pace_is_kept, two_in_each_second_are_enough};
 pub use media_rate::MediaRate;
 pub use numbering::Numbering;
 pub use outside::{Meeting, Octets, Outside, OutsideFault, Passage, Side};
