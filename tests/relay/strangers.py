@@ -2,11 +2,12 @@
 """To whom a session falls, who is heard at all, and what a NACK may cost.
 
     strangers.py PROGRAM"""
+import random
 import threading
 import time
 
-from base import part, soon
-from net import App, End, udp
+from base import on_time, part, soon
+from net import MUCH, App, End, queued, udp
 from rtp import Content, nack, packet, plain
 
 OWN, OTHER = 0x1a2b3c4d, 0x55667788
@@ -27,6 +28,31 @@ class Stranger(threading.Thread):
             self.socket.sendto(packet(self.kind, 7000 + self.sent & 65535, OTHER, Content(1, 0, b"strange")), self.to)
             self.sent += 1
             time.sleep(self.apart)
+
+    def stop(self):
+        self.open = False
+        self.join()
+
+
+class Flood(threading.Thread):
+    """It sends so many packets a second, each of another SSRC with another number, until it is stopped. It waits where the relay's socket is
+    full: what the system drops there would be no fault of a relay."""
+
+    def __init__(self, stage, to, rate):
+        super().__init__(daemon=True)
+        self.socket, self.to, self.rate, self.sent, self.open = stage.keep(udp()), to[:2], rate, 0, True
+        self.start()
+
+    def run(self):
+        draw, due = random.Random(self.rate), time.monotonic()
+        while self.open:
+            time.sleep(0.002)
+            if queued({self.to[1]})[0] > MUCH // 4:
+                due = time.monotonic()
+            while due < time.monotonic():
+                strange = packet(96, draw.getrandbits(16), draw.getrandbits(32), Content(1, 0, b"strange"))
+                self.socket.sendto(strange, self.to)
+                self.sent, due = self.sent + 1, due + 1 / self.rate
 
     def stop(self):
         self.open = False
@@ -68,17 +94,88 @@ def now_and_then(checks, stage):
 
 
 def once_a_stream(checks, stage):
-    """A stranger that sent a stream, and then a packet now and then: it has the session for another second."""
+    """A stranger that sent a stream, and then a packet each .9 seconds: it has the session for 3.4 seconds at most, beside four of its packets."""
     player = End(stage)
     receiver = stage.receive(player.at)
     stranger = Stranger(stage, receiver.at, 0.01)
     soon(lambda: stranger.sent > 20)
-    stranger.apart = 0.5
+    stranger.apart = 0.9
     time.sleep(0.1)
-    contents = plain(200)
+    contents = plain(250)
     streams(stage, receiver, contents)
     stranger.stop()
-    checks.count(soon(lambda: played(player, contents)[0] >= 130, 5), f"once a stream: {played(player, contents)} of 200 are played")
+    checks.count(soon(lambda: played(player, contents)[0] >= 75, 5), f"once a stream: {played(player, contents)} of 250 are played")
+
+
+def is_heard(checks, name, player, contents, began):
+    """A stream of 50 a second that began at this moment is heard with its tenth packet, a fifth of a second later, and all behind that are played."""
+    ninth = len(contents) - 9
+    checks.count(soon(lambda: played(player, contents)[0] >= ninth, 5), f"{name}: {played(player, contents)} of {len(contents)} are played")
+    own = {one.payload for one in contents}
+    first = next((moment for moment, _, octets in list(player.came) if octets[12:] in own), None)
+    # A program that is tried unproved takes a fifth of a second to forget all claims.
+    checks.count(first and first - began < 10 / RATE + 0.3, f"{name}: heard after {first and first - began}")
+
+
+def among_many(checks, stage, rate):
+    """Before and beside a stream come packets of other SSRCs, none of them twice: it is heard none the less, and so it is behind a pause of 1.5 seconds."""
+    name, player = f"among {rate} a second", End(stage)
+    receiver = stage.receive(player.at)
+    flood = Flood(stage, receiver.at, rate)
+    soon(lambda: flood.sent > 200)
+    contents = plain(200)
+    app = App(stage, receiver.at, ssrc=OWN)
+    for some, words in ((contents[:100], name), (contents[100:], f"{name}, behind a pause")):
+        began = time.monotonic()
+        app.stream(some, RATE)
+        is_heard(checks, words, player, some, began)
+        time.sleep(1.5)
+    flood.stop()
+    checks.count(flood.sent > 1000, f"{name}: {flood.sent} came")
+
+
+@on_time(0.03)
+def flooded_by_others(checks, stage):
+    among_many(checks, stage, 5000)
+
+
+@on_time(0.03)
+def among_others(checks, stage):
+    among_many(checks, stage, random.randrange(200, 5000))
+
+
+@on_time(0.05)
+def slow(checks, stage):
+    """A stream of five packets a second, beside a stranger that came first and sends one each .9 seconds, or beside many: it is heard with its tenth."""
+    for many in (False, True):
+        player = End(stage)
+        receiver = stage.receive(player.at)
+        stranger = Flood(stage, receiver.at, random.randrange(200, 2000)) if many else Stranger(stage, receiver.at, 0.9)
+        soon(lambda: len(receiver.logged("session")) > 0)
+        contents = plain(25)
+        app, began = App(stage, receiver.at, ssrc=OWN), time.monotonic()
+        app.stream(contents, 5)
+        stranger.stop()
+        checks.count(soon(lambda: played(player, contents)[0] >= 16, 5), f"slow: {played(player, contents)} of 25 are played, many: {many}")
+        own = {one.payload for one in contents}
+        first = next((moment for moment, _, octets in list(player.came) if octets[12:] in own), None)
+        checks.count(first and first - began < 2.2, f"slow: heard after {first and first - began}, many: {many}")
+
+
+@on_time(0.05)
+def slow_and_flooded(checks, stage):
+    """A stream of two packets a second that has the session keeps it beside two hundred of one stranger."""
+    player = End(stage)
+    receiver = stage.receive(player.at)
+    contents = plain(32)
+    app = App(stage, receiver.at, ssrc=OWN)
+    app.stream(contents[:20], RATE)
+    stranger = Stranger(stage, receiver.at, 0.005)
+    app.stream(contents[20:], 2)
+    stranger.stop()
+    checks.count(soon(lambda: played(player, contents)[0] == 32, 5), f"slow and flooded: {played(player, contents)} of 32 are played")
+    checks.same(played(player, contents)[1], 0, "slow and flooded: packets of the stranger")
+    checks.count(stranger.sent > 600, f"slow and flooded by {stranger.sent}")
 
 
 def flooded(checks, stage):
@@ -165,4 +262,4 @@ def in_a_second(came):
 
 
 if __name__ == "__main__":
-    part(one_packet, now_and_then, once_a_stream, flooded, applications, peers, other_port, gun)
+    part(one_packet, now_and_then, once_a_stream, flooded, flooded_by_others, among_others, slow, slow_and_flooded, applications, peers, other_port, gun)
