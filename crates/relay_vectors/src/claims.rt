@@ -348,6 +348,18 @@ fn two_in_each_second_keep_the_session(rt: HostRuntime) -> Result<(), Fail> {
     )
 }
 
+/// A stream has the session with its third packet or, where memory for one of its claims was refused, with a later one.
+#[test]
+fn refused_growth_of_claims(rt: HostRuntime) -> Result<(), Fail> {
+    let mut claims = Claims::new(rt.alloc(), 3);
+    claims.take();
+    let mut falls = 0u64;
+    for number in 0..6u16 {
+        falls = falls.saturating_add(u64::from(claims.hear(&strange(1, 7, number), 0)));
+    }
+    told(falls == 1 || falls == 2, "a stream")
+}
+
 /// One host at one port, and all of 198.51.100.0/24.
 const HOST: u128 = 0xffff_c000_0201;
 
