@@ -331,12 +331,15 @@ fn queues_are_told_from_the_way(_rt: HostRuntime) -> Result<(), Fail> {
     // Where packets come late, 30 of the patience lie in a queue, and asks lie 45 apart.
     let _ = path.see(0, 1600);
     let queued = path.trip.queued(1600) == 30 && over(&path, 200, 1600) == (0, 62);
+    // Where they come 20 late, for which 25 are waited, asks lie 70 apart.
+    let _ = path.see(20, 1600);
+    let overtaken = over(&path, 200, 1600) == (25, 75);
     // The least is forgotten like what is the greatest. What is in doubt is none.
     let forgotten = path.trip.least(40000) == 60000 && path.trip.queued(40000) == 0;
     path.trip.ask(Place::first(3), 40000);
     path.trip.doubt(40010);
     let doubtful = path.trip.hear(Place::first(3), 40020) || path.trip.least(40020) != 60000;
-    if told && whole && queued && forgotten && !doubtful {
+    if told && whole && queued && overtaken && forgotten && !doubtful {
         Ok(())
     } else {
         Err(Fail::from("the queue"))
