@@ -14,12 +14,13 @@ MEDIA, KIND = 0x1a2b3c4d, 97
 
 
 def burst(stage, many, length, *words):
-    """A sending relay that has sent so many packets, and its silent end's retransmission."""
+    """A sending relay that has sent so many packets of an application, and its silent end's retransmission."""
     far = End(stage)
     sender = stage.send(far.at, "--packets", many, *words)
-    App(stage, sender.at, ssrc=MEDIA, number=0).stream(plain(many, length), 2000)
+    app = App(stage, sender.at, ssrc=MEDIA, number=0)
+    app.stream(plain(many, length), 2000)
     settled(far, many - 1)
-    return far, sender
+    return app, far, sender
 
 
 def asks(far, sender, many):
@@ -35,7 +36,7 @@ def asks(far, sender, many):
 def paced(checks, stage):
     """At 400 kilobits a second, fifty retransmissions of a thousand octets take a second: none leaves early, all leave in order."""
     name = "400 kilobits"
-    far, sender = burst(stage, 50, 1000, "--rate", 400)
+    _, far, sender = burst(stage, 50, 1000, "--rate", 400)
     seconds, octets = asks(far, sender, 50)
     checks.count(octets >= 49000, f"{name}: {octets} octets came")
     checks.count(octets * 8 <= 400000 * seconds + 8 * 1100, f"{name}: {octets} octets in {seconds} seconds")
@@ -53,7 +54,7 @@ def at_once(checks, stage):
     """With a rate of 0 they leave as fast as they are asked for. What was asked for just before is asked for again at once, so nothing is
     too early here."""
     name, best = "no rate", 99
-    far, sender = burst(stage, 50, 1000, "--rate", 0, "--min-resend", 0)
+    _, far, sender = burst(stage, 50, 1000, "--rate", 0, "--min-resend", 0)
     for _ in range(5):
         seconds, octets = asks(far, sender, 50)
         checks.count(octets >= 49000, f"{name}: {octets} octets came")
@@ -104,7 +105,7 @@ def shared(checks, stage, *words, share=200, many=400):
     """By a share of the media's rate as much may leave as half of that share of a second has, and 32 KiB: 64 KiB at once, and the rest eight times as
     fast as the rate, or by 64 megabits. What may leave does."""
     name, long = f"{share} per cent", 1014 * 8
-    far, sender = burst(stage, many, 1000, *words)
+    _, far, sender = burst(stage, many, 1000, *words)
     far.send(named(many), ("127.0.0.1", sender.source[1]))
     rests(far)
     ends(checks, name, sender)
@@ -133,7 +134,7 @@ def silent(checks, stage):
     """A second behind a stream 262,144 bits are left of what it earned. 31 retransmissions of 8112 leave fewer than the longest datagram has,
     12,800; and whatever is asked for then, no other leaves."""
     name, many = "a silent stream", 400
-    far, sender = burst(stage, many, 1000)
+    _, far, sender = burst(stage, many, 1000)
     time.sleep(1.1)
     for _ in range(20):
         far.send(named(many), ("127.0.0.1", sender.source[1]))
@@ -204,8 +205,8 @@ def seldom(checks, stage):
 def media_first(checks, stage):
     """At 8 kilobits a second a retransmission takes a second. Media that comes meanwhile leaves at once."""
     name = "8 kilobits"
-    far, sender = burst(stage, 20, 1000, "--rate", 8)
-    app, first = App(stage, sender.at, ssrc=MEDIA, number=20), len(far.came)
+    app, far, sender = burst(stage, 20, 1000, "--rate", 8)
+    first = len(far.came)
     far.send(nack(MEDIA, range(20)), ("127.0.0.1", sender.source[1]))
     soon(lambda: sender.logged("marked"))
     took = []
