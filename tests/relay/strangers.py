@@ -113,8 +113,7 @@ def is_heard(checks, name, player, contents, began):
     checks.count(soon(lambda: played(player, contents)[0] >= ninth, 5), f"{name}: {played(player, contents)} of {len(contents)} are played")
     own = {one.payload for one in contents}
     first = next((moment for moment, _, octets in list(player.came) if octets[12:] in own), None)
-    # A program that is tried unproved takes a fifth of a second to forget all claims.
-    checks.count(first and first - began < 10 / RATE + 0.3, f"{name}: heard after {first and first - began}")
+    checks.count(first and first - began < 10 / RATE + 0.2, f"{name}: heard after {first and first - began}")
 
 
 def among_many(checks, stage, rate):
