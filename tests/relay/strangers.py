@@ -233,6 +233,7 @@ def other_port(checks, stage):
     checks.count(soon(lambda: len(player.came) == 1, 5), "a port: played")
 
 
+@on_time(0.03)
 def gun(checks, stage):
     """Whatever NACKs come: over any second at most twice the octets of the media are retransmitted, and 32 KiB more; and in all no more than the
     media's octets, and 32 KiB."""
