@@ -21,7 +21,7 @@ use Rattle.relays.specs.declared.relay.Note.{Note}
 use Rattle.relays.specs.declared.relay.Note.TheVariants.{Began}
 use Rattle.relays.specs.Numbering.{anew}
 use Rattle.relays.specs.Pacing.{new_pace}
-use Rattle.relays.specs.ReceiveRelay.{Moves, ReceiveSide, new_receive_side}
+use Rattle.relays.specs.ReceiveRelay.{MayShow, ReceiveSide, new_receive_side}
 use Rattle.timing.specs.FeedbackBudget.{nothing_earned}
 use Rattle.relays.specs.Following.{new_stream}
 use Rattle.relays.specs.SendRelay.{SendSide, IsOfStream, is_kept_from, new_send_side}
@@ -89,14 +89,14 @@ pub record SendMakes (l : SendLearner) (b : Beginning) (before : Option SendSide
 -- Behind a network: a packet is one of the session that a relay has if it comes from the far side, and is media or a retransmission of it.
 abbrev pub IsOfReceiver : ReceiveSide → RtpPacket → (from : SocketAddr) → Bool → Type 0
 IsOfReceiver r p from answer =
-    (is_far : Bool) × ((is_far ≡ true) ↔ (from ≡ r.far))
+    (is_far : Bool) × ((is_far ≡ true) ↔ (from ≡ r.far.at))
     × (answer ≡ (is_far && ((p.ssrc == r.core.config.session.media_ssrc) || (p.payload_type == r.core.config.session.repair_type))))
 
--- It is none of another session either where it shows the far side at another address.
+-- It is none of another session either where it may show the far side at another address, with those that come behind it.
 abbrev pub IsBelieved : Option ReceiveSide → RtpPacket → (from : SocketAddr) → (octets : List ℕ) → (now : ℕ) → Bool → Type 0
 IsBelieved None p from octets now answer = answer ≡ false
 IsBelieved (Some r) p from octets now answer =
-    (is_of : Bool) × IsOfReceiver r p from is_of × (moved : Bool) × Moves r octets now moved × (answer ≡ (is_of || moved))
+    (is_of : Bool) × IsOfReceiver r p from is_of × (shows : Bool) × MayShow r octets now shows × (answer ≡ (is_of || shows))
 
 -- under the SSRC that an option gives it has to come
 abbrev pub BeginsAs : (is_of : Bool) → Known → RtpPacket → Option Beginning → Type 0

@@ -269,7 +269,7 @@ fn is_of_receiver<W: Window>(relay: &ReceiveRelay<W>, view: &RtpView<'_>, from: 
     is_far && (view.ssrc() == session.media_ssrc() || view.payload_type() == session.repair_type())
 }
 
-/// Whether a packet is of the session that a relay has, or shows its far side at another address.
+/// Whether a packet is of the session that a relay has, or may show its far side at another address.
 fn is_believed<W: Window>(
     before: &Option<ReceiveRelay<W>>,
     view: &RtpView<'_>,
@@ -282,8 +282,8 @@ fn is_believed<W: Window>(
     match before {
         Some(relay) => {
             let is_of = is_of_receiver(relay, view, from);
-            let moved = relay.has_moved(octets, now);
-            is_of | moved
+            let shows = relay.may_show(octets, now);
+            is_of | shows
         }
         None => false,
     }

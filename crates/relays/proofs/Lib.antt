@@ -9,3 +9,4 @@ pub mod Marked
 pub mod Holes
 pub mod Within
 pub mod Following
+pub mod Slow

@@ -14,5 +14,6 @@ pub mod Holding
 pub mod Numbering
 pub mod Leaving
 pub mod Moving
+pub mod FarSide
 pub mod SendRelay
 pub mod ReceiveRelay

@@ -1,6 +1,6 @@
 -- The relay behind a network that loses: what it does with what comes, and what it does of its own. Each case of what it notes has
 -- its equation, and what stands nowhere is never done.
-use Rattle.std.specs.Prelude.{◌≡◌, ◌≤◌, ◌<◌, ◌-◌, ◌/◌, ◌⊎◌, ℕ, zero, suc, ◌&&◌, max, min, Bool, true, false, List, length, take, Option, Some, None, Result, Ok, Err, if◌then◌else◌}
+use Rattle.std.specs.Prelude.{◌≡◌, ◌≤◌, ◌<◌, ◌-◌, ◌/◌, ◌⊎◌, ℕ, zero, suc, ◌&&◌, max, min, Bool, true, false, List, length, take, Option, Some, None, is_some, Result, Ok, Err, if◌then◌else◌}
 use Rattle.std.specs.declared.net.socket_addr.SocketAddr.{SocketAddr}
 use Rattle.arrayvec.specs.ArrayVec.{ArrayVec}
 use Rattle.rtpwire.specs.Rtp.{RtpSpells}
@@ -50,7 +50,9 @@ use Rattle.timing.specs.declared.playout.Playout.{Playout}
 use Rattle.relays.specs.Holding.{asking_time, clock_after, held_by, timestamp_of, wait_by}
 use Rattle.relays.specs.Feedback.{after_move, after_nack, after_octets, leaves_twice, room_for}
 use Rattle.relays.specs.Leaving.{GoesTo, octets_of}
-use Rattle.relays.specs.Moving.{is_next, is_quiet}
+use Rattle.relays.specs.Moving.{next_of}
+use Rattle.relays.specs.FarSide.{Shows, heard_at, is_quiet, left, new_far_side}
+use Rattle.relays.specs.declared.far_side.FarSide.{FarSide}
 
 -- what a relay is between two calls
 pub record ReceiveSide : Type 0 where
@@ -62,8 +64,7 @@ pub record ReceiveSide : Type 0 where
   pub asked : List (Option ℕ)  -- which places its endpoint asked for, as far as that remembers, and of which kind what came was
   pub kinds : KindCounts
   pub seen : List (Option SeenPacket)  -- what its endpoint took, as far as that remembers
-  pub far : SocketAddr
-  pub came : Option ℕ  -- the moment at which the far side's last datagram came
+  pub far : FarSide  -- where the far side is, and what shows it at another address
   pub reach : ℕ  -- by how much less a number may lie ahead that shows the far side at another address
   pub player : SocketAddr
   pub numbering : Numbering  -- the SSRC and the sequence numbers that the player sees
@@ -94,8 +95,7 @@ new_receive_side config capacity far player numbering hold bounds =
       asked = none_asked capacity;
       kinds = no_kinds;
       seen = none_seen 8192;
-      far = far;
-      came = None;
+      far = new_far_side far;
       reach = dropout_of capacity;
       player = player;
       numbering = numbering;
@@ -121,14 +121,22 @@ abbrev pub numbering_after : Result Heard ReceiveFault → Numbering → Numberi
 numbering_after (Ok (heard.Restarted r)) n = numbering_over r.skipped n
 numbering_after answer n = n
 
--- The octets are a media packet of the session with one of the next numbers, or they are not.
-abbrev pub GoesOn : ReceiveSide → (octets : List ℕ) → Bool → Type 0
-GoesOn s octets answer =
-    (number : Option ℕ) × IsMediaNumber s.core.config.session octets number × IsSpelledWhere octets number × (answer ≡ is_next (highest_of s.core.span) number s.reach)
+-- The octets are a media packet of the session with one of the next numbers, which this is, or they are not.
+abbrev pub GoesOn : ReceiveSide → (octets : List ℕ) → (next : Option ℕ) → Type 0
+GoesOn s octets next =
+    (number : Option ℕ) × IsMediaNumber s.core.config.session octets number × IsSpelledWhere octets number × (next ≡ next_of (highest_of s.core.span) number s.reach)
 
--- They come from another address than the far side's, and show it there: nothing came from the old one meanwhile.
-abbrev pub Moves : ReceiveSide → (octets : List ℕ) → (now : ℕ) → Bool → Type 0
-Moves s octets now answer = (goes_on : Bool) × GoesOn s octets goes_on × (answer ≡ (is_quiet s.came now && goes_on))
+-- From another address than the far side's they may show it there, since nothing comes from the old one.
+abbrev pub MayShow : ReceiveSide → (octets : List ℕ) → (now : ℕ) → Bool → Type 0
+MayShow s octets now answer = (next : Option ℕ) × GoesOn s octets next × (answer ≡ (is_quiet s.far now && is_some next))
+
+-- They do, with those that came before, or not yet. What does not go on with the session shows nothing.
+abbrev pub ShowsBy : (next : Option ℕ) → FarSide → (from : SocketAddr) → (now : ℕ) → Bool → FarSide → Type 0
+ShowsBy None old from now answer new = (answer ≡ false) × (new ≡ old)
+ShowsBy (Some number) old from now answer new = Shows old from number now answer new
+
+abbrev pub Moves : ReceiveSide → (from : SocketAddr) → (octets : List ℕ) → (now : ℕ) → Bool → FarSide → Type 0
+Moves s from octets now answer far = (next : Option ℕ) × GoesOn s octets next × ShowsBy next s.far from now answer far
 
 -- The endpoint hears a datagram of the far side; and what it took measures the path, by where its receiver stood.
 pub record HearsFrom (old : ReceiveSide) (from : SocketAddr) (octets : List ℕ) (now : ℕ) (answer : Result Heard ReceiveFault) (kind : Kind) (new : ReceiveSide) : Type 0 where
@@ -136,20 +144,24 @@ pub record HearsFrom (old : ReceiveSide) (from : SocketAddr) (octets : List ℕ)
   pub standing : Standing
   pub stood : IsStanding old.core octets standing
   pub is_kind : IsKind old.asked old.core.config.session (highest_of old.core.span) octets answer kind
-  pub rest : new ≡ record old { core = new.core; spare = new.spare; run = new.run; counts = count_heard answer old.counts; asked = kept_after answer old.asked; kinds = count_kind kind answer old.kinds; seen = seen_after answer octets old.seen; far = from; came = Some now; numbering = numbering_after answer old.numbering; hold = clock_after answer (timestamp_of octets) now old.hold; meter = meter_heard answer standing now old.meter; budget = after_octets (length octets) old.budget }
+  pub rest : new ≡ record old { core = new.core; spare = new.spare; run = new.run; counts = count_heard answer old.counts; asked = kept_after answer old.asked; kinds = count_kind kind answer old.kinds; seen = seen_after answer octets old.seen; far = heard_at from now old.far; numbering = numbering_after answer old.numbering; hold = clock_after answer (timestamp_of octets) now old.hold; meter = meter_heard answer standing now old.meter; budget = after_octets (length octets) old.budget }
 
 -- a far side that moved has earned nothing where it is now, and what was asked for is not asked for there a second time
-abbrev pub moved : ReceiveSide → ReceiveSide
-moved s = record s { copy = None; budget = after_move s.budget }
+abbrev pub moved : ReceiveSide → FarSide → ReceiveSide
+moved s far = record s { far = left far; copy = None; budget = after_move s.budget }
 
--- What is done with a datagram at the far side's socket: the endpoint hears what the far side sent, or what shows it at another
--- address, which is its address from then on, and nobody else's.
+-- What is done with a datagram from another address than the far side's: the endpoint hears what shows the far side there, which is its address
+-- from then on, and nobody else's. Of what shows nothing yet no more is kept than that.
+abbrev pub HearsElsewhere : ReceiveSide → (from : SocketAddr) → (octets : List ℕ) → (now : ℕ) → Note → Option Departure → ReceiveSide → Type 0
+HearsElsewhere old from octets now (note.Moved at answer kind) None new =
+    (at ≡ from) × (far : FarSide) × Moves old from octets now true far × HearsFrom (moved old far) from octets now answer kind new
+HearsElsewhere old from octets now note.Stray None new = Moves old from octets now false new.far × (new ≡ record old { far = new.far })
+HearsElsewhere old from octets now n leaves new = ⊥
+
+-- What is done with a datagram at the far side's socket: the endpoint hears what the far side sent, or what shows it at another address.
 abbrev pub HearsFar : ReceiveSide → (from : SocketAddr) → (octets : List ℕ) → (now : ℕ) → Note → Option Departure → ReceiveSide → Type 0
-HearsFar old from octets now (note.Heard answer kind) None new = (from ≡ old.far) × HearsFrom old from octets now answer kind new
-HearsFar old from octets now (note.Moved far answer kind) None new =
-    (from ≡ old.far → ⊥) × Moves old octets now true × (far ≡ from) × HearsFrom (moved old) from octets now answer kind new
-HearsFar old from octets now note.Stray None new = (from ≡ old.far → ⊥) × Moves old octets now false × (new ≡ old)
-HearsFar old from octets now n leaves new = ⊥
+HearsFar old from octets now (note.Heard answer kind) None new = (from ≡ old.far.at) × HearsFrom old from octets now answer kind new
+HearsFar old from octets now n leaves new = (from ≡ old.far.at → ⊥) × HearsElsewhere old from octets now n leaves new
 
 -- nothing is taken from the player
 abbrev pub Hears : ReceiveSide → Side → (from : SocketAddr) → (octets : List ℕ) → (now : ℕ) → Turn → (out : List ℕ) → ReceiveSide → Type 0
@@ -227,7 +239,7 @@ copy_for octets false = None
 -- places that are due are asked for at the far side, within what was earned
 pub record AsksFar (old : ReceiveSide) (now : ℕ) (d : Departure) (out : List ℕ) (new : ReceiveSide) : Type 0 where
   pub asks : AsksWithin (room_for old.budget) old now d.len out new
-  pub goes : GoesTo d Far old.far
+  pub goes : GoesTo d Far old.far.at
   pub rest : new ≡ record old { core = new.core; counts = new.counts; asked = new.asked; meter = meter_asked new.core.span (octets_of d out) now old.meter; copy = copy_for (octets_of d out) (leaves_twice d.len old.budget); budget = after_nack d.len old.budget }
 
 abbrev pub Asks : ReceiveSide → (now : ℕ) → Note → Option Departure → (out : List ℕ) → ReceiveSide → Type 0
@@ -237,7 +249,7 @@ Asks old now n leaves out new = ⊥
 -- the last NACK leaves a second time, as it was
 abbrev pub AsksAgain : ReceiveSide → Option Departure → (out : List ℕ) → ReceiveSide → Type 0
 AsksAgain old None out new = ⊥
-AsksAgain old (Some d) out new = (old.copy ≡ Some (record { items = octets_of d out })) × GoesTo d Far old.far × (new ≡ record old { copy = None })
+AsksAgain old (Some d) out new = (old.copy ≡ Some (record { items = octets_of d out })) × GoesTo d Far old.far.at × (new ≡ record old { copy = None })
 
 -- how long the times are for which it asks
 abbrev pub time_for_asks : ReceiveSide → (now : ℕ) → ℕ

@@ -235,7 +235,7 @@ fn is_weak(taken: u64, span: u64) -> bool
 }
 
 /// Whether a number is one of the next ones behind another.
-fn is_next_number(before: u16, number: u16) -> bool
+pub(crate) fn is_next_number(before: u16, number: u16) -> bool
     ensures { result ≡ is_next_number before number }
 {
     let ahead = number.wrapping_sub(before);

@@ -1,8 +1,9 @@
-//! Laws of a pace, of the player's numbers, and of who keeps a session. These functions compute nothing: their contracts are the laws.
+//! Laws of a pace, of the player's numbers, of who keeps a session, and of where its far side is. These functions compute nothing: their contracts are the laws.
 ghost use Rattle.std.specs.Prelude.{◌≡◌, ◌+◌, ◌-◌, ◌*◌, ◌/◌, ◌%◌, ◌<◌, ◌≤◌, ◌∷◌, ℕ, List, Ok, Some, false, true, max, sum};
 ghost use Rattle.endpoint.specs.declared.heard.Heard.TheVariants.{Restarted};
 ghost use Rattle.endpoint.specs.declared.heard.Restart.{Restart};
 ghost use Rattle.relays.specs.Claims.{answer, falls_in, taken_beside, taken_of};
+ghost use Rattle.relays.specs.FarSide.{AreApart, heard_all, quiet_for};
 ghost use Rattle.relays.specs.Numbering.{numbered, numbered_after};
 ghost use Rattle.relays.specs.ReceiveRelay.{numbering_after};
 ghost use Rattle.relays.specs.declared.claim_tables.Claim.{Claim};
@@ -10,6 +11,7 @@ ghost use Rattle.relays.specs.declared.claims.Claims.{Claims};
 ghost use Rattle.relays.specs.declared.numbering.Numbering.{Numbering};
 ghost use Rattle.rtpwire.specs.declared.limits.TheConstants.{MAX_DATAGRAM};
 ghost use Rattle.relays.specs.declared.pace.Pace.{Pace};
+ghost use Rattle.std.specs.declared.net.socket_addr.SocketAddr.{SocketAddr};
 ghost use Rattle.relays.specs.declared.pace.Rate.TheVariants.{Kilobits, Percent};
 ghost use Rattle.relays.specs.Pacing.{depth_by, is_free, is_open, new_pace, owed_at};
 ghost use Rattle.relays.specs.Paced.{AreBetween, DrainsUpTo, IsSilentAt, MayLeave, Step, heard, after_all, octets_repaired, octets_sent, pace_after};
@@ -48,6 +50,13 @@ pub fn bursts_leave_at_once()
     // Where the bucket is empty the pace stays open at that moment until more than 64 KiB has left, or less than a datagram is saved up.
     ensures { (share : ℕ) (p : Pace) (now : ℕ) (octets : List ℕ) → p.rate ≡ Percent share → owed_at p now ≡ 0 → sum octets * 8 ≤ 524288
         → sum octets * 8 + MAX_DATAGRAM * 8 ≤ p.credit → is_open (after_all p now octets) now ≡ true }
+{}
+
+/// A far side that sends seldom is waited for.
+#[tactic(auto, using(crate::proofs::Slow::waited_for))]
+pub fn four_gaps_are_waited_for()
+    // Where its datagrams came from one address so many milliseconds apart at least, up to 250, it is not quiet before four times as many.
+    ensures { (at : SocketAddr) (gap : ℕ) (moments : List ℕ) → gap ≤ 250 → AreApart gap moments → 4 * gap ≤ quiet_for (heard_all at moments) }
 {}
 
 /// What a jump passes over is a hole, and other numbers leave none.

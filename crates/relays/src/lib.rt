@@ -6,6 +6,7 @@ mod claim_tables;
 mod claims;
 mod driving;
 mod dropout;
+mod far_side;
 mod feedback;
 mod holding;
 mod laws;
@@ -25,7 +26,9 @@ pub use bounds::Bounds;
 pub use claim_tables::{Claim, ClaimTables, Claimant};
 pub use claims::{Claims, Step, Stranger};
 pub use driving::run;
-pub use laws::{bursts_leave_at_once, pace_is_kept, two_in_each_second_are_enough};
+pub use laws::{
+    bursts_leave_at_once, four_gaps_are_waited_for, pace_is_kept, two_in_each_second_are_enough,
+};
 pub use media_rate::MediaRate;
 pub use numbering::Numbering;
 pub use outside::{Meeting, Octets, Outside, OutsideFault, Passage, Side};

@@ -1,26 +1,13 @@
-//! Whether the far side has moved to another address, as where a NAT on its way binds it anew.
+//! Whether a datagram goes on with the session, as what shows the far side at another address does.
 ghost use Rattle.std.specs.Prelude.{◌≡◌};
 ghost use Rattle.endpoint.specs.Receiving.{IsMediaNumber, IsSpelledWhere, media_number_of};
-ghost use Rattle.relays.specs.Moving.{is_next, is_quiet};
+ghost use Rattle.relays.specs.Moving.{is_next, next_of};
 
 use places::Place;
 use rtpwire::{RtpView, Session};
 
-/// How long nothing may have come from the far side before it is heard at another address, in milliseconds.
-const QUIET: u64 = 100;
-
-/// Whether nothing came for so long, where something came before.
-pub(crate) fn is_quiet(came: Option<u64>, now: u64) -> bool
-    ensures { result ≡ is_quiet came now }
-{
-    match came {
-        Some(came) => now.saturating_sub(came) >= QUIET,
-        None => false,
-    }
-}
-
 /// Whether a number is one of the next ones: ahead of the highest place, by less than `reach`.
-pub(crate) fn is_next(highest: Option<Place>, number: Option<u16>, reach: u16) -> bool
+fn is_next(highest: Option<Place>, number: Option<u16>, reach: u16) -> bool
     ensures { result ≡ is_next highest number reach }
 {
     match (highest, number) {
@@ -29,6 +16,17 @@ pub(crate) fn is_next(highest: Option<Place>, number: Option<u16>, reach: u16) -
             0 < ahead && ahead < reach
         }
         _ => false,
+    }
+}
+
+/// The number, if it is one of the next ones.
+pub(crate) fn next_of(highest: Option<Place>, number: Option<u16>, reach: u16) -> Option<u16>
+    ensures { result ≡ next_of highest number reach }
+{
+    if is_next(highest, number, reach) {
+        number
+    } else {
+        None
     }
 }
 

@@ -11,13 +11,14 @@ ghost use Rattle.receiver.specs.Receiver.{begun, state_of};
 ghost use Rattle.stores.specs.Asking.{has_come};
 ghost use Rattle.timing.specs.FeedbackBudget.{nothing_earned};
 ghost use Rattle.relays.specs.Passing.{IsWithin};
-ghost use Rattle.relays.specs.ReceiveRelay.{Asks, AsksAgain, AsksIn, AsksNot, AsksWithin, fewer_in, GoesOn, HearsFar, HearsFrom, Moves, is_done, moved, new_receive_side, next_play, NothingAsked, NothingDue, numbering_after, passes, patience_left, PlaysOut, SpeaksAs, StaysBut};
+ghost use Rattle.relays.specs.ReceiveRelay.{Asks, AsksAgain, AsksIn, AsksNot, AsksWithin, fewer_in, GoesOn, HearsElsewhere, HearsFar, HearsFrom, MayShow, Moves, is_done, moved, new_receive_side, next_play, NothingAsked, NothingDue, numbering_after, passes, patience_left, PlaysOut, SpeaksAs, StaysBut};
 
 use crate::bounds::Bounds;
 use crate::dropout::{dropout, probation};
+use crate::far_side::FarSide;
 use crate::feedback::{earn, renew, room_for, spend};
 use crate::holding::{asking_time, hear_clock, release, timestamp_of, wait};
-use crate::moving::{is_next, is_quiet, media_number};
+use crate::moving::{media_number, next_of};
 use crate::numbering::Numbering;
 use crate::outside::Side;
 use crate::relay::{Departure, Note, Relay, Turn, silent};
@@ -44,9 +45,8 @@ const SHORTEST: usize = 16;
 #[derive(Drop)]
 pub struct ReceiveRelay<W: Window> {
     endpoint: AskingEndpoint<W>,
-    far: SocketAddr,
-    /// The moment at which the far side's last datagram came.
-    came: Option<u64>,
+    /// Where the far side is, and what shows it at another address.
+    far: FarSide,
     /// By how much less a number may lie ahead that shows the far side at another address.
     reach: u16,
     player: SocketAddr,
@@ -69,7 +69,7 @@ impl<W: Window> Model for ReceiveRelay<W> {
 
     ghost Value = { ReceiveSide };
 
-    ghost view = { λ r. record { core = r.endpoint.endpoint.core; spare = r.endpoint.endpoint.spare; run = r.endpoint.endpoint.run; probation = r.endpoint.endpoint.probation; counts = r.endpoint.endpoint.counts; asked = r.endpoint.asked; kinds = r.endpoint.kinds; seen = r.endpoint.endpoint.seen; far = r.far; came = r.came; reach = r.reach; player = r.player; numbering = r.numbering; hold = r.hold; meter = r.meter; last = r.last; copy = r.copy; budget = r.budget; bounds = r.bounds } };
+    ghost view = { λ r. record { core = r.endpoint.endpoint.core; spare = r.endpoint.endpoint.spare; run = r.endpoint.endpoint.run; probation = r.endpoint.endpoint.probation; counts = r.endpoint.endpoint.counts; asked = r.endpoint.asked; kinds = r.endpoint.kinds; seen = r.endpoint.endpoint.seen; far = r.far; reach = r.reach; player = r.player; numbering = r.numbering; hold = r.hold; meter = r.meter; last = r.last; copy = r.copy; budget = r.budget; bounds = r.bounds } };
 }
 
 impl<W: Window> ReceiveRelay<W> {
@@ -94,8 +94,7 @@ impl<W: Window> ReceiveRelay<W> {
     {
         Ok(ReceiveRelay {
             endpoint: AskingEndpoint::new(alloc, config, probation(capacity), capacity)?,
-            far,
-            came: None,
+            far: FarSide::new(far),
             reach: dropout(capacity),
             player,
             numbering,
@@ -224,9 +223,9 @@ impl<W: Window> ReceiveRelay<W> {
 
     /// The address of the far side.
     pub fn far(&self) -> SocketAddr
-        ensures { result ≡ self.now.far }
+        ensures { result ≡ self.now.far.at }
     {
-        self.far
+        self.far.at()
     }
 
     /// The session that it takes.
@@ -241,25 +240,45 @@ impl<W: Window> ReceiveRelay<W> {
         ensures hears { HearsFar self.old from octets.now now result.note result.leaves self.new }
         ensures within { IsWithin result }
     {
-        let is_far = from == self.far;
-        if !is_far && !self.has_moved(octets, now) {
+        if from == self.far.at() {
+            let (answer, kind) = self.hear_session(from, octets, now);
+            return silent(Note::Heard(answer, kind));
+        }
+        self.hear_elsewhere(from, octets, now)
+    }
+
+    /// Hears a datagram from another address than the far side's.
+    fn hear_elsewhere(&mut self, from: SocketAddr, octets: &[u8], now: u64) -> Turn
+        ensures hears { HearsElsewhere self.old from octets.now now result.note result.leaves self.new }
+        ensures within { IsWithin result }
+    {
+        if !self.moves(from, octets, now) {
             return silent(Note::Stray);
         }
-        if !is_far {
-            self.move_away();
-        }
+        self.move_away();
         let (answer, kind) = self.hear_session(from, octets, now);
-        if is_far {
-            silent(Note::Heard(answer, kind))
-        } else {
-            silent(Note::Moved(from, answer, kind))
+        Turn {
+            note: Note::Moved(from, answer, kind),
+            leaves: None,
+        }
+    }
+
+    /// Whether a datagram from another address than the far side's shows, with those that came from there before, that it is there now.
+    fn moves(&mut self, from: SocketAddr, octets: &[u8], now: u64) -> bool
+        ensures moves { Moves self.old from octets.now now result self.new.far }
+        ensures rest { self.new ≡ record self.old { far = self.new.far } }
+    {
+        match self.next_number(octets) {
+            Some(number) => self.far.show(from, number, now),
+            None => false,
         }
     }
 
     /// The far side is at another address: what was asked for is not asked for there a second time.
     fn move_away(&mut self)
-        ensures { self.new ≡ moved self.old }
+        ensures { self.new ≡ moved self.old self.old.far }
     {
+        self.far.leave();
         self.copy = None;
         renew(&mut self.budget);
     }
@@ -274,8 +293,7 @@ impl<W: Window> ReceiveRelay<W> {
         ensures { HearsFrom self.old from octets.now now result.0 result.1 self.new }
     {
         let standing = Standing::before(self.core(), octets);
-        self.far = from;
-        self.came = Some(now);
+        self.far.hear(from, now);
         earn(&mut self.budget, octets);
         let (answer, kind) = self.endpoint.on_datagram(octets, now);
         renumber(&mut self.numbering, &answer);
@@ -284,22 +302,21 @@ impl<W: Window> ReceiveRelay<W> {
         (answer, kind)
     }
 
-    /// Whether a datagram from another address than the far side's shows that it is there now: it goes on with the session, and
-    /// nothing came from the far side for a tenth of a second.
-    pub fn has_moved(&self, octets: &[u8], now: u64) -> bool
-        ensures { Moves self.now octets.now now result }
+    /// Whether a datagram may show the far side at another address than its own: it goes on with the session, and nothing comes from there.
+    pub fn may_show(&self, octets: &[u8], now: u64) -> bool
+        ensures { MayShow self.now octets.now now result }
     {
-        let goes_on = self.goes_on(octets);
-        is_quiet(self.came, now) && goes_on
+        let goes_on = self.next_number(octets).is_some();
+        self.far.is_quiet(now) && goes_on
     }
 
-    /// Whether a datagram goes on with the session: a media packet of it with one of the next numbers.
-    fn goes_on(&self, octets: &[u8]) -> bool
+    /// The number of a datagram that goes on with the session: of a media packet of it, and one of the next.
+    fn next_number(&self, octets: &[u8]) -> Option<u16>
         ensures { GoesOn self.now octets.now result }
     {
         let core = self.core();
         let number = media_number(&core.config().session(), octets);
-        is_next(core.window().highest(), number, self.reach)
+        next_of(core.window().highest(), number, self.reach)
     }
 
     /// Has the times follow what was measured.
@@ -392,7 +409,7 @@ impl<W: Window> ReceiveRelay<W> {
             note: Note::Asked,
             leaves: Some(Departure {
                 side: Side::Far,
-                to: self.far,
+                to: self.far.at(),
                 len,
             }),
         })
@@ -453,7 +470,7 @@ impl<W: Window> ReceiveRelay<W> {
             note: Note::AskedAgain,
             leaves: Some(Departure {
                 side: Side::Far,
-                to: self.far,
+                to: self.far.at(),
                 len,
             }),
         })
