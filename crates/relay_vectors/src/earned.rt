@@ -107,20 +107,28 @@ fn a_new_address_earns_anew(rt: HostRuntime) -> Result<(), Fail> {
         (1, Far, FAR, Media(10, 1)),
         (2, Far, FAR, Media(11, 2)),
         (3, Far, FAR, Media(13, 4)),
-        (110, Far, OTHER, Media(14, 5)),
-        (120, Far, OTHER, Media(15, 6)),
+        // Three packets show it there, and are not heard; the fourth one is, 998 milliseconds behind the old address's last one. Of those three
+        // each was sent 249 milliseconds before it at least, as far as that silence tells, and is given up.
+        (990, Far, OTHER, Media(14, 66)),
+        (991, Far, OTHER, Media(15, 66)),
+        (992, Far, OTHER, Media(16, 66)),
+        (1001, Far, OTHER, Media(17, 5)),
+        (1002, Far, OTHER, Media(19, 7)),
+        (1010, Far, OTHER, Media(18, 6)),
     ];
-    // What is due at 53 has no room in the seven octets that are left, and what is due at 110 none in the 13 that came from there.
+    // What is due at 53 has no room in the seven octets that are left. What is due at 1002 leaves once: it has room in the 26 that came from
+    // there, and a copy would have in these and the seven.
     const LEAVES: &[(usize, Passing)] = &[
         (0, (1, Near, PLAYER, Media(10, 1))),
         (1, (2, Near, PLAYER, Media(11, 2))),
         (2, (3, Far, FAR, Nack(12))),
         (3, (3, Far, FAR, Nack(12))),
-        (4, (120, Far, OTHER, Nack(12))),
-        (5, (203, Near, PLAYER, Media(13, 4))),
-        (6, (203, Near, PLAYER, Media(14, 5))),
-        (7, (203, Near, PLAYER, Media(15, 6))),
+        (4, (203, Near, PLAYER, Media(13, 4))),
+        (5, (1001, Near, PLAYER, Media(17, 5))),
+        (6, (1002, Far, OTHER, Nack(18))),
+        (7, (1010, Near, PLAYER, Media(18, 6))),
+        (8, (1010, Near, PLAYER, Media(19, 7))),
     ];
-    assert!(rt; leaves(rt.alloc(), 6, COMES, LEAVES)?);
+    assert!(rt; leaves(rt.alloc(), 10, COMES, LEAVES)?);
     Ok(())
 }

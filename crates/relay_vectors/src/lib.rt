@@ -10,6 +10,8 @@ mod held;
 #[cfg(test)]
 mod lossy;
 #[cfg(test)]
+mod moving;
+#[cfg(test)]
 mod pacing;
 #[cfg(test)]
 mod packets;

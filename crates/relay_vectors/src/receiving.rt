@@ -16,7 +16,7 @@ pub(crate) const FAR: u16 = 6005;
 
 pub(crate) const PLAYER: u16 = 5006;
 
-const STRANGER: u16 = 6666;
+pub(crate) const STRANGER: u16 = 6666;
 
 /// A relay that gives a place up after 200 milliseconds, until so many were played or given up, over windows of this capacity, whose
 /// packets are held by this clock.
@@ -225,37 +225,6 @@ fn asks_follow_reordering_and_the_round_trip(rt: HostRuntime) -> Result<(), Fail
     Ok(())
 }
 
-/// Another address sends what goes on with the session while nothing came from the old one for 100 milliseconds: from then on it is
-/// the far side's, and is asked. Before that it is a stranger's.
-#[test]
-fn a_far_side_that_moves(rt: HostRuntime) -> Result<(), Fail> {
-    const COMES: &[Passing] = &[
-        (1, Far, FAR, Media(10, 1)),
-        // What the old address sends last is refused, and comes from it all the same.
-        (50, Far, FAR, Media(10, 1)),
-        (149, Far, STRANGER, Media(11, 66)),
-        (150, Far, STRANGER, Media(12, 3)),
-        // The old one is a stranger now, however it goes on.
-        (160, Far, FAR, Media(13, 66)),
-        (170, Far, STRANGER, Media(13, 4)),
-        (180, Far, STRANGER, Media(14, 5)),
-        (190, Far, STRANGER, Media(11, 2)),
-    ];
-    const LEAVES: &[(usize, Passing)] = &[
-        (0, (1, Near, PLAYER, Media(10, 1))),
-        (1, (150, Far, STRANGER, Nack(11))),
-        (2, (150, Far, STRANGER, Nack(11))),
-        (3, (190, Near, PLAYER, Media(11, 2))),
-        (4, (190, Near, PLAYER, Media(12, 3))),
-        (5, (190, Near, PLAYER, Media(13, 4))),
-        (6, (190, Near, PLAYER, Media(14, 5))),
-    ];
-    let done = done(rt.alloc(), 5, COMES, LEAVES)?;
-    assert!(rt; done.has_left && done.gone == 7);
-    assert!(rt; done.far == STRANGER);
-    Ok(())
-}
-
 /// What does not go on with the session is a stranger's, however long the far side is silent.
 #[test]
 fn strangers_stay_strangers(rt: HostRuntime) -> Result<(), Fail> {
@@ -295,18 +264,6 @@ fn strangers_stay_strangers(rt: HostRuntime) -> Result<(), Fail> {
     let done = done(rt.alloc(), 3, COMES, LEAVES)?;
     assert!(rt; done.has_left && done.gone == 3);
     assert!(rt; done.far == FAR && done.media == 3);
-    Ok(())
-}
-
-/// The last number that shows the far side at another address lies 2999 ahead.
-#[test]
-fn a_far_side_that_moves_and_loses(rt: HostRuntime) -> Result<(), Fail> {
-    const COMES: &[Passing] = &[
-        (1, Far, FAR, Media(65535, 1)),
-        (200, Far, STRANGER, Media(2998, 2)),
-    ];
-    let done = done(rt.alloc(), 2, COMES, &[])?;
-    assert!(rt; done.far == STRANGER && done.media == 2);
     Ok(())
 }
 
