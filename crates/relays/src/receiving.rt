@@ -11,33 +11,29 @@ ghost use Rattle.receiver.specs.Receiver.{begun, state_of};
 ghost use Rattle.stores.specs.Asking.{has_come};
 ghost use Rattle.timing.specs.FeedbackBudget.{nothing_earned};
 ghost use Rattle.relays.specs.Passing.{IsWithin};
-ghost use Rattle.relays.specs.ReceiveRelay.{Asks, AsksAgain, AsksIn, AsksNot, AsksWithin, fewer_in, GoesOn, HearsElsewhere, HearsFar, HearsFrom, MayShow, Moves, is_done, moved, new_receive_side, next_play, NothingAsked, NothingDue, numbering_after, passes, patience_left, PlaysOut, SpeaksAs, StaysBut};
+ghost use Rattle.relays.specs.ReceiveRelay.{GoesOn, HearsElsewhere, HearsFar, HearsFrom, MayShow, Moves, is_done, moved, new_receive_side, next_play, NothingAsked, numbering_after, passes, patience_left, PlaysOut, SpeaksAs};
+
+mod asking;
 
 use crate::bounds::Bounds;
 use crate::dropout::{dropout, probation};
 use crate::far_side::FarSide;
-use crate::feedback::{earn, renew, room_for, spend};
+use crate::feedback::{earn, renew};
 use crate::holding::{asking_time, hear_clock, release, timestamp_of, wait};
 use crate::moving::{media_number, next_of};
 use crate::numbering::Numbering;
 use crate::outside::Side;
 use crate::relay::{Departure, Note, Relay, Turn, silent};
-use crate::writing::{copy_of, write};
+use crate::writing::write;
 use endpoint::{AskingEndpoint, Heard, Kind, KindCounts, PathMeter, ReceiveCounts, Standing};
 use places::Place;
 use receiver::{HasStarted, Peeked, ReceiveFault, Receiver, ReceiverConfig};
-use rtpwire::{Datagram, MAX_DATAGRAM, Session, TooShort};
+use rtpwire::{Datagram, Session};
 use std::alloc::Global;
 use std::marker::Model;
 use std::net::SocketAddr;
-use stores::{AskRule, OutOfMemory, SlotRef, Window, sooner, window_by_place};
+use stores::{OutOfMemory, SlotRef, Window, sooner};
 use timing::{FeedbackBudget, Playout};
-
-/// How many places one ask names at most.
-const MOST: usize = 256;
-
-/// A NACK has so many octets at least.
-const SHORTEST: usize = 16;
 
 /// It takes a session from a network, asks the far side for what is lost, and hands what is played to a player as RTP of one SSRC,
 /// whose sequence numbers have holes only where places were given up or overrun, or a jump of the stream passed over them. How long it
@@ -149,29 +145,6 @@ impl<W: Window> ReceiveRelay<W> {
         let counts = self.counts();
         self.bounds
             .end(counts.played.saturating_add(counts.gaps), self.last)
-    }
-
-    /// From when on something is to be asked for.
-    fn ask_moment(&self) -> Option<u64>
-        ensures { (now : ℕ) → now < 2 ^ 64 → has_come result now ≡ false → NothingAsked self.now now }
-    {
-        if room_for(&self.budget) < SHORTEST {
-            return None;
-        }
-        self.due_moment()
-    }
-
-    /// From when on a place is due.
-    fn due_moment(&self) -> Option<u64>
-        ensures { (now : ℕ) → now < 2 ^ 64 → has_come result now ≡ false → NothingDue self.now now }
-    {
-        window_by_place();
-        let config = self.core().config();
-        self.core().window().next_due(AskRule {
-            delay: config.delay(),
-            retry: config.retry(),
-            asks: config.asks(),
-        })
     }
 
     /// How long the next place to play is waited for since it was noticed to be missing.
@@ -383,105 +356,6 @@ impl<W: Window> ReceiveRelay<W> {
         self.meter.pass(place);
         self.last = Some(now);
     }
-
-    /// Asks the far side for what is due.
-    fn ask(&mut self, now: u64, out: &mut [u8]) -> Option<Turn>
-        requires { length out.old ≡ MAX_DATAGRAM }
-        ensures some { IfSome result (λ turn. Asks self.old now turn.note turn.leaves out.new self.new) }
-        ensures none { result ≡ None → NothingAsked self.old now }
-        ensures same { result ≡ None → self.new ≡ self.old }
-        ensures within { IfSome result IsWithin }
-        ensures room { length out.new ≡ MAX_DATAGRAM }
-    {
-        let room = room_for(&self.budget);
-        if room < SHORTEST {
-            return None;
-        }
-        let len = self.ask_within(room, now, out)?;
-        self.meter
-            .ask(self.endpoint.endpoint().core(), &out[..len], now);
-        self.copy = if spend(&mut self.budget, len) {
-            Some(copy_of(&out[..len]))
-        } else {
-            None
-        };
-        Some(Turn {
-            note: Note::Asked,
-            leaves: Some(Departure {
-                side: Side::Far,
-                to: self.far.at(),
-                len,
-            }),
-        })
-    }
-
-    /// Writes a NACK of so many octets at most: of all that is due, as far as one has room for it, or else of as many places as have, a pair each.
-    fn ask_within(&mut self, room: usize, now: u64, out: &mut [u8]) -> Option<usize>
-        requires whole { length out.old ≡ MAX_DATAGRAM }
-        requires limit { room ≤ 268 }
-        ensures some { IfSome result (λ len. AsksWithin room self.old now len out.new self.new) }
-        ensures stays { StaysBut self.old self.new }
-        ensures none { result ≡ None → AsksNot room self.old now }
-        ensures same { result ≡ None → self.new ≡ self.old }
-        ensures room { length out.new ≡ MAX_DATAGRAM }
-    {
-        match self.ask_most(room, MOST, now, out) {
-            Ok(len) => len,
-            Err(_) => match self.ask_most(room, fewer_in(room), now, out) {
-                Ok(len) => len,
-                Err(_) => None,
-            },
-        }
-    }
-
-    /// Writes a NACK of so many places at most that are due, which has so many octets at most.
-    fn ask_most(
-        &mut self,
-        room: usize,
-        most: usize,
-        now: u64,
-        out: &mut [u8],
-    ) -> Result<Option<usize>, TooShort>
-        requires whole { length out.old ≡ MAX_DATAGRAM }
-        requires limit { room ≤ 268 }
-        ensures asks { AsksIn room most self.old now result out.new self.new }
-        ensures room { length out.new ≡ MAX_DATAGRAM }
-    {
-        self.endpoint.ask_most_into(&mut out[..room], now, most)
-    }
-
-    /// Sends the last NACK once more, so that the loss of one of both costs no time.
-    fn ask_again(&mut self, out: &mut [u8]) -> Option<Turn>
-        requires { length out.old ≡ MAX_DATAGRAM }
-        ensures some { IfSome result (λ turn. (turn.note ≡ note.AskedAgain) × AsksAgain self.old turn.leaves out.new self.new) }
-        ensures none { result ≡ None → self.old.copy ≡ None }
-        ensures same { result ≡ None → self.new ≡ self.old }
-        ensures within { IfSome result IsWithin }
-        ensures room { length out.new ≡ MAX_DATAGRAM }
-    {
-        // Where there is none, as is usual, nothing is moved.
-        let Some(copy) = &self.copy else {
-            return None;
-        };
-        let len = copy.len();
-        out[..len].copy_from_slice(copy.as_slice());
-        self.copy = None;
-        Some(Turn {
-            note: Note::AskedAgain,
-            leaves: Some(Departure {
-                side: Side::Far,
-                to: self.far.at(),
-                len,
-            }),
-        })
-    }
-}
-
-/// How many places have room in a NACK of so many octets, with a pair each (RFC 4585, section 6.2.1).
-fn fewer_in(room: usize) -> usize
-    ensures { result ≡ fewer_in room }
-{
-    room.saturating_sub(12) / 4
 }
 
 /// Where a stream restarts with other numbers, those of what is played go on. What a jump ahead passed over is a hole.
