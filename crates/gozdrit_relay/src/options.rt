@@ -34,7 +34,13 @@ fn send<'a>(alloc: Global) -> Result<Command<'a>, AllocError> {
             "from",
             "ADDR:PORT",
             "Where the session leaves and feedback comes to; any by default",
-        ))?
+        ))?;
+    common(alloc, of_retransmissions(alloc, command)?)
+}
+
+/// When a packet is retransmitted, and for how long it may be.
+fn of_retransmissions<'a>(alloc: Global, command: Command<'a>) -> Result<Command<'a>, AllocError> {
+    command
         .arg(option(
             alloc,
             "rate",
@@ -64,8 +70,7 @@ fn send<'a>(alloc: Global) -> Result<Command<'a>, AllocError> {
             "rtx-first",
             "N",
             "The first sequence number of the retransmissions; 0 by default",
-        ))?;
-    common(alloc, command)
+        ))
 }
 
 fn receive<'a>(alloc: Global) -> Result<Command<'a>, AllocError> {
