@@ -1,7 +1,7 @@
 #!/usr/bin/env python3
 """Counts instructions of calls, workloads and relays, and compares them with bench/costs.txt.
 
-    count.py [--write]    --write: writes the file anew
+    count.py [--write]    --write: writes the file anew, and its figures to docs/COSTS.md
 
 TREE (environment) is the tree whose library and programs are counted, this one unless it is said. Its last line is
 `N passed, M failed`."""
@@ -16,6 +16,7 @@ from pathlib import Path
 HERE = Path(__file__).resolve().parent
 sys.path.insert(0, str(HERE.parent / "relay"))
 import growth
+import page
 import relays
 from base import Checks
 from callgrind import Broken, build, count, total
@@ -23,7 +24,7 @@ from figures import Counted, Figures, text_of
 
 ROOT = HERE.parents[1]
 TREE = Path(os.environ.get("TREE", ROOT)).resolve()
-FILE = ROOT / "bench/costs.txt"
+FILE, PAGE = ROOT / "bench/costs.txt", ROOT / "docs/COSTS.md"
 SEED = "1"
 
 
@@ -86,6 +87,7 @@ def main():
         checks.tell()
     if sys.argv[1:] == ["--write"]:
         FILE.write_text(text_of(figures.head, machine(), counted))
+        PAGE.write_text(page.written(PAGE.read_text(), Figures(FILE.read_text()).words))
         checks.tell()
     for good, words in figures.judge(counted, machine()):
         checks.count(good, words)
