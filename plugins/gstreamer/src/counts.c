@@ -35,7 +35,7 @@ static void add_jitter_counts(const GstGozdritRecv *self, const gozdrit_receive_
     ADD_COUNT(told, "rtx-count", counts->nacked);
     ADD_COUNT(told, "rtx-success-count", counts->retransmissions);
     gst_structure_set(told, "rtx-per-packet", G_TYPE_DOUBLE, each, NULL);
-    ADD_COUNT(told, "rtx-rtt", receiving_times(self).round_trip * MILLISECOND);
+    ADD_COUNT(told, "rtx-rtt", asking_times(self).round_trip * MILLISECOND);
 }
 
 /* The library's counts. */
@@ -69,7 +69,7 @@ static GstStructure *stream_told(const GstGozdritRecv *self) {
     if (rtx.known) gst_structure_set(told, "rtx-ssrc", G_TYPE_UINT, rtx.ssrc, NULL);
     counts_add(self, &counts, &probes);
     add_counts_of(told, &counts, &probes);
-    ADD_COUNT(told, "rtx-round-trip", receiving_times(self).round_trip * MILLISECOND);
+    ADD_COUNT(told, "rtx-round-trip", asking_times(self).round_trip * MILLISECOND);
     return told;
 }
 
@@ -98,7 +98,7 @@ GstStructure *counts_told(GstGozdritRecv *self) {
     ADD_COUNT(told, "sessions", self->sessions);
     ADD_COUNT(told, "key-requests", self->key_requests);
     add_jitter_counts(self, &counts, &probes, told);
-    ADD_COUNT(told, "rtx-round-trip", receiving_times(self).round_trip * MILLISECOND);
+    ADD_COUNT(told, "rtx-round-trip", asking_times(self).round_trip * MILLISECOND);
     add_streams(self, told);
     return told;
 }

@@ -25,7 +25,7 @@ static gozdrit_timeout stream_timeout(GstGozdritRecv *self, guint64 now) {
     gsize missing = 0;
     if (!self->stalled) gozdrit_next_timeout(&self->stream->end, &next);
     else gozdrit_missing(&self->stream->end, &missing);
-    if (missing > 0) next = (gozdrit_timeout){now + receiving_step(self), 1};
+    if (missing > 0) next = (gozdrit_timeout){now + asking_step(self), 1};
     return next;
 }
 

@@ -7,7 +7,7 @@
 
 static void move(GstGozdritRecv *self, gint64 by) {
     self->offset.now += by;
-    receiving_set_times(self);
+    asking_set(self);
     feedback_schedule(self);
 }
 
@@ -19,7 +19,7 @@ void offset_set(GstGozdritRecv *self, gint64 wanted) {
 
 void offset_pause(GstGozdritRecv *self, guint64 paused) {
     self->offset.paused = (gint64)MIN(paused, (guint64)MOST);
-    receiving_set_times(self);
+    asking_set(self);
 }
 
 GstClockTime offset_of(const GstGozdritRecv *self, GstClockTime at) {

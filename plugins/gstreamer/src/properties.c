@@ -173,7 +173,7 @@ void properties_set(GObject *object, guint id, const GValue *value, GParamSpec *
     }
     g_mutex_lock(&self->lock);
     gboolean is_one = set_own(self, id, value) || set_jitter(self, id, value);
-    receiving_set_times(self);
+    asking_set(self);
     feedback_wake(self);
     g_mutex_unlock(&self->lock);
     if (!is_one) G_OBJECT_WARN_INVALID_PROPERTY_ID(object, id, spec);

@@ -1,5 +1,5 @@
 /* gozdritrecv, the receiving element. recv.c is the element: its pads and states; properties.c has its properties. receiving.c takes
- * packets into the session, playing.c makes of what the session plays what goes out, feedback.c has the timer, tasks.c
+ * packets into the session, asking.c says when it asks, playing.c makes of what the session plays what goes out, feedback.c has the timer, tasks.c
  * tells when each of them runs, and auxiliary.c is for where nobody takes feedback, where there may be several streams: streams.c. What a jitter
  * buffer has beside that is in jitter.c, ptmap.c, sync.c and offset.c.
  *
@@ -287,12 +287,16 @@ void receiving_end(GstGozdritRecv *self);
 void receiving_end_all(GstGozdritRecv *self);
 /* Forgets what is held, and where the packets' times lie. */
 void receiving_flush(GstGozdritRecv *self);
-/* Sets the times of the library, of each stream. */
-void receiving_set_times(GstGozdritRecv *self);
+
+/* ---- asking.c. The lock is held in all of these. */
+
+/* Sets the times of the library, of the stream; and of each. */
+void asking_set_stream(GstGozdritRecv *self);
+void asking_set(GstGozdritRecv *self);
 /* The least time between two asks, in milliseconds. */
-guint64 receiving_step(const GstGozdritRecv *self);
+guint64 asking_step(const GstGozdritRecv *self);
 /* The library's times in force, and the round trip. */
-gozdrit_times receiving_times(const GstGozdritRecv *self);
+gozdrit_times asking_times(const GstGozdritRecv *self);
 
 /* ---- counts.c. The lock is held in all of these. */
 
