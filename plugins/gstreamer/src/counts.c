@@ -92,6 +92,7 @@ GstStructure *counts_told(GstGozdritRecv *self) {
     counts_all(self, &counts, &probes);
     add_counts_of(told, &counts, &probes);
     ADD_COUNT(told, "strays", self->strays);
+    ADD_COUNT(told, "claims", claims_count(&self->strangers.claims));
     ADD_COUNT(told, "other-types", self->unwanted);
     ADD_COUNT(told, "passed", self->passed);
     ADD_COUNT(told, "dropped", self->dropped);

@@ -215,7 +215,8 @@ static void install_own(GObjectClass *class) {
     install_uint(class, PROP_NACKS, "rtx-max-retries", "How often one packet is asked for at most", 1, 255, 8);
     install_uint(class, PROP_WINDOW, "max-size-packets", "How many packets are kept while one is missing (0, and more than 8192 == 8192)",
                  0, G_MAXUINT, 1024);
-    install_uint(class, PROP_SSRC, "ssrc", "The SSRC of the media (default == that of the caps or of the first packet)", 0,
+    install_uint(class, PROP_SSRC, "ssrc", "The SSRC of the media (default == that of the caps, or of the first packet, until "
+                 "that one's sender sends no stream and another one does)", 0,
                  G_MAXUINT32, SSRC_UNSET);
     install_uint(class, PROP_RTX_SSRC, "rtx-ssrc", "The SSRC of the retransmissions (default == that of the caps, or learnt)", 0,
                  G_MAXUINT32, SSRC_UNSET);
@@ -233,8 +234,9 @@ static void install_own(GObjectClass *class) {
     install_count(class, PROP_TAKEN, "num-rtx-assoc-packets", "How many of these were taken");
     install_truth(class, PROP_DO_LOST, "do-lost", "Send an event GstRTPPacketLost downstream for each packet that is lost for good");
     g_object_class_install_property(
-        class, PROP_STATS, g_param_spec_boxed("stats", NULL, "What was counted since the element began: the library's counts, and "
-                                              "rtpjitterbuffer's", GST_TYPE_STRUCTURE, (GParamFlags)(G_PARAM_READABLE | G_PARAM_STATIC_STRINGS)));
+        class, PROP_STATS, g_param_spec_boxed("stats", NULL, "What was counted since the element began: the library's counts, "
+                                              "rtpjitterbuffer's, and the element's; `strays` are packets that nobody took, `claims` the "
+                                              "strangers of which it is known what they sent", GST_TYPE_STRUCTURE, (GParamFlags)(G_PARAM_READABLE | G_PARAM_STATIC_STRINGS)));
 }
 
 static void install_jitter(GObjectClass *class) {

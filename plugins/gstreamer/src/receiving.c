@@ -4,6 +4,9 @@
 #include <stdio.h>
 #include <string.h>
 
+/* By how much less a number may lie ahead that is no jump, where the window is no longer. */
+enum { USUAL_REACH = 3000 };
+
 guint64 receiving_now(GstGozdritRecv *self) { return element_time_now(&self->time) / MILLISECOND; }
 
 /* ---- caps */
@@ -79,7 +82,10 @@ gboolean receiving_caps(GstGozdritRecv *self, const GstCaps *caps) {
     read_group(&read, caps);
     if (read.rtx_ssrc < 0) read.rtx_ssrc = self->caps.rtx_ssrc;
     for (EACH_STREAM(self, at)) {
-        if (is_other(self, &read)) receiving_end(self);
+        if (is_other(self, &read)) {
+            receiving_end(self);
+            strangers_forget(&self->strangers);
+        }
         read_rate(self, &read);
     }
     self->caps = read;
@@ -160,7 +166,7 @@ gboolean receiving_is_wanted(const GstGozdritRecv *self, const guint8 *octets) {
 }
 
 /* Begins a session with a packet. FALSE where it is none of a session that could be. */
-static gboolean begin(GstGozdritRecv *self, const guint8 *octets, gsize length) {
+static gboolean begin(GstGozdritRecv *self, GstBuffer *buffer, const guint8 *octets, gsize length, guint64 now) {
     gint64 type = receiving_wanted_type(self), ssrc = wanted_ssrc(self);
     gozdrit_receiver_config config;
     if (length < 12 || octets[0] >> 6 != 2 || !receiving_is_wanted(self, octets)) return FALSE;
@@ -177,6 +183,7 @@ static gboolean begin(GstGozdritRecv *self, const guint8 *octets, gsize length) 
     self->caps.first = -1; /* is the first stream's alone */
     if (self->stream->times.clock_rate == 0 && !self->in_place) rtp_times_begin(&self->stream->times, receiving_static_rate(PACKET_TYPE(octets)));
     playing_begin_stream(self);
+    strangers_begin(&self->strangers, buffer, now);
     asking_set_stream(self);
     return TRUE;
 }
@@ -200,6 +207,7 @@ void receiving_end_all(GstGozdritRecv *self) {
 
 void receiving_flush(GstGozdritRecv *self) {
     gst_clear_buffer(&self->other.buffer);
+    strangers_forget(&self->strangers);
     sync_forget(self);
     playing_clear(self);
     for (EACH_STREAM(self, at)) {
@@ -284,9 +292,9 @@ static gboolean is_other_stream(const GstGozdritRecv *self, const guint8 *octets
            !receiving_is_taken(self, PACKET_SSRC(octets));
 }
 
-/* A media packet of another SSRC. Two in sequence of one SSRC are a stream that takes the place of this one, where nobody
- * said which it has to be: the far side began anew. */
-static void take_other(GstGozdritRecv *self, GstBuffer *buffer, const guint8 *octets, gsize length, guint64 now) {
+/* A media packet of another SSRC in a jitter buffer's place, where it comes to an rtpbin's stream of one SSRC. Two in sequence of one SSRC are a stream
+ * that takes the place of this one: the far side began anew. */
+static void take_second(GstGozdritRecv *self, GstBuffer *buffer, const guint8 *octets, gsize length, guint64 now) {
     candidate *other = &self->other;
     GstMapInfo map;
     if (!other->buffer || other->ssrc != PACKET_SSRC(octets) || other->next != PACKET_SEQUENCE(octets)) {
@@ -299,11 +307,36 @@ static void take_other(GstGozdritRecv *self, GstBuffer *buffer, const guint8 *oc
     GstBuffer *first = g_steal_pointer(&other->buffer);
     receiving_end(self);
     if (gst_buffer_map(first, &map, GST_MAP_READ)) {
-        if (begin(self, map.data, map.size)) take(self, first, map.data, map.size, now);
+        if (begin(self, first, map.data, map.size, now)) take(self, first, map.data, map.size, now);
         gst_buffer_unmap(first, &map);
     }
     gst_buffer_unref(first);
     if (self->stream->end.held) take(self, buffer, octets, length, now);
+}
+
+/* Whether a packet goes on with the session, by its SSRC and number. */
+static gboolean goes_on(const GstGozdritRecv *self, const guint8 *octets) {
+    gozdrit_sequence highest = {0};
+    gozdrit_highest_sequence(&self->stream->end, &highest);
+    guint16 ahead = (guint16)(PACKET_SEQUENCE(octets) - highest.sequence);
+    return PACKET_SSRC(octets) == self->stream->session.media_ssrc && highest.known && 0 < ahead && ahead < MAX(WINDOW_OF(&self->settings), USUAL_REACH);
+}
+
+/* A packet of a stranger: media of another SSRC than the session's, or from another address, where nobody said which SSRC it has to be. Only
+ * what may begin a session ends one. */
+static void take_stranger(GstGozdritRecv *self, GstBuffer *buffer, const guint8 *octets, gsize length, guint64 now) {
+    stranger_step step = STRANGER_PASSES;
+    if (receiving_is_wanted(self, octets)) step = strangers_hear(&self->strangers, buffer, octets, goes_on(self, octets), now);
+    if (step == STRANGER_PASSES) {
+        self->strays++;
+        stranger_told told = strangers_drop(&self->strangers, buffer, octets, now);
+        if (told.dropped > 0) self->untold.strangers = told;
+        return;
+    }
+    GST_INFO_OBJECT(self, "SSRC %08x %s, where there was %08x", PACKET_SSRC(octets), step == STRANGER_MOVES ? "is elsewhere" : "begins a session",
+                    self->stream->session.media_ssrc);
+    if (step == STRANGER_FALLS) receiving_end(self);
+    if (step == STRANGER_MOVES || begin(self, buffer, octets, length, now)) take(self, buffer, octets, length, now);
 }
 
 /* The type by which the library is to know a packet: it takes one of the media and one of the retransmissions. A packet of the media's SSRC
@@ -358,7 +391,7 @@ static void pass_other(GstGozdritRecv *self, GstBuffer *buffer, const guint8 *oc
     gboolean may_take = is_free_ssrc(self) && !streams_are_several(self) && !receiving_is_rtx_type(self, PACKET_TYPE(octets));
     if (may_take && auxiliary_takes_over(self, octets, now)) {
         receiving_end(self);
-        if (begin(self, octets, length)) take(self, buffer, octets, length, now);
+        if (begin(self, buffer, octets, length, now)) take(self, buffer, octets, length, now);
     } else {
         playing_pass(self, buffer);
     }
@@ -378,12 +411,19 @@ static void refuse(GstGozdritRecv *self, GstBuffer *buffer, const guint8 *octets
     if (refusal == GOZDRIT_LATE) note_late(self, buffer, octets, length);
     if (refusal == GOZDRIT_TOO_LONG) self->untold.refused = GOZDRIT_TOO_LONG;
     if (auxiliary_is(self) && is_unknown(self, octets, length, refusal)) pass_other(self, buffer, octets, length, now);
-    else if (is_other_stream(self, octets, refusal)) take_other(self, buffer, octets, length, now);
+    else if (is_other_stream(self, octets, refusal)) (self->in_place ? take_second : take_stranger)(self, buffer, octets, length, now);
+}
+
+/* What the session took keeps it. What is held back after a jump does not, before the stream goes on there. */
+static void note_taken(GstGozdritRecv *self, guint8 kind, guint64 now) {
+    if (kind == GOZDRIT_MEDIA || kind == GOZDRIT_RESTARTED || kind == GOZDRIT_RETRANSMISSION) strangers_took(&self->strangers, now);
 }
 
 static void take(GstGozdritRecv *self, GstBuffer *buffer, const guint8 *octets, gsize length, guint64 now) {
     gozdrit_received received = GOZDRIT_RECEIVED_INIT;
+    strangers_came(&self->strangers, buffer, now);
     if (receive(self, buffer, octets, length, now, &received) != GOZDRIT_OK) return;
+    note_taken(self, received.kind, now);
     if (received.kind != GOZDRIT_REFUSED && received.kind != GOZDRIT_RTCP) self->stream->last_media = now;
     switch (received.kind) {
     case GOZDRIT_MEDIA: note_arrival(self, buffer, octets, length, TRUE); break;
@@ -403,10 +443,20 @@ static void pass(GstGozdritRecv *self, GstBuffer *buffer, const guint8 *octets, 
     else self->strays++;
 }
 
+/* Whether a packet of the session's SSRC comes from another address than its sender's, where nobody named the SSRC. Who named it, and what sorts streams
+ * before the element, have said who is heard. */
+static gboolean is_elsewhere(const GstGozdritRecv *self, GstBuffer *buffer, const guint8 *octets, gsize length) {
+    gozdrit_packet read;
+    return length >= 12 && PACKET_SSRC(octets) == self->stream->session.media_ssrc && (PACKET_TYPE(octets) < 64 || PACKET_TYPE(octets) >= 96) &&
+           strangers_is_elsewhere(&self->strangers, buffer) && is_free_ssrc(self) && !self->in_place && !auxiliary_is(self) &&
+           gozdrit_rtp_read(octets, length, &read) == GOZDRIT_OK; /* what is no RTP is the library's to refuse */
+}
+
 /* A packet of the stream that is meant. */
 static void take_one(GstGozdritRecv *self, GstBuffer *buffer, const guint8 *octets, gsize length, guint64 now) {
     gboolean is_made = GST_BUFFER_FLAG_IS_SET(buffer, GST_RTP_BUFFER_FLAG_RETRANSMISSION); /* no stream begins with a repair */
-    if (self->stream->end.held || (!is_made && begin(self, octets, length))) take(self, buffer, octets, length, now);
+    if (self->stream->end.held && is_elsewhere(self, buffer, octets, length)) take_stranger(self, buffer, octets, length, now);
+    else if (self->stream->end.held || (!is_made && begin(self, buffer, octets, length, now))) take(self, buffer, octets, length, now);
     else if (auxiliary_is(self)) pass(self, buffer, octets, length);
     else self->strays++;
 }

@@ -19,6 +19,11 @@
  * An event `GstForceKeyUnit` that comes from downstream leaves by `feedback_src` as a PLI, or as a FIR where all headers are wanted, where
  * the caps say `rtcp-fb-nack-pli` or `rtcp-fb-ccm-fir`.
  *
+ * Where nothing names the SSRC of the media and `feedback_src` is linked, who comes first has the session, and keeps it with two packets in every
+ * second. It falls to another sender with the tenth packet in sequence, where its own one never sent ten, or sends less than 1.8 a second
+ * meanwhile; and behind a second of silence to the next packet of anybody. Where packets have a #GstNetAddressMeta, as those of an udpsrc have, a
+ * sender is an address and an SSRC. What others send is dropped, and counted as `strays` in #GstGozdritRecv:stats.
+ *
  * Where `feedback_src` is not linked, the element is one between others, as the auxiliary receiver of an rtpbin: it asks by events
  * `GstRTPRetransmissionRequest` that go upstream, packets of other streams and types go through, and media that are flagged as
  * retransmissions are repairs. With #GstGozdritRecv:payload-type-map each SSRC is a stream there that is repaired, unless caps or properties name
@@ -68,6 +73,13 @@ static GstFlowReturn tell_refusal(GstGozdritRecv *self, gint32 number, gsize len
     return GST_FLOW_ERROR;
 }
 
+static void tell_strangers(GstGozdritRecv *self, const stranger_told *of) {
+    gchar *address = strangers_address_text(&of->last.from);
+    GST_ELEMENT_WARNING(self, STREAM, FAILED, ("Packets of another sender are dropped."),
+                        ("%" G_GUINT64_FORMAT " since that was told last; SSRC %08x, from %s", of->dropped, of->last.ssrc, address));
+    g_free(address);
+}
+
 /* What is told without the lock. */
 static GstFlowReturn tell(GstGozdritRecv *self, const untold *of, gsize length) {
     if (of->type >= 0)
@@ -76,6 +88,7 @@ static GstFlowReturn tell(GstGozdritRecv *self, const untold *of, gsize length) 
     if (of->is_crowded)
         GST_ELEMENT_WARNING(self, LIBRARY, SETTINGS, ("No more than %d streams are repaired at once.", MOST_RECEIVED),
                             ("packets of another one go out as they came, as others may"));
+    if (of->strangers.dropped > 0) tell_strangers(self, &of->strangers);
     return of->refused == GOZDRIT_OK ? GST_FLOW_OK : tell_refusal(self, of->refused, length);
 }
 
@@ -264,6 +277,7 @@ static void begin(GstGozdritRecv *self) {
     self->sessions = self->strays = self->unwanted = self->key_requests = self->passed = self->dropped = self->rtx_came = self->unclaimed = 0;
     self->crowd_told = FALSE;
     self->other = (candidate){0};
+    strangers_reset(&self->strangers);
     self->key_wanted = FALSE;
     self->untold = NOTHING_UNTOLD;
     self->warned = FALSE;
@@ -282,6 +296,7 @@ static void begin(GstGozdritRecv *self) {
 static void end(GstGozdritRecv *self) {
     g_mutex_lock(&self->lock);
     receiving_end_all(self);
+    strangers_forget(&self->strangers);
     playing_clear(self);
     streams_drop_others(self);
     element_time_end(&self->time);
@@ -333,6 +348,7 @@ static gboolean set_clock(GstElement *element, GstClock *clock) {
 static void finalize(GObject *object) {
     GstGozdritRecv *self = GST_GOZDRIT_RECV(object);
     gst_clear_buffer(&self->other.buffer);
+    strangers_forget(&self->strangers);
     playing_clear(self);
     streams_free(self);
     element_time_end(&self->time);

@@ -1,7 +1,7 @@
 /* gozdritrecv, the receiving element. recv.c is the element: its pads and states; properties.c has its properties. receiving.c takes
  * packets into the session, asking.c says when it asks, playing.c makes of what the session plays what goes out, feedback.c has the timer, tasks.c
  * tells when each of them runs, and auxiliary.c is for where nobody takes feedback, where there may be several streams: streams.c. What a jitter
- * buffer has beside that is in jitter.c, ptmap.c, sync.c and offset.c.
+ * buffer has beside that is in jitter.c, ptmap.c, sync.c and offset.c. Who is heard where anybody may send is in strangers.c.
  *
  * Three threads run in it. The one that packets come by takes them, and never waits. The source pad's task pushes what
  * was played, and waits for what is behind it. The feedback pad's task waits for the session's next timeout, and asks. Reports come by a
@@ -11,6 +11,7 @@
 
 #include "common.h"
 #include "maps.h"
+#include "strangers.h"
 #include "times.h"
 
 #include <gst/base/base.h>
@@ -87,7 +88,7 @@ typedef struct held_behind {
 /* When a packet was asked for by an event. */
 typedef struct asked asked;
 
-/* The packet with which a stream of another SSRC may begin. */
+/* The packet with which a stream of another SSRC may begin, where others than the network sort out who is heard. */
 typedef struct candidate {
     GstBuffer *buffer; /* NULL where it went out */
     gboolean is_known;
@@ -162,8 +163,9 @@ typedef struct untold {
     gint32 refused;      /* an answer of the library, or 0 */
     gint type;           /* of a packet that was dropped for it, or -1 */
     gboolean is_crowded; /* there was no room for another stream */
+    stranger_told strangers;
 } untold;
-#define NOTHING_UNTOLD ((untold){GOZDRIT_OK, -1, FALSE})
+#define NOTHING_UNTOLD ((untold){.refused = GOZDRIT_OK, .type = -1})
 
 /* The stream of feedback ends with that of the media, and begins anew with the next one. */
 typedef enum feedback_stage { FEEDBACK_TO_BEGIN, FEEDBACK_GOES, FEEDBACK_HAS_ENDED } feedback_stage;
@@ -191,7 +193,8 @@ struct _GstGozdritRecv {
     gozdrit_receive_counts past; /* the counts of the sessions before */
     gozdrit_probe_counts past_probes;
     guint64 sessions;
-    guint64 strays;  /* packets that came before there was a session, and began none */
+    guint64 strays;  /* packets that came before there was a session, and began none; and those of strangers beside one */
+    strangers strangers;
     guint64 unwanted; /* packets of the stream with a payload type that is not the one that is wanted: they went nowhere */
     untold untold;
     gboolean warned; /* a packet that was too long was told */

@@ -69,14 +69,14 @@ static void test_times_anew(void) {
     drop_receiver(&r);
 }
 
-/* A packet with which a stream of another SSRC might have begun. */
+/* What a stranger sent, who would have the session with one packet more. */
 static void test_ssrc(void) {
     receiver r = make_receiver("application/x-rtp,media=video,clock-rate=90000,encoding-name=X,payload=96");
     SEND(&r, .sequence = 10);
     COMES(r.media, .sequence = 10);
-    SEND(&r, .sequence = 500, .ssrc = 7);
+    for (guint16 i = 0; i < 9; i++) SEND(&r, .sequence = 500 + i, .ssrc = 7);
     flush(&r);
-    SEND(&r, .sequence = 501, .ssrc = 7);
+    SEND(&r, .sequence = 509, .ssrc = 7);
     SEND(&r, .sequence = 11);
     COMES(r.media, .sequence = 11);
     CHECK(count_of(r.element, "sessions") == 1);

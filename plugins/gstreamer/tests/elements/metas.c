@@ -142,6 +142,9 @@ static void test_kept(void) {
     for (guint16 i = 0; i < 2; i++) send_marked(&r, (packet){.sequence = 30000 + i, .pts = MS(i), .offset = 77777}); /* restarts */
     CHECK(count_of(r.element, "restarts") == 1 && take_all(&r) == 3 && g_atomic_int_get(&alive) == 0);
     send_marked(&r, (packet){.sequence = 30003});
+    for (guint16 i = 0; i < 2; i++) send_marked(&r, (packet){.sequence = 3 + i, .ssrc = 7}); /* a stranger's are not kept */
+    CHECK(g_atomic_int_get(&alive) == 1);
+    set_clock_to(&r, 1200);
     for (guint16 i = 0; i < 2; i++) send_marked(&r, (packet){.sequence = 5 + i, .ssrc = 7});
     CHECK(count_of(r.element, "sessions") == 2 && take_all(&r) == 3 && g_atomic_int_get(&alive) == 0);
     send_marked(&r, (packet){.sequence = 9, .ssrc = 7});

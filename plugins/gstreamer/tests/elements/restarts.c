@@ -61,23 +61,25 @@ static void test_lossy_jump(void) {
     }
 }
 
-/* Two packets in sequence of another SSRC take the place of a stream whose SSRC nobody named, and one does not. */
+/* Ten packets in sequence of another SSRC take the place of a stream whose SSRC nobody named and of which fewer came, and nine do not. What was held
+ * goes out first. */
 static void test_ssrc(void) {
     receiver r = make_receiver(FREE_CAPS);
     SEND(&r, .sequence = 10);
     SEND(&r, .sequence = 12);
-    SEND(&r, .sequence = 500, .ssrc = 7);
-    SEND(&r, .sequence = 502, .ssrc = 7);
-    SEND(&r, .sequence = 500, .ssrc = 8);
+    for (guint16 i = 0; i < 9; i++) {
+        SEND(&r, .sequence = 500 + i, .ssrc = 7);
+        SEND(&r, .sequence = 700 + i, .ssrc = 8 + i);
+    }
     COMES(r.media, .sequence = 10);
-    CHECK(is_silent(r.media));
-    SEND(&r, .sequence = 502, .ssrc = 7, .fill = 1);
-    SEND(&r, .sequence = 503, .ssrc = 7, .fill = 2);
+    CHECK(is_silent(r.media) && count_of(r.element, "strays") == 18);
+    SEND(&r, .sequence = 510, .ssrc = 7, .fill = 1);
+    SEND(&r, .sequence = 511, .ssrc = 7, .fill = 2);
     COMES(r.media, .sequence = 12);
-    COMES(r.media, .sequence = 502, .ssrc = 7, .fill = 1);
-    COMES(r.media, .sequence = 503, .ssrc = 7, .fill = 2);
+    COMES(r.media, .sequence = 510, .ssrc = 7, .fill = 1);
+    COMES(r.media, .sequence = 511, .ssrc = 7, .fill = 2);
     CHECK(count_of(r.element, "sessions") == 2 && count_of(r.element, "gaps") == 1 && count_of(r.element, "media") == 4);
-    SEND(&r, .sequence = 1, .ssrc = 9); /* the end finds it waiting for its next one */
+    SEND(&r, .sequence = 1, .ssrc = 9); /* the end finds what it claims */
     drop_receiver(&r);
 }
 
