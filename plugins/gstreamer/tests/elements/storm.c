@@ -1,9 +1,11 @@
 /* Both elements where everything happens at once: odd packets, losses, reordering before and behind the sender, strangers, streams that end
  * or begin anew, other caps and properties, flushes, changes of state, reports and the end, each at a drawn moment; half of the receivers are in a
- * jitter buffer's place, and those whose feedback nobody takes have a map else, and repair several streams. What comes out has to be RTP. Who
+ * jitter buffer's place, and those whose feedback nobody takes have a map else, and repair several streams; to half of the others nobody names a stream, and
+ * packets come from several addresses. What comes out has to be RTP. Who
  * hangs is killed after a while, and what sanitizers find ends the program. STORM is for how many seconds (else 2), and SEED draws. */
 #include "checks.h"
 
+#include <gst/net/gstnetaddressmeta.h>
 #include <string.h>
 #include <unistd.h>
 
@@ -20,6 +22,7 @@ typedef struct storm {
     gint stopped, renewed; /* renewed: the next packet wants the events of a stream before it */
     gboolean in_place;     /* the receiver is a jitter buffer's, or else */
     gboolean several;      /* repairs several streams */
+    gboolean is_open;      /* hears whoever sends */
     gint wrong;
     guint32 seed;
 } storm;
@@ -33,12 +36,25 @@ static GstBuffer *spoil(GstBuffer *buffer, GRand *drawn) {
     return buffer;
 }
 
+/* Most packets come from one address. */
+static GstBuffer *from_somewhere(GstBuffer *buffer, GRand *drawn) {
+    static const gchar *const addresses[] = {"192.0.2.1", "192.0.2.2", "2001:db8::1"};
+    gint draw = g_rand_int_range(drawn, 0, 40);
+    if (draw == 3) return buffer;
+    GSocketAddress *address = g_inet_socket_address_new_from_string(addresses[draw < 3 ? draw : 0], 6004);
+    buffer = gst_buffer_make_writable(buffer);
+    gst_buffer_add_net_address_meta(buffer, address);
+    g_object_unref(address);
+    return buffer;
+}
+
 static GstPadProbeReturn pass_path(GstPad *pad, GstPadProbeInfo *info, gpointer data) {
     storm *s = data;
     GstPadProbeReturn done = GST_PAD_PROBE_OK;
     (void)pad;
     g_mutex_lock(&s->path);
     gint draw = g_rand_int_range(s->drawn, 0, 1000);
+    if (s->is_open) GST_PAD_PROBE_INFO_DATA(info) = from_somewhere(GST_PAD_PROBE_INFO_BUFFER(info), s->drawn);
     GstBuffer *buffer = GST_PAD_PROBE_INFO_BUFFER(info);
     if (draw < 100) {
         done = GST_PAD_PROBE_DROP;
@@ -254,7 +270,8 @@ static void make_pads(storm *s) {
     s->several = !is_linked && !s->in_place;
     if (is_linked) link_pads(pads[2], s->back[0]);
     if (s->several) gst_util_set_object_arg(G_OBJECT(s->recv), "payload-type-map", "map,96=(uint)97,98=(uint)97");
-    if (s->several) gst_pad_add_probe(pads[3], GST_PAD_PROBE_TYPE_EVENT_DOWNSTREAM, hide_caps, NULL, NULL);
+    s->is_open = is_linked && !s->in_place && g_rand_boolean(s->drawn);
+    if (s->several || s->is_open) gst_pad_add_probe(pads[3], GST_PAD_PROBE_TYPE_EVENT_DOWNSTREAM, hide_caps, NULL, NULL);
     gst_pad_add_probe(pads[3], GST_PAD_PROBE_TYPE_BUFFER, pass_path, s, NULL);
     gst_pad_set_active(s->source, TRUE);
     for (gint i = 0; i < 2; i++) gst_pad_set_active(s->back[i], TRUE);
