@@ -3,31 +3,31 @@
 /* How many packets in sequence show it at another address. */
 enum { SHOWN = 4 };
 
-/* How many of its packets have to have come for their gaps to tell how long it is silent. */
-enum { FEW = 10 };
-
-/* Over how long gaps are averaged; a longer one counts as one of so long. */
+/* Over how long gaps are averaged. */
 #define SECOND G_GUINT64_CONSTANT(1000)
 
-/* For how long nothing may have come before it is heard at another address: so long at least, and a second at most, behind which any other sender
- * begins a session. */
+/* The longest gap that counts as what it is: behind four of these, a second of silence, any other sender begins a session. */
+#define LONGEST G_GUINT64_CONSTANT(250)
+
+/* For how long nothing may have come at least before it is heard at another address. */
 #define QUIET G_GUINT64_CONSTANT(100)
 
 static guint64 span_of(guint64 from, guint64 to) { return to > from ? to - from : 0; }
 
+far_side far_side_at(sender_address at) { return (far_side){.at = at, .gap = 1000 * LONGEST}; }
+
 void far_side_hear(far_side *self, guint64 now) {
     if (self->has_come) {
-        guint64 gap = MIN(span_of(self->came, now), SECOND);
+        guint64 gap = MIN(span_of(self->came, now), LONGEST);
         self->gap = self->gap * (SECOND - gap) / SECOND + gap * gap;
     }
     self->came = now;
     self->has_come = TRUE;
-    self->packets++;
     self->in_sequence = 0;
 }
 
-/* Four of its gaps, as soon as these tell anything. */
-static guint64 quiet_for(const far_side *self) { return self->packets < FEW ? SECOND : CLAMP(self->gap / 250, QUIET, SECOND); }
+/* Four of its gaps. */
+static guint64 quiet_for(const far_side *self) { return MAX(self->gap / 250, QUIET); }
 
 gboolean far_side_is_quiet(const far_side *self, guint64 now) {
     return self->has_come && span_of(self->came, now) >= quiet_for(self);

@@ -10,9 +10,8 @@ typedef struct far_side {
     guint64 came; /* the moment of its last packet, */
     gboolean has_come; /* where there was one since it is there */
     /* The mean time between two of its packets, in microseconds: of the last second, and of each moment in it the gap in which that lies, so that
-     * packets that come at once make it no shorter. */
+     * packets that come at once make it no shorter. It begins with the longest that counts. */
     guint64 gap;
-    guint64 packets; /* that came, from whatever address */
     /* What shows it at another address, since its last packet: */
     sender_address shown;
     guint16 number; /* the last number in sequence from there, */
@@ -20,6 +19,8 @@ typedef struct far_side {
     guint64 in_sequence; /* and how many did; 0: none */
 } far_side;
 
+/* It is at an address, of which nothing came so far: its gaps may be the longest. */
+far_side far_side_at(sender_address at);
 /* A packet of it came from where it is. */
 void far_side_hear(far_side *self, guint64 now);
 /* Whether nothing came from there for long enough for it to be elsewhere. */

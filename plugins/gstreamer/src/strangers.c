@@ -44,7 +44,7 @@ gchar *strangers_address_text(const sender_address *from) {
 
 void strangers_begin(strangers *self, GstBuffer *buffer, guint64 now) {
     claims_begin(&self->claims);
-    self->far = (far_side){.at = strangers_address(buffer)};
+    self->far = far_side_at(strangers_address(buffer));
     self->taken = now;
 }
 

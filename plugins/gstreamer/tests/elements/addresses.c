@@ -63,20 +63,20 @@ static void test_copies(void) {
 static void test_moves(void) {
     scene s = make_scene();
     sender_of own = {.ssrc = MEDIA, .gap = 20, .from = HOME};
-    play(&s, 400, 1, &own); /* 0 to 19, the last one at 380 */
+    play(&s, 4000, 1, &own); /* 0 to 199, the last one at 3980 */
     own.from = ELSEWHERE;
-    play(&s, 480, 1, &own); /* 20 to 23, of which each comes before 480 */
-    CHECK(all_come(&s, MEDIA, 0, 20) && is_silent(s.r.media) && count_of(s.r.element, "strays") == 4);
-    play(&s, 481, 1, &own); /* 24 comes at 480 */
-    CHECK(count_of(s.r.element, "sessions") == 1 && count_of(s.r.element, "strays") == 4 && count_of(s.r.element, "media") == 21);
-    TICKS(&s.r, 500);
+    play(&s, 4080, 1, &own); /* 200 to 203, of which each comes before 4080 */
+    CHECK(all_come(&s, MEDIA, 0, 200) && is_silent(s.r.media) && count_of(s.r.element, "strays") == 4);
+    play(&s, 4081, 1, &own); /* 204 comes at 4080 */
+    CHECK(count_of(s.r.element, "sessions") == 1 && count_of(s.r.element, "strays") == 4 && count_of(s.r.element, "media") == 201);
+    TICKS(&s.r, 4100);
     GstBuffer *nack = next_buffer(s.r.feedback);
-    CHECK(is_nack(nack, 20, 7));
+    CHECK(is_nack(nack, 200, 7));
     gst_clear_buffer(&nack);
-    for (guint16 i = 20; i < 24; i++) REPAIR(&s.r, i, .sequence = i, .pts = (380 + 20 * (i - 19u)) * GST_MSECOND);
-    s.now = 500;
-    play(&s, 600, 1, &own);
-    CHECK(all_come(&s, MEDIA, 20, 10) && count_of(s.r.element, "gaps") == 0 && count_of(s.r.element, "strays") == 4);
+    for (guint16 i = 200; i < 204; i++) REPAIR(&s.r, i, .sequence = i, .pts = (3980 + 20 * (i - 199u)) * GST_MSECOND);
+    s.now = 4100;
+    play(&s, 4200, 1, &own);
+    CHECK(all_come(&s, MEDIA, 200, 10) && count_of(s.r.element, "gaps") == 0 && count_of(s.r.element, "strays") == 4);
     drop_receiver(&s.r);
 }
 
@@ -85,14 +85,14 @@ static void test_too_few(void) {
     for (guint16 ahead = 0; ahead < 2; ahead++) {
         scene s = make_scene();
         sender_of own = {.ssrc = MEDIA, .gap = 20, .from = HOME}, copy = {.ssrc = MEDIA, .gap = 20, .from = ELSEWHERE, .fill = 1};
-        play(&s, 400, 1, &own);
-        play(&s, 700, 0);
-        copy.number = (guint16)(ahead ? 19 + 3000 : 20);
-        play(&s, ahead ? 800 : 741, 1, &copy);
-        CHECK(all_come(&s, MEDIA, 0, 20) && is_silent(s.r.media) && count_of(s.r.element, "strays") == (ahead ? 5 : 3));
+        play(&s, 4000, 1, &own);
+        play(&s, 4300, 0);
+        copy.number = (guint16)(ahead ? 199 + 3000 : 200);
+        play(&s, ahead ? 4400 : 4341, 1, &copy);
+        CHECK(all_come(&s, MEDIA, 0, 200) && is_silent(s.r.media) && count_of(s.r.element, "strays") == (ahead ? 5 : 3));
         own.next = s.now;
         play(&s, s.now + 20, 1, &own);
-        CHECK(all_come(&s, MEDIA, 20, 1));
+        CHECK(all_come(&s, MEDIA, 200, 1));
         drop_receiver(&s.r);
     }
 }
@@ -101,11 +101,39 @@ static void test_too_few(void) {
 static void test_pause(void) {
     scene s = make_scene();
     sender_of own = {.ssrc = MEDIA, .gap = 20, .from = HOME}, copy = {.ssrc = MEDIA, .gap = 60, .number = 2000, .from = ELSEWHERE, .fill = 1};
-    play(&s, 1000, 2, &own, &copy);
-    play(&s, 1160, 1, &copy);
+    play(&s, 4000, 2, &own, &copy);
+    play(&s, 4160, 1, &copy);
     own.next = s.now;
-    play(&s, 1400, 2, &own, &copy);
-    CHECK(all_come(&s, MEDIA, 0, 62) && is_silent(s.r.media) && count_of(s.r.element, "sessions") == 1);
+    play(&s, 4400, 2, &own, &copy);
+    CHECK(all_come(&s, MEDIA, 0, 212) && is_silent(s.r.media) && count_of(s.r.element, "sessions") == 1);
+    drop_receiver(&s.r);
+}
+
+/* Nor do those of the first gap of a slow stream, of which nothing is known before. */
+static void test_first_gap(void) {
+    scene s = make_scene();
+    sender_of own = {.ssrc = MEDIA, .gap = 200, .from = HOME}, copy = {.ssrc = MEDIA, .gap = 35, .number = 1, .from = ELSEWHERE, .fill = 1};
+    play(&s, 1, 1, &own);
+    copy.next = 10;
+    play(&s, 190, 1, &copy);
+    play(&s, 400, 1, &own);
+    CHECK(all_come(&s, MEDIA, 0, 2) && is_silent(s.r.media) && count_of(s.r.element, "strays") == 6 && count_of(s.r.element, "sessions") == 1);
+    drop_receiver(&s.r);
+}
+
+/* Behind a pause of .9 s the mean gap of a fast stream is that of a quarter of a second for a while, and no more: 303 ms are silence here. */
+static void test_moves_behind_a_pause(void) {
+    scene s = make_scene();
+    sender_of own = {.ssrc = MEDIA, .gap = 20, .from = HOME};
+    play(&s, 4000, 1, &own);
+    play(&s, 4900, 0);
+    own.next = 4900;
+    play(&s, 5000, 1, &own);
+    own.from = ELSEWHERE;
+    play(&s, 5281, 1, &own);
+    CHECK(count_of(s.r.element, "media") == 205 && count_of(s.r.element, "sessions") == 1);
+    play(&s, 5301, 1, &own);
+    CHECK(count_of(s.r.element, "media") == 206 && count_of(s.r.element, "sessions") == 1);
     drop_receiver(&s.r);
 }
 
@@ -214,6 +242,8 @@ void test_addresses(void) {
     test_moves();
     test_too_few();
     test_pause();
+    test_first_gap();
+    test_moves_behind_a_pause();
     test_slow_moves();
     test_anew();
     test_repair();
