@@ -15,6 +15,7 @@ enum {
     PROP_DO_LOST,
     PROP_TYPE_MAP,
     PROP_SSRC_MAP,
+    PROP_PEER,
     PROP_REQUESTS,
     PROP_PACKETS,
     PROP_TAKEN,
@@ -136,6 +137,7 @@ static gboolean set_own(GstGozdritRecv *self, guint id, const GValue *value) {
         g_clear_pointer(&self->ssrcs, gst_structure_free);
         self->ssrcs = g_value_dup_boxed(value);
         break;
+    case PROP_PEER: peers_set(&self->peers, g_value_get_string(value)); break;
     default: return FALSE;
     }
     return TRUE;
@@ -156,6 +158,7 @@ static gboolean get_own(GstGozdritRecv *self, guint id, GValue *value) {
     case PROP_RTX_TYPE: g_value_set_int(value, settings->rtx_type); break;
     case PROP_DO_LOST: g_value_set_boolean(value, settings->do_lost); break;
     case PROP_TYPE_MAP: g_value_set_boxed(value, self->types.given); break;
+    case PROP_PEER: g_value_set_string(value, self->peers.text); break;
     case PROP_REQUESTS: g_value_set_uint(value, (guint)MIN(counts_sums(self).nacked, G_MAXUINT)); break;
     case PROP_PACKETS: g_value_set_uint(value, (guint)MIN(self->rtx_came, G_MAXUINT)); break;
     case PROP_TAKEN: g_value_set_uint(value, (guint)MIN(counts_sums(self).retransmissions, G_MAXUINT)); break;
@@ -173,10 +176,13 @@ void properties_set(GObject *object, guint id, const GValue *value, GParamSpec *
     }
     g_mutex_lock(&self->lock);
     gboolean is_one = set_own(self, id, value) || set_jitter(self, id, value);
+    gboolean is_deaf = id == PROP_PEER && peers_are_unread(&self->peers);
     asking_set(self);
     feedback_wake(self);
     g_mutex_unlock(&self->lock);
     if (!is_one) G_OBJECT_WARN_INVALID_PROPERTY_ID(object, id, spec);
+    if (is_deaf)
+        GST_ELEMENT_WARNING(self, RESOURCE, SETTINGS, ("Nobody is heard."), ("peer is no list of addresses, ports and prefixes: %s", g_value_get_string(value)));
     if (id == PROP_LATENCY) gst_element_post_message(GST_ELEMENT(self), gst_message_new_latency(GST_OBJECT(self)));
 }
 
@@ -229,6 +235,10 @@ static void install_own(GObjectClass *class) {
     install_map(class, PROP_TYPE_MAP, "payload-type-map", "The payload types of media, and of their retransmissions: with it, no stream of "
                 "other types begins, and where nobody takes feedback there may be several (default == all, and rtx-payload-type)", G_PARAM_READWRITE);
     install_map(class, PROP_SSRC_MAP, "ssrc-map", "SSRCs of media, and of their retransmissions (default == learnt)", G_PARAM_WRITABLE);
+    g_object_class_install_property(
+        class, PROP_PEER, g_param_spec_string("peer", NULL, "Who is heard: addresses, each with a port or at any, or prefixes, as "
+                                              "192.0.2.1:5004,[2001:db8::1]:5004,198.51.100.0/24, by what udpsrc tells of each packet; others' packets are "
+                                              "dropped (NULL == anybody)", NULL, PROPERTY_FLAGS));
     install_count(class, PROP_REQUESTS, "num-rtx-requests", "How many packets were asked for, each as often as it was");
     install_count(class, PROP_PACKETS, "num-rtx-packets", "How many retransmissions came");
     install_count(class, PROP_TAKEN, "num-rtx-assoc-packets", "How many of these were taken");

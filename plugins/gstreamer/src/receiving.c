@@ -322,15 +322,21 @@ static gboolean goes_on(const GstGozdritRecv *self, const guint8 *octets) {
     return PACKET_SSRC(octets) == self->stream->session.media_ssrc && highest.known && 0 < ahead && ahead < MAX(WINDOW_OF(&self->settings), USUAL_REACH);
 }
 
+/* A packet of somebody who is not heard is dropped and counted, and told now and then. */
+static void drop_stranger(GstGozdritRecv *self, GstBuffer *buffer, const guint8 *octets, gsize length, guint64 now) {
+    self->strays++;
+    if (length < 12) return;
+    stranger_told told = strangers_drop(&self->strangers, buffer, octets, now);
+    if (told.dropped > 0) self->untold.strangers = told;
+}
+
 /* A packet of a stranger: media of another SSRC than the session's, or from another address, where nobody said which SSRC it has to be. Only
  * what may begin a session ends one. */
 static void take_stranger(GstGozdritRecv *self, GstBuffer *buffer, const guint8 *octets, gsize length, guint64 now) {
     stranger_step step = STRANGER_PASSES;
     if (receiving_is_wanted(self, octets)) step = strangers_hear(&self->strangers, buffer, octets, goes_on(self, octets), now);
     if (step == STRANGER_PASSES) {
-        self->strays++;
-        stranger_told told = strangers_drop(&self->strangers, buffer, octets, now);
-        if (told.dropped > 0) self->untold.strangers = told;
+        drop_stranger(self, buffer, octets, length, now);
         return;
     }
     GST_INFO_OBJECT(self, "SSRC %08x %s, where there was %08x", PACKET_SSRC(octets), step == STRANGER_MOVES ? "is elsewhere" : "begins a session",
@@ -462,6 +468,10 @@ static void take_one(GstGozdritRecv *self, GstBuffer *buffer, const guint8 *octe
 }
 
 void receiving_packet(GstGozdritRecv *self, GstBuffer *buffer, const guint8 *octets, gsize length, guint64 now) {
+    if (!peers_admit(&self->peers, buffer)) {
+        drop_stranger(self, buffer, octets, length, now);
+        return;
+    }
     switch (streams_of(self, buffer, octets, length, now)) {
     case DESTINY_STREAM: take_one(self, buffer, octets, length, now); break;
     case DESTINY_THROUGH: pass(self, buffer, octets, length); break;

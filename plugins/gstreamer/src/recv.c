@@ -22,7 +22,8 @@
  * Where nothing names the SSRC of the media and `feedback_src` is linked, who comes first has the session, and keeps it with two packets in every
  * second. It falls to another sender with the tenth packet in sequence, where its own one never sent ten, or sends less than 1.8 a second
  * meanwhile; and behind a second of silence to the next packet of anybody. Where packets have a #GstNetAddressMeta, as those of an udpsrc have, a
- * sender is an address and an SSRC. What others send is dropped, and counted as `strays` in #GstGozdritRecv:stats.
+ * sender is an address and an SSRC. What others send is dropped, and counted as `strays` in #GstGozdritRecv:stats. With #GstGozdritRecv:peer nobody
+ * else is heard at all.
  *
  * Where `feedback_src` is not linked, the element is one between others, as the auxiliary receiver of an rtpbin: it asks by events
  * `GstRTPRetransmissionRequest` that go upstream, packets of other streams and types go through, and media that are flagged as
@@ -357,6 +358,7 @@ static void finalize(GObject *object) {
     g_clear_pointer(&self->sync.names, g_hash_table_destroy);
     type_map_set(&self->types, NULL);
     g_clear_pointer(&self->ssrcs, gst_structure_free);
+    peers_clear(&self->peers);
     g_cond_clear(&self->timer_cond);
     g_cond_clear(&self->ready_cond);
     g_mutex_clear(&self->starting);

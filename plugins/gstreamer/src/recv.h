@@ -1,7 +1,8 @@
 /* gozdritrecv, the receiving element. recv.c is the element: its pads and states; properties.c has its properties. receiving.c takes
  * packets into the session, asking.c says when it asks, playing.c makes of what the session plays what goes out, feedback.c has the timer, tasks.c
  * tells when each of them runs, and auxiliary.c is for where nobody takes feedback, where there may be several streams: streams.c. What a jitter
- * buffer has beside that is in jitter.c, ptmap.c, sync.c and offset.c. Who is heard where anybody may send is in strangers.c.
+ * buffer has beside that is in jitter.c, ptmap.c, sync.c and offset.c. Who is heard where anybody may send is in strangers.c,
+ * and who may send at all in peers.c.
  *
  * Three threads run in it. The one that packets come by takes them, and never waits. The source pad's task pushes what
  * was played, and waits for what is behind it. The feedback pad's task waits for the session's next timeout, and asks. Reports come by a
@@ -11,6 +12,7 @@
 
 #include "common.h"
 #include "maps.h"
+#include "peers.h"
 #include "strangers.h"
 #include "times.h"
 
@@ -194,6 +196,7 @@ struct _GstGozdritRecv {
     gozdrit_probe_counts past_probes;
     guint64 sessions;
     guint64 strays;  /* packets that came before there was a session, and began none; and those of strangers beside one */
+    peers peers; /* who may send at all */
     strangers strangers;
     guint64 unwanted; /* packets of the stream with a payload type that is not the one that is wanted: they went nowhere */
     untold untold;

@@ -292,7 +292,7 @@ int main(int count, char **words) {
         {"place", test_place}, {"drops", test_drops}, {"ptmap", test_pt_map}, {"reports", test_reports}, {"offsets", test_offsets},
         {"dropin", test_drop_in}, {"auxiliary", test_auxiliary}, {"histories", test_histories}, {"extensions", test_extensions},
         {"logs", test_logs},       {"path", test_path}, {"bundle", test_bundle}, {"crowd", test_crowd},
-        {"strangers", test_claims}, {"addresses", test_addresses},
+        {"strangers", test_claims}, {"addresses", test_addresses}, {"peers", test_peers},
     };
     gst_init(NULL, NULL);
     for (guint i = 0; i < G_N_ELEMENTS(tests); i++) {
