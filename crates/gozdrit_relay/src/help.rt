@@ -21,6 +21,6 @@ packet retransmitted once; one that is silent for a second may go on with anothe
 /// Of `receive`.
 pub const RECEIVE: &str = "\
 The first RTP packet tells the session and its far side, which alone is heard from then on; where nothing came from
-there for 100 ms, a packet that goes on with the session shows its new address, as where a NAT binds anew. Where nothing
-was taken for a second, the next packet of another session begins one anew, and what is played goes on. A session whose
-sender sends no stream falls to one that does.";
+there for four of its gaps, 100 ms at least, four packets that go on with the session show its new address, as where a
+NAT binds anew. Where nothing was taken for a second, the next packet of another session begins one anew, and what is
+played goes on. A session whose sender sends no stream falls to one that does.";
