@@ -72,14 +72,14 @@ def another_address(checks, stage):
     for i in range(50):
         old.send(packet(96, i, SSRC, plain(1, first=i, length=1000)[0]), receiver.at)
     checks.count(soon(lambda: len(player.came) == 50), f"{name}: {len(player.came)} came to the player")
-    time.sleep(0.3)
-    sent = [packet(96, 300 + i, SSRC, plain(1, first=300 + i)[0]) for i in range(4)]
+    time.sleep(1.1)
+    sent = [packet(96, 300 + i, SSRC, plain(1, first=300 + i)[0]) for i in range(7)]
     for one in sent:
         new.send(one, receiver.at)
     time.sleep(2)
     checks.count(new.came, f"{name}: nothing was asked for there")
     checks.same(len(old.came), 0, f"{name}: NACKs at the old one")
-    within(checks, name, new.octets(), sent)
+    within(checks, name, new.octets(), sent[3:])  # three show that it is there, and earn nothing
 
 
 @on_time(0.1)
