@@ -177,6 +177,7 @@ def slow_and_flooded(checks, stage):
     checks.count(stranger.sent > 600, f"slow and flooded by {stranger.sent}")
 
 
+@on_time(0.05)
 def flooded(checks, stage):
     """A stream beside which a stranger sends twenty times as much is played whole, and nothing of the stranger's."""
     player = End(stage)
