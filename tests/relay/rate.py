@@ -129,7 +129,7 @@ def halved(checks, stage):
     shared(checks, stage, "--rate", "50%", share=50, many=150)
 
 
-@on_time(0.3)
+@on_time(0.08)  # who is halted for a tenth of a second is silent, and its last packet leaves once more
 def silent(checks, stage):
     """A second behind a stream 262,144 bits are left of what it earned. 31 retransmissions of 8112 leave fewer than the longest datagram has,
     12,800; and whatever is asked for then, no other leaves."""
