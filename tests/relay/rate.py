@@ -33,6 +33,7 @@ def asks(far, sender, many):
     return (came[-1][0] if came else 0) - began, sum(len(one[2]) for one in came[1:])
 
 
+@on_time(0.08)
 def paced(checks, stage):
     """At 400 kilobits a second, fifty retransmissions of a thousand octets take a second: none leaves early, all leave in order."""
     name = "400 kilobits"
