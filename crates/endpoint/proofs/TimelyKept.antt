@@ -5,6 +5,7 @@ use Rattle.std.proofs.lemmas.Bool.{cases_eq, cases_lt, eqb-true, cases_Bool}
 use Rattle.rtpwire.specs.declared.content.Content.{Content}
 use Rattle.stores.specs.declared.entry.HistoryEntry.{HistoryEntry}
 use Rattle.sender.specs.History.{SenderState, Sends, Marks, Repairs, CanBeMarked, not_to_repeat}
+use Rattle.sender.specs.Passing.{PassesAny}
 use Rattle.endpoint.specs.declared.resend_rule.ResendRule.{ResendRule}
 use Rattle.endpoint.specs.declared.resend_rule.Times.{Times}
 use Rattle.endpoint.specs.Moments.{just_sent, sent_again, times_at, told}
@@ -46,6 +47,17 @@ loses_by_passing rule cells now from old new below others next =
       kept = λ q some. elim (cases_lt q from) [
         | inl less ↦ mapped not_to_repeat (old.entries q) (subst IsSome (below q less) some)
         | inr more ↦ subst IsSome (others q more) some
+      ];
+    }
+
+pub loses_the_least : (answer : Option ℕ) (old new : SenderState) → PassesAny old answer new → Loses old new
+loses_the_least None old new passes = loses_nothing old new passes.1
+loses_the_least (Some place) old new at =
+    record {
+      next = at.passes.next;
+      kept = λ q some. elim (cases_eq q place) [
+        | inl here ↦ subst IsSome (sym (ap old.entries here ∙ at.passes.least.was)) (search rules)
+        | inr other ↦ subst IsSome (at.passes.others q other) some
       ];
     }
 

@@ -26,11 +26,11 @@ use Rattle.endpoint.specs.Moments.{times_at}
 use Rattle.endpoint.specs.Passing.{verdict_at}
 use Rattle.endpoint.specs.Resending.{IsInTime}
 use Rattle.endpoint.specs.Sending.{TellsKind}
-use Rattle.endpoint.specs.TimelyRuns.{Event, sent, resent, heard, marked_last, Timely, SendStep, ResendStep, Steps, RunsOver, times_of, early_in, expired_in, IsOutOfTime}
+use Rattle.endpoint.specs.TimelyRuns.{Event, sent, resent, heard, marked_last, passed_over, Timely, SendStep, ResendStep, Steps, RunsOver, times_of, early_in, expired_in, IsOutOfTime}
 use Rattle.endpoint.proofs.Adding.{adds}
 use Rattle.endpoint.proofs.InTime.{in_time, out_of_time}
 use Rattle.endpoint.proofs.Passes.{from_below, never}
-use Rattle.endpoint.proofs.TimelyKept.{Loses, loses_nothing, loses_by_marks, loses_by_passing, loses_by_repairing, loses_both, Kept, keeps_same, keeps_sent, keeps_resent}
+use Rattle.endpoint.proofs.TimelyKept.{Loses, loses_nothing, loses_by_marks, loses_by_passing, loses_by_repairing, loses_the_least, loses_both, Kept, keeps_same, keeps_sent, keeps_resent}
 
 pub record KeptRun (capacity : ℕ) (events : List Event) (t : Timely) : Type 0 where
   pub room : t.core.past.capacity ≡ capacity
@@ -129,6 +129,8 @@ module _ (law : Law) where
     stepped marked_last steps =
         as_it_was marked_last (λ q. refl) steps.stays.capacity steps.same.cells
         (loses_by_marks old.core.config.repeats _ (state_of old.core) (state_of new.core) steps.marked.places steps.marks)
+    stepped passed_over steps =
+        as_it_was passed_over (λ q. refl) steps.stays.capacity steps.same.cells (loses_the_least steps.answer (state_of old.core) (state_of new.core) steps.passes)
 
   begun : (c : Config) (capacity : ℕ) (t : Timely) → t.core ≡ new_sending c (empty_past capacity) → length t.cells ≡ capacity → KeptRun capacity [] t
   begun c capacity t is long =
@@ -203,6 +205,7 @@ module _ (c : Config) (capacity : ℕ) where
       ∙ adds early_in (resent rule now early expired answer) before
   early_counted (heard answer ∷ before) t runs = ap (λ (n : ResendCounts). n.early) runs.steps.same.passed ∙ early_counted before runs.old runs.before
   early_counted (marked_last ∷ before) t runs = ap (λ (n : ResendCounts). n.early) runs.steps.same.passed ∙ early_counted before runs.old runs.before
+  early_counted (passed_over ∷ before) t runs = ap (λ (n : ResendCounts). n.early) runs.steps.same.passed ∙ early_counted before runs.old runs.before
 
   pub expired_counted : (events : List Event) (t : Timely) → RunsOver c capacity events t → t.passed.expired ≡ count_in_64 (sum_by expired_in events)
   expired_counted [] t begins = ap (λ (n : ResendCounts). n.expired) begins.passed
@@ -214,3 +217,4 @@ module _ (c : Config) (capacity : ℕ) where
       ∙ adds expired_in (resent rule now early expired answer) before
   expired_counted (heard answer ∷ before) t runs = ap (λ (n : ResendCounts). n.expired) runs.steps.same.passed ∙ expired_counted before runs.old runs.before
   expired_counted (marked_last ∷ before) t runs = ap (λ (n : ResendCounts). n.expired) runs.steps.same.passed ∙ expired_counted before runs.old runs.before
+  expired_counted (passed_over ∷ before) t runs = ap (λ (n : ResendCounts). n.expired) runs.steps.same.passed ∙ expired_counted before runs.old runs.before

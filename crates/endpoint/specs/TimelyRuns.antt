@@ -8,6 +8,7 @@ use Rattle.stores.specs.Past.{empty_past}
 use Rattle.sender.specs.declared.answer.Marked.{Marked}
 use Rattle.sender.specs.declared.fault.SendFault.{SendFault}
 use Rattle.sender.specs.Config.{Config}
+use Rattle.sender.specs.Passing.{PassesAny}
 use Rattle.sender.specs.Sender.{Sending, Stays, new_sending, state_of}
 use Rattle.sender.specs.Sending.{SendsInto}
 use Rattle.sender.specs.Tail.{MarksLast}
@@ -26,6 +27,7 @@ pub data Event : Type 0 where
   resent : (rule : ResendRule) → (now : ℕ) → (early expired : ℕ) → Result (Option (ℕ × ℕ)) TooShort → Event  -- by this rule, and so many were passed over
   heard : Result Told FeedbackFault → Event
   marked_last : Event
+  passed_over : Event  -- the least marked place was passed over, whatever the rule
 
 -- an endpoint, but for its rule and the counts that any sending endpoint has
 pub record Timely : Type 0 where
@@ -70,11 +72,18 @@ pub record MarkStep (old new : Timely) : Type 0 where
   pub stays : Stays old.core new.core
   pub same : SameMoments old new
 
+pub record PassStep (old new : Timely) : Type 0 where
+  pub answer : Option ℕ
+  pub passes : PassesAny (state_of old.core) answer (state_of new.core)
+  pub stays : Stays old.core new.core
+  pub same : SameMoments old new
+
 abbrev pub Steps : Event → (old new : Timely) → Type 0
 Steps (sent now answer) old new = SendStep now answer old new
 Steps (resent rule now early expired answer) old new = ResendStep rule now early expired answer old new
 Steps (heard answer) old new = HearStep answer old new
 Steps marked_last old new = MarkStep old new
+Steps passed_over old new = PassStep old new
 
 pub record Follows (Before : Timely → Type 0) (event : Event) (new : Timely) : Type 0 where
   pub old : Timely

@@ -2,6 +2,7 @@
 ghost use Rattle.std.specs.Prelude.{◌≡◌, ◌<◌, ◌≤◌, None, Ok, IsOk, IfOk, OnErr, length, []};
 ghost use Rattle.rtpwire.specs.declared.limits.TheConstants.{MAX_DATAGRAM};
 ghost use Rattle.stores.specs.Past.{empty_past};
+ghost use Rattle.sender.specs.Passing.{PassesAny};
 ghost use Rattle.sender.specs.Repairing.{RepairsInto};
 ghost use Rattle.sender.specs.Sender.{Stays, new_sending, state_of};
 ghost use Rattle.sender.specs.Sending.{SendsInto};
@@ -170,6 +171,20 @@ impl<H: History> TimelyEndpoint<H> {
         ensures { TellsAnswer config.now self.now.endpoint.core.past self.now.moments octets.now now result }
     {
         answer_time(self.endpoint.core(), config, &self.moments, octets, now)
+    }
+
+    /// [`SendingEndpoint::pass_repair`]: passes over the least marked place, whatever the rule. Nothing is counted. It is for a caller that can't
+    /// retransmit all that is marked.
+    pub fn pass_repair(&mut self) -> Option<Place>
+        ensures passes { PassesAny (state_of self.old.endpoint.core) result (state_of self.new.endpoint.core) }
+        ensures none { result ≡ None → self.new ≡ self.old }
+        ensures stays { Stays self.old.endpoint.core self.new.endpoint.core }
+        ensures counts { self.new.endpoint.counts ≡ self.old.endpoint.counts }
+        ensures moments { self.new.moments ≡ self.old.moments }
+        ensures rule { self.new.rule ≡ self.old.rule }
+        ensures passed { self.new.passed ≡ self.old.passed }
+    {
+        self.endpoint.pass_repair()
     }
 
     /// [`SendingEndpoint::mark_last`]: for a sender that falls silent.
