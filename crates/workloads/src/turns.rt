@@ -54,7 +54,8 @@ fn add_note(digest: &mut Digest, note: &Note) {
         Note::Played(place) => add_pair(digest, 10, place.value()),
         Note::Gap(place) => add_pair(digest, 11, place.value()),
         Note::Asked => digest.add(12),
-        Note::AskedAgain => digest.add(13),
+        // The same NACK left a second time; or what the relays of the start could not note yet, over which this is laid.
+        _ => digest.add(13),
     }
 }
 
