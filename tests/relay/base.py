@@ -19,7 +19,7 @@ NAP = 0.01  # seconds that the watch sleeps at a time
 TRIES = 3  # how often a scene is played that rests on moments, on a busy machine
 FIRST_LINE = re.compile(r"^listening at (\S+):(\d+),? sending to (\S+):(\d+) from (\S+):(\d+) carrying payloads of up to (\d+) octets$")
 COUNTS = {
-    "send": "sent unsent marked retransmitted early expired refused stray lost".split(),
+    "send": "sent unsent marked retransmitted early expired refused stray lost crowded".split(),
     "receive": "taken repaired played gaps overrun abandoned skipped asked refused padding unasked restarts moved stray lost rtt".split(),
 }
 

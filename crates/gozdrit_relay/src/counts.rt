@@ -17,6 +17,8 @@ pub struct Counts {
     /// Of what was to be retransmitted, what had been so too short a while before, and what was past its deadline.
     pub early: u64,
     pub expired: u64,
+    /// What was passed over since more was asked for than may leave soon.
+    pub crowded: u64,
     /// Media packets and retransmissions that were taken.
     pub taken: u64,
     /// Retransmissions among them.
@@ -59,6 +61,7 @@ impl Counts {
         retransmitted: 0,
         early: 0,
         expired: 0,
+        crowded: 0,
         taken: 0,
         repaired: 0,
         played: 0,
@@ -95,6 +98,7 @@ impl Counts {
                 self.early = passed.early;
                 self.expired = passed.expired;
             }
+            Note::Crowded(packets) => add(&mut self.crowded, *packets),
             Note::Marked(_) => {}
             Note::Heard(answer, kind) => self.hear(answer, *kind),
             Note::Moved(_, answer, kind) => {
@@ -176,6 +180,8 @@ impl Counts {
                 Word::Decimal(self.stray),
                 Word::Text(b"lost"),
                 Word::Decimal(self.lost),
+                Word::Text(b"crowded"),
+                Word::Decimal(self.crowded),
             ],
         )
     }

@@ -71,6 +71,7 @@ impl Journal {
             }
             Note::Told(Ok(_)) => {}
             Note::Told(Err(fault)) => self.count(now, b"refused", u64::from(fault.number())),
+            Note::Crowded(packets) => self.count(now, b"crowded", *packets),
             Note::Marked(marked) => self.count(now, b"tail", u64::from(marked.places)),
             Note::Heard(answer, kind) => self.hear(now, answer, *kind),
             Note::Moved(_, answer, kind) => {

@@ -2,6 +2,7 @@
 #![tactic(auto)]
 
 #[cfg(test)]
+mod backlog;
 mod claims;
 #[cfg(test)]
 mod earned;

@@ -235,6 +235,49 @@ fn a_burst_of_fast_media(_rt: HostRuntime) -> Result<(), Fail> {
     Ok(())
 }
 
+/// What may leave soon: what is saved up, and what the rate has for a tenth of a second; by kilobits a second for a fifth, whatever left before.
+#[test]
+fn what_may_leave_soon(_rt: HostRuntime) -> Result<(), Fail> {
+    let mut kilobits = Pace::new(Rate::Kilobits(400));
+    kilobits.spend(1000, 5);
+    let mut pace = Pace::new(Rate::Percent(200));
+    // a kilobit a second at least
+    let at_first = pace.room() == 262_244;
+    // two megabits, and 200,000 of the next ones
+    pace.measure(250_000, 0);
+    let then = pace.room() == 2_462_144;
+    pace.spend(1200, 0);
+    let spent = pace.room() == 2_452_544;
+    let others = Pace::new(Rate::Free).room() == u64::MAX && kilobits.room() == 80_000;
+    if at_first && then && spent && others {
+        Ok(())
+    } else {
+        Err(Fail::from("the bits"))
+    }
+}
+
+/// Little is less than an eighth of the most: of 2,262,144 bits it is 282,760, and 282,768 are not. Half a second later the most is 1,262,144.
+#[test]
+fn what_is_little(_rt: HostRuntime) -> Result<(), Fail> {
+    let mut pace = Pace::new(Rate::Percent(200));
+    pace.measure(250_000, 0);
+    pace.spend(247_422, 0);
+    let enough = !pace.is_scarce(0);
+    pace.spend(1, 0);
+    let little = pace.is_scarce(0) && !pace.is_scarce(500);
+    // 157,768 and 157,760
+    pace.spend(15_624, 0);
+    let later = !pace.is_scarce(500);
+    pace.spend(1, 0);
+    let mut kilobits = Pace::new(Rate::Kilobits(400));
+    kilobits.spend(1_000_000, 5);
+    if enough && little && later && pace.is_scarce(500) && !kilobits.is_scarce(5) {
+        Ok(())
+    } else {
+        Err(Fail::from("what is little"))
+    }
+}
+
 /// In kilobits a second each one closes it until it had its time, and 0 per cent are 32 KiB in all.
 #[test]
 fn other_paces(_rt: HostRuntime) -> Result<(), Fail> {

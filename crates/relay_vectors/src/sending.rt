@@ -12,7 +12,7 @@ use stores::RingHistory;
 
 const APPLICATION: u16 = 4000;
 
-const FAR: u16 = 6004;
+pub(crate) const FAR: u16 = 6004;
 
 const STRANGER: u16 = 6666;
 
@@ -21,7 +21,7 @@ const OTHERS: u16 = 4001;
 
 /// A relay of a session whose first number is 65535, for an application's stream, until so many packets were sent, by a rule of what is
 /// retransmitted.
-fn relay(
+pub(crate) fn relay(
     alloc: Global,
     packets: u64,
     pace: Pace,
@@ -227,10 +227,12 @@ fn a_stream_that_comes_from_elsewhere(rt: HostRuntime) -> Result<(), Fail> {
     Ok(())
 }
 
+/// A NACK for eighty packets.
+pub(crate) const ALL: &[u8] =
+    b"\x81\xcd\x00\x07\x33\x33\x33\x33\x11\x11\x11\x11\xff\xff\xff\xff\x00\x10\xff\xff\x00\x21\xff\xff\x00\x32\xff\xff\x00\x43\x07\xff";
+
 /// Eighty packets of the application at moment 5, of 1200 octets each, and a NACK for all of them at each of these moments.
-fn eighty(alloc: Global, asked: &[u64]) -> Result<Script, Fail> {
-    const ALL: &[u8] =
-        b"\x81\xcd\x00\x07\x33\x33\x33\x33\x11\x11\x11\x11\xff\xff\xff\xff\x00\x10\xff\xff\x00\x21\xff\xff\x00\x32\xff\xff\x00\x43\x07\xff";
+pub(crate) fn eighty(alloc: Global, asked: &[u64]) -> Result<Script, Fail> {
     let mut script = Script::new(alloc, &[])?;
     for number in 0..80 {
         script.comes(&(5, Near, APPLICATION, Packet::Long(number)))?;

@@ -7,6 +7,7 @@ pub mod Capping
 pub mod MediaRate
 pub mod Pacing
 pub mod Paced
+pub mod Backlog
 pub mod Ending
 pub mod Following
 pub mod Feedback

@@ -1,7 +1,7 @@
 -- How fast retransmissions leave (RFC 4588, section 7). By a share of the media they are earned by the media that leaves, and each one spends what
 -- was earned. By that and by kilobits a second each pours its bits into a bucket, out of which so many run each millisecond. Moments are in
 -- milliseconds.
-use Rattle.std.specs.Prelude.{ℕ, Bool, true, false, ◌+◌, ◌*◌, ◌/◌, ◌-◌, ◌||◌, ◌&&◌, nat_le, max, min}
+use Rattle.std.specs.Prelude.{ℕ, Bool, true, false, ◌+◌, ◌*◌, ◌/◌, ◌-◌, ◌^◌, ◌||◌, ◌&&◌, nat_le, nat_lt, max, min}
 use Rattle.rtpwire.specs.declared.limits.TheConstants.{MAX_DATAGRAM}
 pub use Rattle.relays.specs.Capping.{capped}
 use Rattle.relays.specs.MediaRate.{measured_after, measured_at, unmeasured}
@@ -56,6 +56,34 @@ depth_by rate = 0
 -- what is left in the bucket at a moment
 abbrev pub owed_at : Pace → (now : ℕ) → ℕ
 owed_at p now = p.owed - capped (drain_of p * (now - p.since))
+
+-- ---- what may leave soon
+
+-- how far ahead that looks, in milliseconds: twice as far by kilobits a second, since nothing is saved up there
+abbrev pub span_of : Rate → ℕ
+span_of (Kilobits kilobits) = 200
+span_of rate = 100
+
+-- what is saved up
+abbrev pub saved_of : Rate → (credit : ℕ) → ℕ
+saved_of (Percent share) credit = credit
+saved_of rate credit = 0
+
+-- so many bits may leave in that time where media goes on as it did: what is saved up, and what the rate has
+abbrev pub room_by : Rate → (credit bits : ℕ) → ℕ
+room_by Free credit bits = 2 ^ 64 - 1
+room_by rate credit bits = capped (saved_of rate credit + capped (kilobits_beside rate bits * span_of rate))
+
+abbrev pub room_of : Pace → ℕ
+room_of p = room_by p.rate p.credit p.media.bits
+
+-- little is left of what was saved up: less than an eighth of the most
+abbrev pub is_little : Rate → (credit most : ℕ) → Bool
+is_little (Percent share) credit most = nat_lt (capped (credit * 8)) most
+is_little rate credit most = false
+
+abbrev pub is_scarce : Pace → (now : ℕ) → Bool
+is_scarce p now = is_little p.rate p.credit (most_beside p.rate (measured_at p.media now))
 
 -- ---- a pace
 

@@ -1,6 +1,6 @@
 -- The relay behind a network that loses: what it does with what comes, and what it does of its own. Each case of what it notes has
 -- its equation, and what stands nowhere is never done.
-use Rattle.std.specs.Prelude.{◌≡◌, ◌≤◌, ◌<◌, ◌-◌, ◌/◌, ◌⊎◌, ℕ, zero, suc, ◌&&◌, max, min, Bool, true, false, List, length, take, Option, Some, None, is_some, Result, Ok, Err}
+use Rattle.std.specs.Prelude.{◌≡◌, ◌≤◌, ◌<◌, ◌-◌, ◌/◌, ◌⊎◌, ℕ, zero, suc, max, min, Bool, true, false, List, length, take, Option, Some, None, is_some, Result, Ok, Err}
 use Rattle.std.specs.declared.net.socket_addr.SocketAddr.{SocketAddr}
 use Rattle.arrayvec.specs.ArrayVec.{ArrayVec}
 use Rattle.rtpwire.specs.Rtp.{RtpSpells}
@@ -126,9 +126,13 @@ abbrev pub GoesOn : ReceiveSide → (octets : List ℕ) → (next : Option ℕ) 
 GoesOn s octets next =
     (number : Option ℕ) × IsMediaNumber s.core.config.session octets number × IsSpelledWhere octets number × (next ≡ next_of (highest_of s.core.span) number s.reach)
 
--- From another address than the far side's they may show it there, since nothing comes from the old one.
+-- From another address than the far side's they may show it there where nothing comes from the old one: if they go on with the session.
+abbrev pub MayShowWhere : (is_quiet : Bool) → ReceiveSide → (octets : List ℕ) → Bool → Type 0
+MayShowWhere false s octets answer = answer ≡ false
+MayShowWhere true s octets answer = (next : Option ℕ) × GoesOn s octets next × (answer ≡ is_some next)
+
 abbrev pub MayShow : ReceiveSide → (octets : List ℕ) → (now : ℕ) → Bool → Type 0
-MayShow s octets now answer = (next : Option ℕ) × GoesOn s octets next × (answer ≡ (is_quiet s.far now && is_some next))
+MayShow s octets now answer = MayShowWhere (is_quiet s.far now) s octets answer
 
 -- They do, with those that came before, or not yet. What does not go on with the session shows nothing.
 abbrev pub ShowsBy : (next : Option ℕ) → FarSide → (from : SocketAddr) → (now : ℕ) → Bool → FarSide → Type 0

@@ -1,6 +1,6 @@
 -- The relay before a network that loses: what it does with what comes, and what it does of its own. Each case of what it notes has
 -- its equation, and what stands nowhere is never done.
-use Rattle.std.specs.Prelude.{◌≡◌, ℕ, ◌^◌, ◌≤◌, ◌-◌, ◌==◌, ◌&&◌, Bool, true, false, nat_le, List, length, Option, Some, None, Result}
+use Rattle.std.specs.Prelude.{◌≡◌, ℕ, zero, suc, ◌^◌, ◌<◌, ◌≤◌, ◌-◌, ◌==◌, ◌&&◌, Bool, true, false, nat_le, List, length, Option, Some, None, Result}
 use Rattle.std.specs.declared.net.socket_addr.SocketAddr.{SocketAddr}
 use Rattle.rtpwire.specs.declared.content.Content.{Content}
 use Rattle.rtpwire.specs.Rtp.{RtpPacket, RtpSpells}
@@ -10,6 +10,7 @@ use Rattle.sender.specs.Sender.{Sending, state_of}
 use Rattle.sender.specs.History.{SenderState, NoneMarked}
 use Rattle.sender.specs.Sending.{SendsAt}
 use Rattle.sender.specs.Repairing.{RepairsAt}
+use Rattle.sender.specs.Passing.{IsNextAny, PassesAt}
 use Rattle.sender.specs.Tail.{MarksLast}
 use Rattle.endpoint.specs.Demultiplex.{is_control}
 use Rattle.endpoint.specs.Sending.{TellsKind}
@@ -25,18 +26,20 @@ use Rattle.endpoint.specs.Passing.{PassesWhatMayNot}
 use Rattle.endpoint.specs.ResendCounts.{none_passed}
 use Rattle.endpoint.specs.ResendMetering.{HearsTime, meter_fixed, meter_resent, meter_sent, rule_by}
 use Rattle.endpoint.specs.SendCounts.{count_sent, count_told, count_repaired, no_counts}
+use Rattle.relays.specs.declared.backlog.Backlog.{Backlog}
 use Rattle.relays.specs.declared.bounds.Bounds.{Bounds}
 use Rattle.relays.specs.declared.outside.Side.{Side}
 use Rattle.relays.specs.declared.outside.Side.TheVariants.{Near, Far}
 use Rattle.relays.specs.declared.pace.Pace.{Pace}
 use Rattle.relays.specs.declared.stream.Stream.{Stream}
 use Rattle.relays.specs.declared.relay.Note.{Note}
-use Rattle.relays.specs.declared.relay.Note.TheVariants.{Sent, Unsent, Told, Stray, Retransmitted, PassedOver, Marked}
+use Rattle.relays.specs.declared.relay.Note.TheVariants.{Sent, Unsent, Told, Stray, Retransmitted, PassedOver, Crowded, Marked}
 use Rattle.relays.specs.declared.relay.Departure.{Departure}
 use Rattle.relays.specs.declared.relay.Turn.{Turn}
 use Rattle.relays.specs.Following.{Follows, followed_by, keeps_out}
 use Rattle.relays.specs.Ending.{is_over}
-use Rattle.relays.specs.Pacing.{fallen, is_open, opens_after, paced_beside}
+use Rattle.relays.specs.Backlog.{emptied, gone, is_beyond, kept_beside, less_by, marked_by, marked_more, measured_with, new_backlog, has_stood, seen_at}
+use Rattle.relays.specs.Pacing.{fallen, is_open, is_scarce, opens_after, paced_beside, room_of}
 use Rattle.relays.specs.Leaving.{GoesTo, octets_of}
 
 -- what a relay is between two calls
@@ -50,13 +53,14 @@ pub record SendSide : Type 0 where
   pub far : SocketAddr
   pub stream : Stream  -- the application's
   pub pace : Pace
+  pub backlog : Backlog  -- how much is marked
   pub tail : Bool  -- the last packet is still to be retransmitted once the stream falls silent
   pub bounds : Bounds
 
 -- a relay that sent nothing
 abbrev pub new_send_side : Sending → ResendRule → List Times → SocketAddr → Stream → Pace → Bounds → SendSide
 new_send_side core rule moments far stream pace bounds =
-    record { core = core; counts = no_counts; rule = rule; moments = moments; passed = none_passed; meter = meter_fixed; far = far; stream = stream; pace = pace; tail = false; bounds = bounds }
+    record { core = core; counts = no_counts; rule = rule; moments = moments; passed = none_passed; meter = meter_fixed; far = far; stream = stream; pace = pace; backlog = new_backlog; tail = false; bounds = bounds }
 
 -- it ends by its bounds, of which it counts the packets that it sent
 abbrev pub is_done : SendSide → (now : ℕ) → Bool
@@ -97,7 +101,7 @@ pub record Forwarded (old : SendSide) (from : SocketAddr) (octets : List ℕ) (n
   pub sends : SendsAt old.core.config.session old.core.past.capacity (state_of old.core) content 0 place (octets_of d out) (state_of new.core)
   pub goes : GoesTo d Far old.far
   pub config : new.core.config ≡ old.core.config
-  pub rest : new ≡ record old { core = new.core; counts = count_sent (length content.payload.items) old.counts; moments = told old.moments place (just_sent now); meter = meter_sent old.meter now; stream = followed_by old.stream from packet.ssrc now; pace = paced_beside old.pace d.len now; tail = true }
+  pub rest : new ≡ record old { core = new.core; counts = count_sent (length content.payload.items) old.counts; moments = told old.moments place (just_sent now); meter = meter_sent old.meter now; stream = followed_by old.stream from packet.ssrc now; pace = paced_beside old.pace d.len now; backlog = measured_with old.backlog d.len; tail = true }
 
 -- what is done with a datagram of the application: it is sent, or it carries nothing, or there is no place left
 abbrev pub Forwards : SendSide → (from : SocketAddr) → (octets : List ℕ) → (now : ℕ) → Note → Option Departure → (out : List ℕ) → SendSide → Type 0
@@ -106,11 +110,17 @@ Forwards old from octets now Unsent None out new =
     ((packet : RtpPacket) (content : Content) → Carries old.core.config.session old.stream from octets now packet content → 2 ^ 48 ≤ old.core.next) × (new ≡ old)
 Forwards old from octets now note leaves out new = ⊥
 
--- The path is measured by a datagram of the far side, what retransmissions may have falls with the media's rate, and the endpoint hears it.
+-- The path is measured by a datagram of the far side, what retransmissions may have falls with the media's rate, and the endpoint hears it. What is
+-- marked is counted anew where nothing was.
+abbrev pub backlog_after : (first : Option ℕ) → Result Answer FeedbackFault → (now : ℕ) → SendSide → Backlog
+backlog_after first answer now s = seen_at (marked_by answer (kept_beside first s.backlog)) (room_of (fallen s.pace now)) now
+
 pub record HearsFeedback (old : SendSide) (octets : List ℕ) (now : ℕ) (answer : Result Answer FeedbackFault) (new : SendSide) : Type 0 where
+  pub first : Option ℕ
+  pub is_next : IsNextAny (state_of old.core) first
   pub measures : HearsTime old.core.config old.core.past old.moments octets now old.meter.interval new.meter.interval
   pub tells : TellsKind (is_control octets) old.core octets answer new.core
-  pub rest : new ≡ record old { core = new.core; counts = count_told answer old.counts; meter = new.meter; pace = fallen old.pace now }
+  pub rest : new ≡ record old { core = new.core; counts = count_told answer old.counts; meter = new.meter; pace = fallen old.pace now; backlog = backlog_after first answer now old }
 
 -- what is done with a datagram at the other socket: the endpoint hears what the far side sent, and nobody else's
 abbrev pub HearsFar : SendSide → (from : SocketAddr) → (octets : List ℕ) → (now : ℕ) → Note → Option Departure → SendSide → Type 0
@@ -130,9 +140,33 @@ fell_silent (Some last) now = nat_le 100 (now - last)
 abbrev pub is_tail_at : SendSide → (now : ℕ) → Bool
 is_tail_at old now = old.tail && fell_silent old.stream.last now
 
--- the rule that holds at a moment
+-- the rule that holds at a moment: where little is left to leave, nothing goes a second time
+abbrev pub once_where : (is_scarce : Bool) → ResendRule → ResendRule
+once_where false rule = rule
+once_where true rule = record rule { min_resend = 2 ^ 64 - 1 }
+
 abbrev pub rule_at : SendSide → (now : ℕ) → ResendRule
-rule_at s now = rule_by s.meter.interval s.rule now
+rule_at s now = once_where (is_scarce s.pace now) (rule_by s.meter.interval s.rule now)
+
+-- More is marked than may leave soon, and that for a second: what stands so makes all that is marked behind it too late.
+abbrev pub is_crowded : SendSide → (now : ℕ) → Bool
+is_crowded s now = has_stood s.backlog.since now && is_beyond s.backlog (room_of s.pace)
+
+abbrev pub NotCrowded : SendSide → (now : ℕ) → Type 0
+NotCrowded s now = is_crowded s now ≡ true → NoneMarked (state_of s.core)
+
+-- so many of the least marked packets are passed over, one after the other
+abbrev pub PassesLeast : (packets : ℕ) → (old new : SenderState) → Type 0
+PassesLeast zero old new = new ≡ old
+PassesLeast (suc packets) old new = (mid : SenderState) × (place : ℕ) × PassesLeast packets old mid × PassesAt mid place new
+
+-- As many of the oldest are passed over as have to be, and no more.
+pub record LeavesOut (old : SendSide) (now packets : ℕ) (new : SendSide) : Type 0 where
+  pub passes : PassesLeast packets (state_of old.core) (state_of new.core)
+  pub needed : is_crowded (record old { backlog = less_by (packets - 1) old.backlog }) now ≡ true
+  pub enough : NotCrowded new now
+  pub config : new.core.config ≡ old.core.config
+  pub rest : new ≡ record old { core = new.core; backlog = less_by packets old.backlog }
 
 -- The least packet that is marked and fits the time is retransmitted to the far side, as the pace lets it. What is marked below it is
 -- passed over.
@@ -143,7 +177,7 @@ pub record Retransmits (old : SendSide) (now place : ℕ) (d : Departure) (out :
   pub repairs : RepairsAt old.core.config.session between place (octets_of d out) (state_of new.core)
   pub goes : GoesTo d Far old.far
   pub config : new.core.config ≡ old.core.config
-  pub rest : new ≡ record old { core = new.core; counts = count_repaired old.counts; moments = told old.moments place (sent_again now (times_at old.moments place)); passed = new.passed; meter = meter_resent old.meter now; pace = opens_after old.pace d.len now }
+  pub rest : new ≡ record old { core = new.core; counts = count_repaired old.counts; moments = told old.moments place (sent_again now (times_at old.moments place)); passed = new.passed; meter = meter_resent old.meter now; pace = opens_after old.pace d.len now; backlog = less_by (gone old.passed new.passed) old.backlog }
 
 -- Of what is marked nothing fits the time, and all of it is passed over.
 pub record PassesAllOver (old : SendSide) (now : ℕ) (new : SendSide) : Type 0 where
@@ -152,22 +186,24 @@ pub record PassesAllOver (old : SendSide) (now : ℕ) (new : SendSide) : Type 0 
   pub passes : PassesWhatMayNot (rule_at old now) old.moments now (state_of old.core) old.passed (state_of new.core) new.passed
   pub none_left : NoneMarked (state_of new.core)
   pub config : new.core.config ≡ old.core.config
-  pub rest : new ≡ record old { core = new.core; passed = new.passed }
+  pub rest : new ≡ record old { core = new.core; passed = new.passed; backlog = emptied old.backlog }
 
 -- no packet is marked that the pace would let leave
 abbrev pub NothingOpen : SendSide → (now : ℕ) → Type 0
 NothingOpen old now = is_open old.pace now ≡ true → NoneMarked (state_of old.core)
 
--- what is done of its own: the least marked packet that fits the time is retransmitted, or all that is marked is passed over, or else the
--- last one is marked, or else nothing is to be done
+-- what is done of its own: what is marked beyond what may leave soon is passed over where that stands, or else something is retransmitted or all that is
+-- marked is passed over, or else the last packet is marked, or else nothing is to be done
 abbrev pub SpeaksAs : SendSide → (now : ℕ) → Note → Option Departure → (out : List ℕ) → SendSide → Type 0
-SpeaksAs old now (Retransmitted place) (Some d) out new = Retransmits old now place d out new
-SpeaksAs old now (PassedOver passed) None out new = (passed ≡ new.passed) × PassesAllOver old now new
+SpeaksAs old now (Crowded packets) None out new = (0 < packets) × LeavesOut old now packets new
+SpeaksAs old now (Retransmitted place) (Some d) out new = NotCrowded old now × Retransmits old now place d out new
+SpeaksAs old now (PassedOver passed) None out new = NotCrowded old now × (passed ≡ new.passed) × PassesAllOver old now new
 SpeaksAs old now (Marked marked) None out new =
-    NothingOpen old now × (is_tail_at old now ≡ true)
-    × MarksLast old.core.config.repeats (state_of old.core) marked (state_of new.core) × (new ≡ record old { core = new.core; tail = false })
+    NotCrowded old now × NothingOpen old now × (is_tail_at old now ≡ true)
+    × MarksLast old.core.config.repeats (state_of old.core) marked (state_of new.core)
+    × (new ≡ record old { core = new.core; backlog = marked_more old.backlog marked.places; tail = false })
 SpeaksAs old now note leaves out new = ⊥
 
 abbrev pub Speaks : SendSide → (now : ℕ) → Option Turn → (out : List ℕ) → SendSide → Type 0
-Speaks old now None out new = NothingOpen old now × (is_tail_at old now ≡ false) × (new ≡ old)
+Speaks old now None out new = NotCrowded old now × NothingOpen old now × (is_tail_at old now ≡ false) × (new ≡ old)
 Speaks old now (Some turn) out new = SpeaksAs old now turn.note turn.leaves out new

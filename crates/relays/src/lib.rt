@@ -1,6 +1,7 @@
 //! What a relay does between an application and a network that loses, over whatever it waits at and sends to.
 #![tactic(auto)]
 
+mod backlog;
 mod bounds;
 mod claim_tables;
 mod claims;
@@ -22,6 +23,7 @@ mod sending;
 mod stream;
 mod writing;
 
+pub use backlog::Backlog;
 pub use bounds::Bounds;
 pub use claim_tables::{Claim, ClaimTables, Claimant};
 pub use claims::{Claims, Step, Stranger};

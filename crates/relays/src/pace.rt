@@ -1,7 +1,7 @@
 //! How fast retransmissions leave (RFC 4588, section 7: they share the rate of the session).
 ghost use Rattle.std.specs.Prelude.{◌≡◌, ◌<◌, ◌-◌, ◌*◌, ◌^◌, ◌&&◌, ℕ, nat_le};
 ghost use Rattle.stores.specs.Asking.{has_come};
-ghost use Rattle.relays.specs.Pacing.{capped, depth_by, drain_beside, drain_of, earned_by, fallen, fast_of, is_free, is_open, kilobits_beside, least_by, most_beside, new_pace, opens_after, owed_at, paced_beside};
+ghost use Rattle.relays.specs.Pacing.{capped, depth_by, drain_beside, drain_of, earned_by, fallen, fast_of, is_free, is_little, is_open, is_scarce, kilobits_beside, least_by, most_beside, new_pace, opens_after, owed_at, paced_beside, room_by, room_of, saved_of, span_of};
 
 use crate::media_rate::MediaRate;
 use rtpwire::MAX_DATAGRAM;
@@ -20,6 +20,9 @@ const FAST: u64 = 8;
 
 /// up to so many kilobits a second, or twice the rate.
 const FASTEST: u64 = 64_000;
+
+/// What may leave soon leaves within so many milliseconds, and within twice as many where nothing is saved up.
+const SOON: u64 = 100;
 
 /// How fast retransmissions may leave.
 #[derive(Clone, Copy, Debug, PartialEq, Eq)]
@@ -113,6 +116,21 @@ impl Pace {
         runs_out(self.since, self.owed, self.rate.depth(), self.drain())
     }
 
+    /// How many bits may leave soon where media goes on as it did: what is saved up, and what the rate has.
+    pub fn room(&self) -> u64
+        ensures { result ≡ room_of self.now }
+    {
+        self.rate.room(self.credit, self.media.bits())
+    }
+
+    /// Whether little is left at the moment `now` of what was saved up, so that it is for packets which were not retransmitted before.
+    pub fn is_scarce(&self, now: u64) -> bool
+        ensures { result ≡ is_scarce self.now now }
+    {
+        let bits = self.media.bits_at(now);
+        self.rate.is_little(self.credit, self.rate.most(bits))
+    }
+
     /// What is left in the bucket at the moment `now`.
     fn owed_at(&self, now: u64) -> u64
         ensures { result ≡ owed_at self.now now }
@@ -166,6 +184,49 @@ impl Rate {
         match self {
             Rate::Percent(_) => LONGEST,
             _ => 0,
+        }
+    }
+
+    /// How many bits may leave soon, where so many are saved up, beside media of so many a second.
+    fn room(&self, credit: u64, bits: u64) -> u64
+        ensures { result ≡ room_by self.now credit bits }
+    {
+        match self {
+            Rate::Free => u64::MAX,
+            _ => {
+                let later = self.kilobits(bits).saturating_mul(self.span());
+                self.saved(credit).saturating_add(later)
+            }
+        }
+    }
+
+    /// How soon is soon, in milliseconds.
+    fn span(&self) -> u64
+        ensures { result ≡ span_of self.now }
+    {
+        match self {
+            Rate::Kilobits(_) => 2 * SOON,
+            _ => SOON,
+        }
+    }
+
+    /// How much is saved up where that is earned.
+    fn saved(&self, credit: u64) -> u64
+        ensures { result ≡ saved_of self.now credit }
+    {
+        match self {
+            Rate::Percent(_) => credit,
+            _ => 0,
+        }
+    }
+
+    /// Whether so much is little, where so much is the most.
+    fn is_little(&self, credit: u64, most: u64) -> bool
+        ensures { result ≡ is_little self.now credit most }
+    {
+        match self {
+            Rate::Percent(_) => credit.saturating_mul(8) < most,
+            _ => false,
         }
     }
 

@@ -279,8 +279,7 @@ impl<W: Window> ReceiveRelay<W> {
     pub fn may_show(&self, octets: &[u8], now: u64) -> bool
         ensures { MayShow self.now octets.now now result }
     {
-        let goes_on = self.next_number(octets).is_some();
-        self.far.is_quiet(now) && goes_on
+        self.far.is_quiet(now) && self.next_number(octets).is_some()
     }
 
     /// The number of a datagram that goes on with the session: of a media packet of it, and one of the next.

@@ -31,6 +31,8 @@ pub enum Note {
     Retransmitted(Place),
     /// Nothing that was to be retransmitted fits the time, and it is passed over; with what was so far.
     PassedOver(ResendCounts),
+    /// More was to be retransmitted than may leave soon, and so many packets of it, the oldest, are passed over.
+    Crowded(u64),
     /// The stream fell silent, and its last packet is to be retransmitted.
     Marked(Marked),
     /// The receiving endpoint heard a datagram of the far side, of this kind.

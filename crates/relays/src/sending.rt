@@ -1,13 +1,16 @@
 //! The relay before a network that loses.
-ghost use Rattle.std.specs.Prelude.{◌≡◌, ◌<◌, ◌≤◌, ◌^◌, ℕ, length, None, IfOk, IfSome, false};
+ghost use Rattle.std.specs.Prelude.{◌≡◌, ◌<◌, ◌≤◌, ◌-◌, ◌^◌, ℕ, length, None, IfOk, IfSome, false, true};
 ghost use Rattle.rtpwire.specs.declared.limits.TheConstants.{MAX_DATAGRAM};
-ghost use Rattle.sender.specs.Sender.{new_sending};
+ghost use Rattle.sender.specs.History.{NoneMarked};
+ghost use Rattle.sender.specs.Sender.{new_sending, state_of};
 ghost use Rattle.stores.specs.Past.{empty_past};
 ghost use Rattle.stores.specs.Asking.{has_come};
 ghost use Rattle.endpoint.specs.ResendMetering.{meter_following};
+ghost use Rattle.relays.specs.Backlog.{is_beyond, less_by};
 ghost use Rattle.relays.specs.Passing.{IsWithin};
-ghost use Rattle.relays.specs.SendRelay.{CarriesNothing, Forwards, HearsFar, IsCarried, is_done, is_kept_from, IsOfStream, is_tail_at, new_send_side, NothingOpen, SpeaksAs};
+ghost use Rattle.relays.specs.SendRelay.{CarriesNothing, Forwards, HearsFar, IsCarried, is_done, is_kept_from, IsOfStream, is_tail_at, LeavesOut, new_send_side, NotCrowded, NothingOpen, once_where, PassesLeast, rule_at, SpeaksAs};
 
+use crate::backlog::Backlog;
 use crate::bounds::Bounds;
 use crate::outside::Side;
 use crate::pace::Pace;
@@ -36,6 +39,8 @@ pub struct SendRelay<H: History> {
     far: SocketAddr,
     stream: Stream,
     pace: Pace,
+    /// How much is marked.
+    backlog: Backlog,
     /// Whether the last packet is still to be retransmitted, once the stream falls silent.
     tail: bool,
     /// Whether a packet may be marked. It is so after whatever may mark one, until none is found.
@@ -51,7 +56,7 @@ impl<H: History> Model for SendRelay<H> {
 
     ghost Value = { SendSide };
 
-    ghost view = { λ r. record { core = r.endpoint.endpoint.core; counts = r.endpoint.endpoint.counts; rule = r.endpoint.rule; moments = r.endpoint.moments; passed = r.endpoint.passed; meter = r.meter; far = r.far; stream = r.stream; pace = r.pace; tail = r.tail; bounds = r.bounds } };
+    ghost view = { λ r. record { core = r.endpoint.endpoint.core; counts = r.endpoint.endpoint.counts; rule = r.endpoint.rule; moments = r.endpoint.moments; passed = r.endpoint.passed; meter = r.meter; far = r.far; stream = r.stream; pace = r.pace; backlog = r.backlog; tail = r.tail; bounds = r.bounds } };
 
     ghost invariant = { λ r. (r.config ≡ r.endpoint.endpoint.core.config) × (r.is_pending ≡ false → NoneMarked (state_of r.endpoint.endpoint.core)) };
 }
@@ -82,6 +87,7 @@ impl<H: History> SendRelay<H> {
             far,
             stream,
             pace,
+            backlog: Backlog::new(),
             tail: false,
             is_pending: true,
             bounds,
@@ -141,6 +147,7 @@ impl<H: History> SendRelay<H> {
         };
         self.stream.follow(from, ssrc, now);
         self.pace.measure(len, now);
+        self.backlog.measure(len);
         self.meter.send(now);
         self.tail = true;
         self.is_pending = true;
@@ -164,14 +171,45 @@ impl<H: History> SendRelay<H> {
         }
         self.meter.hear(&self.endpoint, &self.config, octets, now);
         self.pace.fall(now);
+        self.backlog.renew(self.endpoint.endpoint().next_marked());
         self.is_pending = true;
-        silent(Note::Told(self.endpoint.on_datagram(octets)))
+        let answer = self.endpoint.on_datagram(octets);
+        self.backlog.hear(&answer);
+        self.backlog.see(self.pace.room(), now);
+        silent(Note::Told(answer))
+    }
+
+    /// Passes over what is marked beyond what may leave soon, the oldest first, where that stands: it would make all the rest too late, and a receiver
+    /// that still waits for it asks again. It answers how many packets those are.
+    fn leave_out(&mut self, now: u64) -> u64
+        ensures some { 0 < result → LeavesOut self.old now result self.new }
+        ensures none { result ≡ 0 → NotCrowded self.old now }
+        ensures same { result ≡ 0 → self.new ≡ self.old }
+    {
+        if !self.is_pending || !self.backlog.has_stood(now) {
+            return 0;
+        }
+        let room = self.pace.room();
+        let packets = pass_beyond(&mut self.endpoint, &mut self.backlog, room);
+        if packets == 0 && self.backlog.is_beyond(room) {
+            self.is_pending = false;
+        }
+        packets
+    }
+
+    /// The rule of retransmissions at the moment `now`. Where little is left of what was saved up it is for packets that were not retransmitted before:
+    /// so whoever asks for all of them again and again keeps none of them back.
+    fn rule(&self, now: u64) -> ResendRule
+        ensures { result ≡ rule_at self.now now }
+    {
+        let rule = self.meter.rule(self.endpoint.rule(), now);
+        once_where(self.pace.is_scarce(now), rule)
     }
 
     /// Retransmits the least packet that is marked and fits the time, if the pace lets it leave, and passes over what does not fit.
     fn retransmit(&mut self, now: u64, out: &mut [u8]) -> Option<Turn>
         requires { length out.old ≡ MAX_DATAGRAM }
-        ensures some { IfSome result (λ turn. SpeaksAs self.old now turn.note turn.leaves out.new self.new) }
+        ensures some { IfSome result (λ turn. NotCrowded self.old now → SpeaksAs self.old now turn.note turn.leaves out.new self.new) }
         ensures none { result ≡ None → NothingOpen self.old now }
         ensures same { result ≡ None → self.new ≡ self.old }
         ensures within { IfSome result IsWithin }
@@ -184,9 +222,10 @@ impl<H: History> SendRelay<H> {
             self.is_pending = false;
             return None;
         };
-        let rule = self.meter.rule(self.endpoint.rule(), now);
+        let (rule, before) = (self.rule(now), self.endpoint.passed());
         match self.endpoint.retransmit_by(rule, out, now) {
             Ok(Some((place, len))) => {
+                self.backlog.retransmit(&before, &self.endpoint.passed());
                 self.pace.spend(len, now);
                 self.meter.resend(now);
                 Some(Turn {
@@ -198,10 +237,13 @@ impl<H: History> SendRelay<H> {
                     }),
                 })
             }
-            Ok(None) => Some(Turn {
-                note: Note::PassedOver(self.endpoint.passed()),
-                leaves: None,
-            }),
+            Ok(None) => {
+                self.backlog.clear();
+                Some(Turn {
+                    note: Note::PassedOver(self.endpoint.passed()),
+                    leaves: None,
+                })
+            }
             Err(_) => None,
         }
     }
@@ -237,11 +279,65 @@ impl<H: History> SendRelay<H> {
         }
     }
 
+    /// From when on more is marked than may leave soon.
+    fn crowded_moment(&self) -> Option<u64>
+        ensures { (now : ℕ) → now < 2 ^ 64 → has_come result now ≡ false → NotCrowded self.now now }
+    {
+        if self.is_pending && self.backlog.is_beyond(self.pace.room()) {
+            self.backlog.stands_from()
+        } else {
+            None
+        }
+    }
+
     /// The moment at which it ends by its bounds.
     fn end(&self) -> Option<u64>
         ensures { (now : ℕ) → has_come result now ≡ is_done self.now now }
     {
         self.bounds.end(self.counts().sent, self.stream.last())
+    }
+}
+
+/// Passes over the least marked packets as long as more is marked than has so much room. It answers how many those are.
+fn pass_beyond<H: History>(
+    endpoint: &mut TimelyEndpoint<H>,
+    backlog: &mut Backlog,
+    room: u64,
+) -> u64
+    ensures passes { PassesLeast result (state_of endpoint.old.endpoint.core) (state_of endpoint.new.endpoint.core) }
+    ensures needed { 0 < result → is_beyond (less_by (result - 1) backlog.old) room ≡ true }
+    ensures enough { is_beyond backlog.new room ≡ true → NoneMarked (state_of endpoint.new.endpoint.core) }
+    ensures backlog { backlog.new ≡ less_by result backlog.old }
+    ensures config { endpoint.new.endpoint.core.config ≡ endpoint.old.endpoint.core.config }
+    ensures capacity { endpoint.new.endpoint.core.past.capacity ≡ endpoint.old.endpoint.core.past.capacity }
+    ensures counts { endpoint.new.endpoint.counts ≡ endpoint.old.endpoint.counts }
+    ensures moments { endpoint.new.moments ≡ endpoint.old.moments }
+    ensures rule { endpoint.new.rule ≡ endpoint.old.rule }
+    ensures passed { endpoint.new.passed ≡ endpoint.old.passed }
+    ensures none { result ≡ 0 → endpoint.new ≡ endpoint.old }
+{
+    let mut count = 0;
+    while backlog.is_beyond(room) {
+        let Some(_) = endpoint.pass_repair() else {
+            return count;
+        };
+        backlog.pass(1);
+        count += 1;
+    }
+    count
+}
+
+/// A rule, or the one by which nothing goes a second time.
+fn once_where(is_scarce: bool, rule: ResendRule) -> ResendRule
+    ensures { result ≡ once_where is_scarce rule }
+{
+    if is_scarce {
+        ResendRule {
+            min_resend: u64::MAX,
+            ..rule
+        }
+    } else {
+        rule
     }
 }
 
@@ -296,6 +392,10 @@ impl<H: History> Relay for SendRelay<H> {
     }
 
     fn speak(&mut self, now: u64, out: &mut [u8]) -> Option<Turn> {
+        let left_out = self.leave_out(now);
+        if left_out > 0 {
+            return Some(silent(Note::Crowded(left_out)));
+        }
         if let Some(turn) = self.retransmit(now, out) {
             return Some(turn);
         }
@@ -304,11 +404,14 @@ impl<H: History> Relay for SendRelay<H> {
         }
         self.tail = false;
         self.is_pending = true;
-        Some(silent(Note::Marked(self.endpoint.mark_last())))
+        let marked = self.endpoint.mark_last();
+        self.backlog.mark(marked.places);
+        Some(silent(Note::Marked(marked)))
     }
 
     fn next_moment(&self) -> Option<u64> {
-        let own = sooner(self.tail_moment(), self.marked_moment());
+        let marked = sooner(self.crowded_moment(), self.marked_moment());
+        let own = sooner(self.tail_moment(), marked);
         sooner(own, self.end())
     }
 
