@@ -4,7 +4,10 @@ import subprocess
 
 
 def files(tree, *parts):
-    """Their names below these folders of the tree, or below all of it. An archive has no git: there what .gitignore names is passed over."""
+    """Their names below these folders of the tree, or below all of it. An archive has no git, though it may lie in a repository of somebody
+    else's: there what .gitignore names is passed over."""
+    if not os.path.exists(os.path.join(tree, ".git")):
+        return list(walked(tree, parts))
     words = ["git", "-C", str(tree), "ls-files", "-co", "--exclude-standard", "-z", *parts]
     try:
         listed = subprocess.run(words, capture_output=True, check=True, text=True).stdout.split("\0")
