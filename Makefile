@@ -24,6 +24,7 @@ PROGRAM ?= $(BUILD)/rtxtool
 RELAY ?= $(BUILD)/gozdrit-relay
 DIST ?= out/dist
 HEAP ?= $(dir $(shell rt doc))c/liblibc_c.a
+COMPILERS = $(firstword $(CC)) $(firstword $(LD)) $(firstword $(AR)) objcopy
 
 BINDIR = $(PREFIX)/bin
 LIBDIR = $(PREFIX)/lib
@@ -45,7 +46,7 @@ help:
 	@sed -n '/^#/!q; s/^# \{0,1\}//p' $(firstword $(MAKEFILE_LIST))
 
 $(TREE)/crates/gozdrit/out/libgozdrit.a:
-	@tools/need rt python3 cc ld ar objcopy
+	@tools/need rt python3 $(COMPILERS)
 	@rm -rf $(TREE)
 	@tools/proving gozdrit $(BUILD)/library.log tools/limits $(PAYLOAD) $(TREE)
 
@@ -54,6 +55,7 @@ relay: $(BUILD)/gozdrit-relay
 
 # In the tree of the library, whose crates are proved for such payloads already.
 $(BUILD)/gozdrit-relay: $(TREE)/crates/gozdrit/out/libgozdrit.a
+	@tools/need rt python3
 	@tools/proving gozdrit_relay $(BUILD)/relay.log sh -c 'cd $(TREE)/crates/gozdrit_relay && rt run -- --version'
 	cp $(TREE)/crates/gozdrit_relay/out/gozdrit_relay $@
 
@@ -61,6 +63,7 @@ rtxtool: $(BUILD)/rtxtool
 	@echo "$(BUILD)/rtxtool is built, and proved for payloads of $(PAYLOAD) octets; next: make install, or $(BUILD)/rtxtool --help (docs/SCRIPT.md)"
 
 $(BUILD)/rtxtool: $(TREE)/crates/gozdrit/out/libgozdrit.a
+	@tools/need rt python3
 	@tools/proving rtxtool $(BUILD)/rtxtool.log sh -c 'cd $(TREE)/crates/rtxtool && rt run -- --version'
 	cp $(TREE)/crates/rtxtool/out/rtxtool $@
 
@@ -71,6 +74,7 @@ $(BUILD)/exports: $(ARCHIVE)
 
 # One object of the library and of the kit's heap functions, in which no other names than those are to be linked with.
 $(BUILD)/gozdrit.o: $(ARCHIVE) $(BUILD)/exports
+	@tools/need rt python3 $(COMPILERS)
 	$(LD) -r -o $@ --whole-archive $(ARCHIVE) $(HEAP)
 	objcopy --keep-global-symbols=$(BUILD)/exports $@
 

@@ -5,6 +5,7 @@ read or written, as rtxtool has it; 2 is what argparse answers to a bad command 
 """
 import importlib.util
 import os
+import subprocess
 import sys
 import tempfile
 
@@ -20,6 +21,12 @@ def wants(module):
     """Ends with status 2, and a line on the error output, where a module of Debian's is missing."""
     if importlib.util.find_spec(module) is None:
         print(f"{os.path.basename(sys.argv[0])}: missing: python3:{module} (Debian's python3-{module})", file=sys.stderr)
+        sys.exit(2)
+
+
+def needs(*programs):
+    """Ends with status 2 where one of these programs is missing, which tools/need tells in a line."""
+    if subprocess.run([os.path.join(os.path.dirname(os.path.abspath(__file__)), "need"), *programs]).returncode:
         sys.exit(2)
 
 

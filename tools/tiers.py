@@ -9,6 +9,7 @@ import sys
 from importlib.machinery import SourceFileLoader
 
 import listed
+import refusals
 
 ONE_JOB = ["--jobs", "1"]
 NOTES = f"{os.environ.get('XDG_CACHE_HOME') or os.path.expanduser('~/.cache')}/gozdrit/refused"
@@ -26,6 +27,7 @@ def loaded(path):
 def kit():
     """The functions of the toolchain's `rt`, by which `rt ci` tries edits. Some kits keep what checks proved for other copies of a crate; in the
     place of the functions of those that don't there are some that find what this tree kept."""
+    refusals.needs("rt")
     start = subprocess.run(["rt", "doc"], stdout=subprocess.PIPE, check=True, text=True).stdout.strip()
     made = loaded(f"{os.path.dirname(start)}/bin/rt")
     made.rtlib.guarded()  # (it has to be called by the main thread once)
