@@ -24,6 +24,8 @@ PROGRAM ?= $(BUILD)/rtxtool
 RELAY ?= $(BUILD)/gozdrit-relay
 DIST ?= out/dist
 HEAP ?= $(dir $(shell rt doc))c/liblibc_c.a
+# What the tree of the library is made of. Where one of them is younger it is made and proved anew.
+SOURCES = $(shell find crates -name out -prune -o \( -name '*.rt' -o -name '*.antt' \) -print) crates.txt HANDLES include/gozdrit.h
 COMPILERS = $(firstword $(CC)) $(firstword $(LD)) $(firstword $(AR)) objcopy
 
 BINDIR = $(PREFIX)/bin
@@ -45,7 +47,7 @@ demo:
 help:
 	@sed -n '/^#/!q; s/^# \{0,1\}//p' $(firstword $(MAKEFILE_LIST))
 
-$(TREE)/crates/gozdrit/out/libgozdrit.a:
+$(TREE)/crates/gozdrit/out/libgozdrit.a: $(SOURCES)
 	@tools/need rt python3 $(COMPILERS)
 	@rm -rf $(TREE)
 	@tools/proving gozdrit $(BUILD)/library.log tools/limits $(PAYLOAD) $(TREE)
