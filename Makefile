@@ -52,6 +52,9 @@ $(TREE)/crates/gozdrit/out/libgozdrit.a: $(SOURCES)
 	@rm -rf $(TREE)
 	@tools/proving gozdrit $(BUILD)/library.log tools/limits $(PAYLOAD) $(TREE)
 
+# Its headers come with it.
+$(TREE)/include/gozdrit.h: $(TREE)/crates/gozdrit/out/libgozdrit.a ;
+
 relay: $(BUILD)/gozdrit-relay
 	@echo "$(BUILD)/gozdrit-relay is built, and proved for payloads of $(PAYLOAD) octets; next: make install, or $(BUILD)/gozdrit-relay --help (docs/RELAY.md)"
 
