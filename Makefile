@@ -51,6 +51,7 @@ $(TREE)/crates/gozdrit/out/libgozdrit.a: $(SOURCES)
 	@tools/need rt python3 $(COMPILERS)
 	@rm -rf $(TREE)
 	@tools/proving gozdrit $(BUILD)/library.log tools/limits $(PAYLOAD) $(TREE)
+	@rt version >$(BUILD)/library.kit
 
 # Its headers come with it.
 $(TREE)/include/gozdrit.h: $(TREE)/crates/gozdrit/out/libgozdrit.a ;
@@ -62,6 +63,7 @@ relay: $(BUILD)/gozdrit-relay
 $(BUILD)/gozdrit-relay: $(TREE)/crates/gozdrit/out/libgozdrit.a
 	@tools/need rt python3
 	@tools/proving gozdrit_relay $(BUILD)/relay.log sh -c 'cd $(TREE)/crates/gozdrit_relay && rt run -- --version'
+	@rt version >$(BUILD)/relay.kit
 	cp $(TREE)/crates/gozdrit_relay/out/gozdrit_relay $@
 
 rtxtool: $(BUILD)/rtxtool
@@ -70,6 +72,7 @@ rtxtool: $(BUILD)/rtxtool
 $(BUILD)/rtxtool: $(TREE)/crates/gozdrit/out/libgozdrit.a
 	@tools/need rt python3
 	@tools/proving rtxtool $(BUILD)/rtxtool.log sh -c 'cd $(TREE)/crates/rtxtool && rt run -- --version'
+	@rt version >$(BUILD)/rtxtool.kit
 	cp $(TREE)/crates/rtxtool/out/rtxtool $@
 
 # What the header declares, a name a line.
@@ -115,7 +118,7 @@ dist: lib $(RELAY) $(PROGRAM)
 	@tools/need python3
 	@rm -rf $(BUILD)/stage
 	@$(MAKE) -s --no-print-directory install PREFIX= DESTDIR=$(abspath $(BUILD)/stage) PAYLOAD=$(PAYLOAD) BUILD=$(BUILD) ARCHIVE=$(ARCHIVE) INCLUDE=$(INCLUDE) PROGRAM=$(PROGRAM) RELAY=$(RELAY) >$(BUILD)/stage.log
-	@tools/dist $(VERSION) $(BUILD)/stage $(DIST)
+	@tools/dist $(VERSION) $(BUILD)/stage $(DIST) $$(find $(BUILD) -maxdepth 1 -name '*.kit')
 
 uninstall:
 	rm -f $(DESTDIR)$(HEADERS)/gozdrit.h $(DESTDIR)$(HEADERS)/gozdrit_limits.h $(DESTDIR)$(PKGCONFIG)/gozdrit.pc
