@@ -19,8 +19,8 @@ NAP = 0.01  # seconds that the watch sleeps at a time
 TRIES = 3  # how often a scene is played that rests on moments, on a busy machine
 FIRST_LINE = re.compile(r"^listening at (\S+):(\d+),? sending to (\S+):(\d+) from (\S+):(\d+) carrying payloads of up to (\d+) octets$")
 COUNTS = {
-    "send": "sent unsent marked retransmitted early expired refused stray lost crowded".split(),
-    "receive": "taken repaired played gaps overrun abandoned skipped asked refused padding unasked restarts moved stray lost rtt".split(),
+    "send": "sent unsent marked retransmitted early expired refused stray lost others unknown exhausted crowded strangers full unreachable oversize rejected failed".split(),
+    "receive": "taken repaired played gaps overrun abandoned skipped asked refused padding unasked restarts moved stray lost rtt full unreachable oversize rejected failed".split(),
 }
 
 
@@ -169,6 +169,10 @@ class Relay:
     def stop(self, number=signal.SIGKILL):
         self.run.send_signal(number)
         return self.status()
+
+    def lines(self):
+        """What it said behind its first line, but for the one that tells how little the system keeps for its sockets."""
+        return [one for one in self.errors().splitlines()[1:] if not one.startswith("the system keeps ")]
 
     def counts(self):
         """The counts of its last line, with a zero for each where there are none."""

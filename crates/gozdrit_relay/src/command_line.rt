@@ -4,6 +4,7 @@ ghost use Rattle.std.specs.Prelude.{◌≤◌, ◌<◌, IfOk, IfSome};
 use crate::fault::Fault;
 use crate::load::MOST_KEPT;
 use crate::options::command;
+use crate::units::Form;
 use clap::ArgMatches;
 use clap::error::ErrorKind;
 use endpoint::ResendRule;
@@ -34,6 +35,8 @@ pub struct Options<'a> {
     /// So many of 1000 datagrams are dropped.
     pub loss: u32,
     pub seed: u64,
+    /// So many octets the system is asked to keep for a socket, each way.
+    pub socket_buffer: i32,
 }
 
 /// What a command line asks for.
@@ -72,6 +75,14 @@ const MIN_RESEND: u64 = 10;
 /// How many packets in sequence are a stream by default.
 const STREAM: u64 = 10;
 
+/// How many octets the system is asked to keep for a socket by default: a tenth of a second at 400 megabits a
+/// second, since it keeps twice as many for itself and takes 2304 of these for a packet of 1316.
+const BUFFER: u64 = 4_194_304;
+
+const LEAST_BUFFER: u64 = 4096;
+
+const MOST_BUFFER: u64 = 1_073_741_824;
+
 /// The greatest share.
 const MOST_SHARE: u64 = 100_000;
 
@@ -102,19 +113,19 @@ fn chosen<'a>(matches: &ArgMatches<'a>) -> Result<Choice<'a>, Fault<'a>> {
                 receive(inner)
             }
         }
-        None => Err(Fault::Value("help")),
+        None => Err(Fault::Missing("help")),
     }
 }
 
 fn send<'a>(matches: &ArgMatches<'a>) -> Result<Choice<'a>, Fault<'a>> {
     let options = common(matches)?;
-    let min_resend = number(matches, "min-resend", 0, u64::MAX)?;
+    let min_resend = value(matches, "min-resend", Form::Time(0, u64::MAX))?;
     Ok(Choice::Send {
         options,
         rate: rate(matches)?,
         rule: ResendRule {
             min_resend: min_resend.unwrap_or(MIN_RESEND),
-            deadline: number(matches, "deadline", 0, u64::MAX)?,
+            deadline: value(matches, "deadline", Form::Time(0, u64::MAX))?,
         },
         follows: min_resend.is_none(),
         history: number(matches, "history", 1, MOST_KEPT)?.unwrap_or(MOST_KEPT) as usize,
@@ -126,7 +137,7 @@ fn receive<'a>(matches: &ArgMatches<'a>) -> Result<Choice<'a>, Fault<'a>> {
     let options = common(matches)?;
     Ok(Choice::Receive {
         options,
-        latency: number(matches, "latency", 0, u64::MAX)?.unwrap_or(200),
+        latency: value(matches, "latency", Form::Time(0, u64::MAX))?.unwrap_or(200),
         window: number(matches, "window", 1, MOST_KEPT)?.unwrap_or(MOST_KEPT) as usize,
         hold: thirty_two(matches, "hold", 1)?,
     })
@@ -135,8 +146,8 @@ fn receive<'a>(matches: &ArgMatches<'a>) -> Result<Choice<'a>, Fault<'a>> {
 /// The options of both.
 fn common<'a>(matches: &ArgMatches<'a>) -> Result<Options<'a>, Fault<'a>> {
     Ok(Options {
-        listen: matches.get_str("listen").ok_or(Fault::Value("listen"))?,
-        to: matches.get_str("to").ok_or(Fault::Value("to"))?,
+        listen: matches.get_str("listen").ok_or(Fault::Missing("listen"))?,
+        to: matches.get_str("to").ok_or(Fault::Missing("to"))?,
         from: matches.get_str("from"),
         peers: matches.get_str("peer"),
         stream: number(matches, "stream", 1, u64::MAX)?.unwrap_or(STREAM),
@@ -146,11 +157,20 @@ fn common<'a>(matches: &ArgMatches<'a>) -> Result<Options<'a>, Fault<'a>> {
         rtx_type: eight(matches, "rtx-type", 96)?,
         first: sixteen(matches, "first")?,
         packets: number(matches, "packets", 1, u64::MAX)?,
-        seconds: number(matches, "seconds", 1, LONGEST)?,
-        stats: number(matches, "stats", 1, LONGEST)?,
+        seconds: value(matches, "seconds", Form::Seconds(1, LONGEST))?,
+        stats: value(matches, "stats", Form::Seconds(1, LONGEST))?,
         log: matches.get_str("log"),
-        loss: number(matches, "loss", 0, 1000)?.unwrap_or(0) as u32,
+        loss: value(matches, "loss", Form::Share(0, 1000))?
+            .unwrap_or(0)
+            .min(1000) as u32,
         seed: number(matches, "seed", 0, u64::MAX)?.unwrap_or(0),
+        socket_buffer: value(
+            matches,
+            "socket-buffer",
+            Form::Octets(LEAST_BUFFER, MOST_BUFFER),
+        )?
+        .unwrap_or(BUFFER)
+        .min(MOST_BUFFER) as i32,
     })
 }
 
@@ -168,7 +188,18 @@ fn number<'a>(
     };
     match parse_between(text.as_bytes(), least, most) {
         Some(number) => Ok(Some(number)),
-        None => Err(Fault::Value(id)),
+        None => Err(Fault::Value(id, text, Form::Number(least, most))),
+    }
+}
+
+/// The value of an option in this form, where it is given.
+fn value<'a>(matches: &ArgMatches<'a>, id: &'a str, form: Form) -> Result<Option<u64>, Fault<'a>> {
+    let Some(text) = matches.get_str(id) else {
+        return Ok(None);
+    };
+    match form.read(text) {
+        Some(number) => Ok(Some(number)),
+        None => Err(Fault::Value(id, text, form)),
     }
 }
 
@@ -177,11 +208,12 @@ fn rate<'a>(matches: &ArgMatches<'a>) -> Result<Rate, Fault<'a>> {
     let Some(text) = matches.get_str("rate") else {
         return Ok(Rate::Percent(SHARE));
     };
+    let form = Form::Rate(MOST_SHARE);
     let read = match text.as_bytes().split_last() {
         Some((b'%', digits)) => parse_between(digits, 1, MOST_SHARE).map(Rate::Percent),
-        _ => parse_between(text.as_bytes(), 0, u64::MAX).map(kilobits),
+        _ => form.read(text).map(kilobits),
     };
-    read.ok_or(Fault::Value("rate"))
+    read.ok_or(Fault::Value("rate", text, form))
 }
 
 fn kilobits(rate: u64) -> Rate {
@@ -226,10 +258,10 @@ fn ssrc<'a>(matches: &ArgMatches<'a>, id: &'a str) -> Result<Option<u32>, Fault<
     };
     // A sign is none of the digits.
     if text.as_bytes().first() == Some(&b'+') {
-        return Err(Fault::Value(id));
+        return Err(Fault::Value(id, text, Form::Ssrc));
     }
     match u32::from_str_radix(text, 16) {
         Ok(ssrc) => Ok(Some(ssrc)),
-        Err(_) => Err(Fault::Value(id)),
+        Err(_) => Err(Fault::Value(id, text, Form::Ssrc)),
     }
 }

@@ -1,8 +1,15 @@
 //! What a run came to, in counts.
-use endpoint::{Heard, Kind, Told};
+ghost use Rattle.std.specs.Prelude.{◌≡◌};
+ghost use Rattle.gozdrit_relay.specs.Unmet.{is_for_others, lapsed_with};
+
+use crate::hindrance::Hindrance;
+use crate::unmet::Unmet;
+use endpoint::{Heard, Kind, ResendCounts, Told};
+use fbwire::FeedbackFault;
 use lines::{Word, push_line};
 use receiver::ReceiveFault;
 use relays::Note;
+use sender::Shared;
 use stores::OutOfMemory;
 
 /// What a relay did so far, by its notes.
@@ -44,10 +51,26 @@ pub struct Counts {
     pub moved: u64,
     /// Sessions that were learnt.
     pub sessions: u64,
+    /// What did not fit the time in the sessions before.
+    before: ResendCounts,
     /// Datagrams from an address that is not the far side's.
     pub stray: u64,
     /// Datagrams that were dropped for a trial.
     pub lost: u64,
+    /// NACKs for other media or of other reporters, beside those of the session; and datagrams of nothing else, which are refused.
+    pub others: u64,
+    /// Of the numbers that feedback names, those that the history has no packet of, and those of packets that were retransmitted as often
+    /// as may be.
+    pub unknown: u64,
+    pub exhausted: u64,
+    /// Packets of another application than the one whose stream is sent on.
+    pub strangers: u64,
+    /// Datagrams that the system did not take, by why.
+    pub full: u64,
+    pub unreachable: u64,
+    pub oversize: u64,
+    pub rejected: u64,
+    pub failed: u64,
     /// The smoothed round-trip time, in milliseconds, where it was measured.
     pub time: Option<u64>,
 }
@@ -76,8 +99,21 @@ impl Counts {
         restarts: 0,
         moved: 0,
         sessions: 0,
+        before: ResendCounts {
+            early: 0,
+            expired: 0,
+        },
         stray: 0,
         lost: 0,
+        others: 0,
+        unknown: 0,
+        exhausted: 0,
+        strangers: 0,
+        full: 0,
+        unreachable: 0,
+        oversize: 0,
+        rejected: 0,
+        failed: 0,
         time: None,
     };
 
@@ -86,30 +122,66 @@ impl Counts {
         match note {
             Note::Sent(_) => add(&mut self.sent, 1),
             Note::Unsent => add(&mut self.unsent, 1),
-            Note::Told(Ok(Told::Feedback(shared))) => add(
-                &mut self.marked,
-                u64::from(shared.places),
-            ),
+            Note::Told(Ok(Told::Feedback(shared))) => self.mark(shared),
             Note::Told(Ok(_)) => {}
-            Note::Told(Err(_)) => add(&mut self.refused, 1),
+            Note::Told(Err(fault)) => self.refuse_feedback(fault),
             Note::Stray => add(&mut self.stray, 1),
             Note::Retransmitted(_) => add(&mut self.retransmitted, 1),
-            Note::PassedOver(passed) => {
-                self.early = passed.early;
-                self.expired = passed.expired;
-            }
-            Note::Crowded(packets) => add(&mut self.crowded, *packets),
+            Note::PassedOver(passed) => self.lapse(passed),
             Note::Marked(_) => {}
+            Note::Crowded(packets) => add(&mut self.crowded, *packets),
             Note::Heard(answer, kind) => self.hear(answer, *kind),
             Note::Moved(_, answer, kind) => {
                 add(&mut self.moved, 1);
                 self.hear(answer, *kind);
             }
             Note::Timed(time) => self.time = *time,
-            Note::Began(..) => add(&mut self.sessions, 1),
+            Note::Began(..) => self.begin(),
             Note::Played(_) => add(&mut self.played, 1),
             Note::Gap(_) => add(&mut self.gaps, 1),
             Note::Asked | Note::AskedAgain => add(&mut self.asked, 1),
+        }
+    }
+
+    fn mark(&mut self, shared: &Shared) {
+        add(&mut self.marked, u64::from(shared.places));
+        add(&mut self.others, u64::from(shared.others));
+        add(&mut self.unknown, u64::from(shared.unknown));
+        add(&mut self.exhausted, u64::from(shared.exhausted));
+    }
+
+    /// Feedback was refused: of this session, or for nothing that is.
+    fn refuse_feedback(&mut self, fault: &FeedbackFault) {
+        add(&mut self.refused, 1);
+        if is_for_others(fault) {
+            add(&mut self.others, 1);
+        }
+    }
+
+    /// So many retransmissions of the session did not fit the time so far.
+    fn lapse(&mut self, passed: &ResendCounts) {
+        let lapsed = lapsed_with(&self.before, passed);
+        self.early = lapsed.early;
+        self.expired = lapsed.expired;
+    }
+
+    /// Another session begins, and what did not fit the time in those before stays.
+    fn begin(&mut self) {
+        add(&mut self.sessions, 1);
+        self.before = ResendCounts {
+            early: self.early,
+            expired: self.expired,
+        };
+    }
+
+    /// What was asked for so far and not retransmitted.
+    pub fn unmet(&self) -> Unmet {
+        Unmet {
+            expired: self.expired,
+            unknown: self.unknown,
+            exhausted: self.exhausted,
+            crowded: self.crowded,
+            others: self.others,
         }
     }
 
@@ -149,6 +221,23 @@ impl Counts {
         add(&mut self.lost, 1);
     }
 
+    /// A packet of another application was turned away.
+    pub fn turn_away(&mut self) {
+        add(&mut self.strangers, 1);
+    }
+
+    /// The system did not take a datagram.
+    pub fn fail(&mut self, hindrance: Hindrance) {
+        let count = match hindrance {
+            Hindrance::Full => &mut self.full,
+            Hindrance::Unreachable => &mut self.unreachable,
+            Hindrance::Oversize => &mut self.oversize,
+            Hindrance::Rejected => &mut self.rejected,
+            Hindrance::Other => &mut self.failed,
+        };
+        add(count, 1);
+    }
+
     /// The line of a relay before the network, or of one behind it.
     pub fn push(&self, line: &mut Vec<u8>, is_sender: bool) -> Result<(), OutOfMemory> {
         if is_sender {
@@ -159,31 +248,51 @@ impl Counts {
     }
 
     fn push_sender(&self, line: &mut Vec<u8>) -> Result<(), OutOfMemory> {
-        push_line(
-            line,
-            &[
-                Word::Text(b"sent"),
-                Word::Decimal(self.sent),
-                Word::Text(b"unsent"),
-                Word::Decimal(self.unsent),
-                Word::Text(b"marked"),
-                Word::Decimal(self.marked),
-                Word::Text(b"retransmitted"),
-                Word::Decimal(self.retransmitted),
-                Word::Text(b"early"),
-                Word::Decimal(self.early),
-                Word::Text(b"expired"),
-                Word::Decimal(self.expired),
-                Word::Text(b"refused"),
-                Word::Decimal(self.refused),
-                Word::Text(b"stray"),
-                Word::Decimal(self.stray),
-                Word::Text(b"lost"),
-                Word::Decimal(self.lost),
-                Word::Text(b"crowded"),
-                Word::Decimal(self.crowded),
-            ],
-        )
+        push_line(line, &self.sender_words())
+    }
+
+    /// The words of a relay before the network.
+    fn sender_words<'x>(&self) -> [Word<'x>; 38] {
+        [
+            Word::Text(b"sent"),
+            Word::Decimal(self.sent),
+            Word::Text(b"unsent"),
+            Word::Decimal(self.unsent),
+            Word::Text(b"marked"),
+            Word::Decimal(self.marked),
+            Word::Text(b"retransmitted"),
+            Word::Decimal(self.retransmitted),
+            Word::Text(b"early"),
+            Word::Decimal(self.early),
+            Word::Text(b"expired"),
+            Word::Decimal(self.expired),
+            Word::Text(b"refused"),
+            Word::Decimal(self.refused),
+            Word::Text(b"stray"),
+            Word::Decimal(self.stray),
+            Word::Text(b"lost"),
+            Word::Decimal(self.lost),
+            Word::Text(b"others"),
+            Word::Decimal(self.others),
+            Word::Text(b"unknown"),
+            Word::Decimal(self.unknown),
+            Word::Text(b"exhausted"),
+            Word::Decimal(self.exhausted),
+            Word::Text(b"crowded"),
+            Word::Decimal(self.crowded),
+            Word::Text(b"strangers"),
+            Word::Decimal(self.strangers),
+            Word::Text(b"full"),
+            Word::Decimal(self.full),
+            Word::Text(b"unreachable"),
+            Word::Decimal(self.unreachable),
+            Word::Text(b"oversize"),
+            Word::Decimal(self.oversize),
+            Word::Text(b"rejected"),
+            Word::Decimal(self.rejected),
+            Word::Text(b"failed"),
+            Word::Decimal(self.failed),
+        ]
     }
 
     fn push_receiver(&self, line: &mut Vec<u8>) -> Result<(), OutOfMemory> {
@@ -198,7 +307,7 @@ impl Counts {
     }
 
     /// The words of a relay behind the network, with its restarts and the round-trip time as they are shown.
-    fn receiver_words<'x>(&self, restarts: u64, time: Word<'x>) -> [Word<'x>; 32] {
+    fn receiver_words<'x>(&self, restarts: u64, time: Word<'x>) -> [Word<'x>; 42] {
         [
             Word::Text(b"taken"),
             Word::Decimal(self.taken),
@@ -232,8 +341,38 @@ impl Counts {
             Word::Decimal(self.lost),
             Word::Text(b"rtt"),
             time,
+            Word::Text(b"full"),
+            Word::Decimal(self.full),
+            Word::Text(b"unreachable"),
+            Word::Decimal(self.unreachable),
+            Word::Text(b"oversize"),
+            Word::Decimal(self.oversize),
+            Word::Text(b"rejected"),
+            Word::Decimal(self.rejected),
+            Word::Text(b"failed"),
+            Word::Decimal(self.failed),
         ]
     }
+}
+
+/// What did not fit the time in the sessions before, and in the one there is.
+fn lapsed_with(before: &ResendCounts, passed: &ResendCounts) -> ResendCounts
+    ensures { result ≡ lapsed_with before.now passed.now }
+{
+    ResendCounts {
+        early: before.early.saturating_add(passed.early),
+        expired: before.expired.saturating_add(passed.expired),
+    }
+}
+
+/// Whether feedback was refused since all of it is for other media, or of other reporters.
+fn is_for_others(fault: &FeedbackFault) -> bool
+    ensures { result ≡ is_for_others fault.now }
+{
+    matches!(
+        fault,
+        FeedbackFault::WrongMedia | FeedbackFault::WrongReporter
+    )
 }
 
 /// Adds to a count, which stays at the greatest number.

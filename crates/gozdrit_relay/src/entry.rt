@@ -1,23 +1,25 @@
 //! A relay is made as the command line asks for, and runs.
 ghost use Rattle.std.specs.Prelude.{◌≤◌, ◌<◌};
 
+use crate::addresses::{bound, found, is_loop, leaving, toward};
 use crate::admission::peers;
 use crate::command_line::{Choice, Options};
 use crate::draws::Draws;
 use crate::fault::Fault;
-use crate::greeting::push_sockets;
+use crate::greeting::{push_kept, push_sockets};
 use crate::host::Host;
 use crate::journal::Journal;
 use crate::known::Known;
 use crate::learners::{ReceiveLearner, SendLearner};
 use crate::load::Store;
 use crate::machine::{Learner, Machine};
+use crate::sockets::keep;
 use endpoint::ResendRule;
 use mio::net::UdpSocket;
 use relays::{Bounds, Peers, Rate, ReceiveRelay, Relay, SendRelay, run};
 use std::fs;
 use std::io::{IsTerminal, Write};
-use std::net::{IpAddr, Ipv4Addr, Ipv6Addr, SocketAddr, ToSocketAddrs};
+use std::net::SocketAddr;
 use stores::{RingHistory, RingWindow};
 
 /// Runs the relay that was chosen, until one of its bounds.
@@ -120,22 +122,56 @@ fn opened<'a>(
     rt: &HostRuntime,
     options: &Options<'a>,
 ) -> Result<(SocketAddr, UdpSocket, UdpSocket), Fault<'a>> {
-    let to = prepared(rt, options)?;
-    let listening = bind(rt, find(rt, options.listen)?)?;
-    let leaving = bind(rt, source(rt, options, to)?)?;
+    are_of_a_session(options)?;
+    let from = match options.from {
+        Some(name) => found(rt, name)?,
+        None => Vec::new(rt.alloc()),
+    };
+    let Some(to) = toward(rt, &found(rt, options.to)?, &from) else {
+        return Err(nowhere(options));
+    };
+    let listening = bound(rt, &found(rt, options.listen)?, options.listen)?;
+    if let Ok(at) = listening.local_addr() {
+        if is_loop(at, to) {
+            return Err(Fault::Loop(options.listen, options.to));
+        }
+    }
+    let leaving = leaving(rt, &from, to, options.from.unwrap_or(options.to))?;
     greet(rt, &listening, to, &leaving);
+    make_room(rt, options.socket_buffer, &listening, &leaving);
     Ok((to, listening, leaving))
 }
 
-/// The address that a relay sends to, if its options are those of a session.
-fn prepared<'a>(rt: &HostRuntime, options: &Options<'a>) -> Result<SocketAddr, Fault<'a>> {
+/// Nothing that a relay sends to has the family of what it sends from, or nothing is found there.
+fn nowhere<'a>(options: &Options<'a>) -> Fault<'a> {
+    match options.from {
+        Some(from) => Fault::Families(from, options.to),
+        None => Fault::Find(options.to),
+    }
+}
+
+/// Whether the options are those of a session.
+fn are_of_a_session<'a>(options: &Options<'a>) -> Result<(), Fault<'a>> {
     let are_ssrcs_equal = options.ssrc.is_some() && options.ssrc == options.rtx_ssrc;
     let are_types_equal = options.media_type.is_some() && options.media_type == options.rtx_type;
     let is_control = matches!(options.media_type, Some(64..=95));
     if are_ssrcs_equal || are_types_equal || is_control {
         return Err(Fault::Session);
     }
-    find(rt, options.to)
+    Ok(())
+}
+
+/// Asks the system to keep so many octets for both sockets, each way, and tells where it keeps fewer.
+fn make_room(rt: &HostRuntime, wanted: i32, listening: &UdpSocket, leaving: &UdpSocket) {
+    let (Some(one), Some(other)) = (keep(listening, wanted), keep(leaving, wanted)) else {
+        return;
+    };
+    let kept = one.least(&other);
+    let wanted = u64::from(wanted.unsigned_abs());
+    let mut line = Vec::new(rt.alloc());
+    if kept.is_less_than(wanted) && push_kept(&mut line, wanted, &kept).is_ok() {
+        let _ = rt.stderr().write_all(&line);
+    }
 }
 
 /// Runs a relay over its sockets, and writes the last line of counts.
@@ -204,37 +240,6 @@ fn journal<'a>(
     match fs::create(rt, path) {
         Ok(file) => Ok(Some(Journal::new(file, Vec::new(rt.alloc()), shows_repair))),
         Err(_) => Err(Fault::Open(path)),
-    }
-}
-
-/// The first address of a host and a port.
-fn find<'a>(rt: &HostRuntime, name: &'a str) -> Result<SocketAddr, Fault<'a>> {
-    let Ok(mut found) = name.to_socket_addrs(rt) else {
-        return Err(Fault::Find(name));
-    };
-    match found.next() {
-        Some(address) => Ok(address),
-        None => Err(Fault::Find(name)),
-    }
-}
-
-/// Where datagrams leave for an address.
-fn source<'a>(
-    rt: &HostRuntime,
-    options: &Options<'a>,
-    to: SocketAddr,
-) -> Result<SocketAddr, Fault<'a>> {
-    match options.from {
-        Some(name) => find(rt, name),
-        None if to.is_ipv6() => Ok(SocketAddr::new(IpAddr::V6(Ipv6Addr::UNSPECIFIED), 0)),
-        None => Ok(SocketAddr::new(IpAddr::V4(Ipv4Addr::UNSPECIFIED), 0)),
-    }
-}
-
-fn bind<'a>(rt: &HostRuntime, at: SocketAddr) -> Result<UdpSocket, Fault<'a>> {
-    match UdpSocket::bind(rt, at) {
-        Ok(socket) => Ok(socket),
-        Err(e) => Err(Fault::Bind(at, e.kind())),
     }
 }
 

@@ -1,4 +1,5 @@
 //! What the program says where it could not do its work, and its exit status.
+use crate::units::Form;
 use std::io::{ErrorKind, Write};
 use std::net::SocketAddr;
 
@@ -7,10 +8,16 @@ use std::net::SocketAddr;
 pub enum Fault<'a> {
     /// `clap` refuses the line, or has the help or the version that it asks for: its text is for the user.
     Line(clap::Error),
-    /// The value of this option is no number between its bounds, or no SSRC.
-    Value(&'a str),
+    /// The value of this option is not of its form.
+    Value(&'a str, &'a str, Form),
+    /// This option is wanted.
+    Missing(&'a str),
     /// The types and SSRCs of the options are none of a session.
     Session,
+    /// Where a relay sends from and what it sends to have no addresses of one family.
+    Families(&'a str, &'a str),
+    /// What leaves comes back.
+    Loop(&'a str, &'a str),
     /// This is no peer.
     Peer(&'a str),
     /// This address can't be found.
@@ -33,7 +40,18 @@ pub fn tell<W: Write>(fault: &Fault<'_>, error: &mut W) -> u8 {
     let _ = match fault {
         // It ends in a line feed of its own.
         Fault::Line(text) => write!(error, "{text}"),
-        Fault::Value(option) => writeln!(error, "fault value: --{option}"),
+        Fault::Value(option, value, form) => {
+            writeln!(error, "fault value: --{option} {value}: {form}")
+        }
+        Fault::Missing(option) => writeln!(error, "fault value: --{option} is wanted"),
+        Fault::Families(from, to) => writeln!(
+            error,
+            "fault value: --from {from} has no address of the family of --to {to}"
+        ),
+        Fault::Loop(listening, to) => writeln!(
+            error,
+            "fault value: --listen {listening} is where --to {to} sends"
+        ),
         Fault::Session => writeln!(
             error,
             "fault value: the types, or the SSRCs, are those of no session"
@@ -50,7 +68,13 @@ pub fn tell<W: Write>(fault: &Fault<'_>, error: &mut W) -> u8 {
         Fault::Memory => writeln!(error, "out of memory"),
     };
     match fault {
-        Fault::Line(_) | Fault::Value(_) | Fault::Session | Fault::Peer(_) => 2,
+        Fault::Line(_)
+        | Fault::Value(..)
+        | Fault::Missing(_)
+        | Fault::Session
+        | Fault::Families(..)
+        | Fault::Loop(..)
+        | Fault::Peer(_) => 2,
         Fault::Memory => 4,
         _ => 3,
     }

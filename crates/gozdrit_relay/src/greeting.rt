@@ -1,7 +1,9 @@
 //! What a relay tells at the start, and where it learnt a session.
 use crate::journal::shown;
+use crate::sockets::Kept;
 use lines::{Word, push_line};
 use rtpwire::{MAX_PAYLOAD, Session};
+use std::io;
 use std::net::SocketAddr;
 use stores::OutOfMemory;
 
@@ -106,6 +108,35 @@ pub fn push_moved(
             Word::Text(b"moved"),
             Word::Text(b"to"),
             Word::Text(far.as_bytes()),
+        ],
+    )
+}
+
+/// The line of datagrams that the system did not take, with the address of the last one and what the system says of it.
+pub fn push_failed(
+    rt: &HostRuntime,
+    line: &mut Vec<u8>,
+    count: u64,
+    to: SocketAddr,
+    error: &io::Error,
+) -> Result<(), OutOfMemory> {
+    let told = format!(in rt.alloc(); "could not send {count}, the last one to {to}: {error}\n")?;
+    line.extend_from_slice(told.as_bytes())?;
+    Ok(())
+}
+
+/// The line of sockets for which the system keeps fewer octets than were asked for.
+pub fn push_kept(line: &mut Vec<u8>, wanted: u64, kept: &Kept) -> Result<(), OutOfMemory> {
+    push_line(
+        line,
+        &[
+            Word::Text(b"the system keeps"),
+            Word::Decimal(kept.come),
+            Word::Text(b"octets of what comes and"),
+            Word::Decimal(kept.leave),
+            Word::Text(b"of what leaves, where"),
+            Word::Decimal(wanted),
+            Word::Text(b"are wanted: raise net.core.rmem_max and net.core.wmem_max"),
         ],
     )
 }

@@ -9,6 +9,7 @@ network that loses, and one behind it";
 pub const PROGRAM: &str = "\
   gozdrit-relay send    --listen 127.0.0.1:5004 --to far.example:6004
   gozdrit-relay receive --listen 0.0.0.0:6004   --to 127.0.0.1:5006 --latency 200
+A number may have its unit behind it: 200ms or 2s, 90s, 5m or 2h, 500k or 2M bits a second, 10%, 64KiB or 4MiB.
 Exit status: 0 a bound was reached, 2 the command line is refused, 3 an address, a file or a socket fails,
 4 memory was refused.";
 

@@ -1,11 +1,16 @@
 //! The sockets of the machine, its clock, and what is told of a run.
 use crate::counts::Counts;
 use crate::draws::Draws;
-use crate::greeting::{push_full, push_moved, push_session, push_strays, push_too_long};
+use crate::greeting::{
+    push_failed, push_full, push_moved, push_session, push_strays, push_too_long,
+};
+use crate::hindrance::hindered_by;
 use crate::journal::Journal;
 use crate::load::{Load, Store};
 use crate::seldom::Seldom;
 use crate::too_long::is_too_long;
+use crate::turns::Turns;
+use crate::unmet::UnmetTold;
 use mio::net::UdpSocket;
 use mio::{Events, Interest, Poll, Token};
 use relays::{Meeting, Note, Octets, Outside, OutsideFault, Side, Turn};
@@ -19,8 +24,10 @@ use std::time::{Duration, Instant};
 /// One octet more than a datagram has at most.
 const ROOM: usize = MAX_DATAGRAM + 1;
 
-/// So many datagrams of one socket are taken in a row before the other one is looked at first.
-const ROW: u8 = 16;
+/// What tells events of the near socket from those of the far one.
+const NEAR: Token = Token(0);
+
+const FAR: Token = Token(1);
 
 /// Both sockets, the clock, and who is told.
 #[derive(Drop)]
@@ -31,16 +38,17 @@ pub struct Host<'a> {
     near: UdpSocket,
     far: UdpSocket,
     start: Instant,
-    /// How many datagrams were taken in a row from the socket that is looked at first.
-    row: u8,
-    /// Whether the near socket is looked at first.
-    is_near_first: bool,
+    turns: Turns,
+    /// Room for what comes. It is blanked once.
+    octets: [u8; ROOM],
     draws: Draws,
     /// How many datagrams left for the network.
     left: u64,
     /// Whether the last one was dropped for a trial.
     is_lost: bool,
     pub counts: Counts,
+    /// Where the relay shows how many retransmissions did not fit the time.
+    unmet: UnmetTold,
     pub journal: Option<Journal>,
     /// From where the last datagram came, and what of such came from elsewhere.
     from: Option<SocketAddr>,
@@ -49,6 +57,10 @@ pub struct Host<'a> {
     application: Option<SocketAddr>,
     /// Packets whose payload is too long.
     too_long: Seldom,
+    /// Datagrams that the system did not take.
+    failed: Seldom,
+    /// The moment of the last wait's end.
+    moment: u64,
     /// A line of counts each so many milliseconds, and the moment of the next one.
     stats: Option<(u64, u64)>,
     is_sender: bool,
@@ -73,9 +85,8 @@ impl<'a> Host<'a> {
         let start = Instant::now(rt)?;
         let poll = Poll::new(rt)?;
         poll.registry()
-            .register(&mut near, Token(0), Interest::READABLE)?;
-        poll.registry()
-            .register(&mut far, Token(1), Interest::READABLE)?;
+            .register(&mut near, NEAR, Interest::READABLE)?;
+        poll.registry().register(&mut far, FAR, Interest::READABLE)?;
         Ok(Host {
             rt,
             poll,
@@ -83,17 +94,20 @@ impl<'a> Host<'a> {
             near,
             far,
             start,
-            row: 0,
-            is_near_first: true,
+            turns: Turns::BOTH,
+            octets: [0; ROOM],
             draws,
             left: 0,
             is_lost: false,
             counts: Counts::NONE,
+            unmet: UnmetTold::NOTHING,
             journal,
             from: None,
             strays: Seldom::NONE,
             application: None,
             too_long: Seldom::NONE,
+            failed: Seldom::NONE,
+            moment: 0,
             stats: match stats {
                 Some(seconds) => {
                     let apart = seconds.saturating_mul(1000);
@@ -122,50 +136,70 @@ impl<'a> Host<'a> {
 
     /// Takes a datagram that has come, if there is one.
     fn take(&mut self, room: &mut Octets) -> Result<Option<(Side, SocketAddr)>, OutsideFault> {
-        let (first, second) = if self.is_near_first {
-            (Side::Near, Side::Far)
-        } else {
-            (Side::Far, Side::Near)
-        };
-        if let Some(from) = self.receive(first, room)? {
-            self.row = self.row.saturating_add(1);
-            if self.row >= ROW {
-                self.row = 0;
-                self.is_near_first = !self.is_near_first;
+        for _socket in 0..2 {
+            let Some(side) = self.turns.next() else {
+                return Ok(None);
+            };
+            if let Some(from) = self.receive(side, room)? {
+                self.turns.take(side);
+                return Ok(Some((side, from)));
             }
-            return Ok(Some((first, from)));
         }
-        self.row = 0;
-        self.is_near_first = !self.is_near_first;
-        match self.receive(second, room)? {
-            Some(from) => Ok(Some((second, from))),
-            None => Ok(None),
-        }
+        Ok(None)
     }
 
     /// Takes a datagram that has come to a socket, if there is one.
-    fn receive(&self, side: Side, room: &mut Octets) -> Result<Option<SocketAddr>, OutsideFault> {
-        let mut octets = [0; ROOM];
+    fn receive(
+        &mut self,
+        side: Side,
+        room: &mut Octets,
+    ) -> Result<Option<SocketAddr>, OutsideFault> {
         let came = match side {
-            Side::Near => self.near.recv_from(&mut octets),
-            Side::Far => self.far.recv_from(&mut octets),
+            Side::Near => self.near.recv_from(&mut self.octets),
+            Side::Far => self.far.recv_from(&mut self.octets),
         };
         match came {
             Ok((len, from)) => {
                 room.clear();
-                if room.try_extend_from_slice(&octets[..len]).is_err() {
+                if room.try_extend_from_slice(&self.octets[..len]).is_err() {
                     return Err(OutsideFault);
                 }
                 Ok(Some(from))
             }
-            Err(e) => {
-                if is_passing(e.kind()) {
-                    Ok(None)
-                } else {
-                    Err(OutsideFault)
-                }
-            }
+            Err(e) => self.lack(side, e.kind()),
         }
+    }
+
+    /// Nothing was taken from a socket. Behind an error that passes there may be more.
+    fn lack(&mut self, side: Side, kind: ErrorKind) -> Result<Option<SocketAddr>, OutsideFault> {
+        if kind == ErrorKind::WouldBlock {
+            self.turns.drain(side);
+        } else if !is_passing(kind) {
+            return Err(OutsideFault);
+        }
+        Ok(None)
+    }
+
+    /// Sleeps until something comes to a socket, no longer than until a moment, and keeps which one it was.
+    fn sleep(&mut self, until: Option<u64>) -> Result<(), OutsideFault> {
+        let timeout = match self.next_of(until) {
+            Some(next) => Some(Duration::from_millis(next.saturating_sub(self.now()?))),
+            None => None,
+        };
+        match self.poll.poll(&mut self.events, timeout) {
+            Ok(()) => {}
+            Err(e) if e.kind() == ErrorKind::Interrupted => {}
+            Err(_) => return Err(OutsideFault),
+        }
+        for event in self.events.iter() {
+            let side = if event.token() == NEAR {
+                Side::Near
+            } else {
+                Side::Far
+            };
+            self.turns.wake(side);
+        }
+        Ok(())
     }
 
     /// Writes the line of counts where its moment has come.
@@ -182,6 +216,20 @@ impl<'a> Host<'a> {
     pub fn write_counts(&mut self) {
         self.line.clear();
         if self.counts.push(&mut self.line, self.is_sender).is_ok() {
+            let _ = self.rt.stderr().write_all(&self.line);
+        }
+    }
+
+    /// Writes the line of what was not retransmitted, at most each ten seconds.
+    fn tell_unmet(&mut self, now: u64) {
+        if !self.is_sender {
+            return;
+        }
+        let Some(unmet) = self.unmet.look(&self.counts.unmet(), now) else {
+            return;
+        };
+        self.line.clear();
+        if unmet.push(&mut self.line).is_ok() {
             let _ = self.rt.stderr().write_all(&self.line);
         }
     }
@@ -251,11 +299,22 @@ impl<'a> Host<'a> {
                 self.application = Some(from);
                 false
             }
-            Note::Unsent => match self.application {
-                Some(application) => from != application,
-                None => false,
-            },
+            Note::Unsent => {
+                let is_stranger = self.is_stranger(from);
+                if is_stranger {
+                    self.counts.turn_away();
+                }
+                is_stranger
+            }
             _ => false,
+        }
+    }
+
+    /// Whether an address is another one than that of the application whose stream is sent on.
+    fn is_stranger(&self, from: SocketAddr) -> bool {
+        match self.application {
+            Some(application) => from != application,
+            None => false,
         }
     }
 
@@ -273,6 +332,18 @@ impl<'a> Host<'a> {
         }
     }
 
+    /// Counts a datagram that the system did not take, and writes the line of such, at most each ten seconds.
+    fn fail(&mut self, error: &io::Error, to: SocketAddr) {
+        self.counts.fail(hindered_by(error.raw_os_error()));
+        let Some(count) = self.failed.come(self.moment) else {
+            return;
+        };
+        self.line.clear();
+        if push_failed(self.rt, &mut self.line, count, to, error).is_ok() {
+            let _ = self.rt.stderr().write_all(&self.line);
+        }
+    }
+
     /// Writes the line of a store that is too short, once in each session.
     fn tell_shortage(&mut self, note: &Note, now: u64) {
         let Some(shortage) = self.load.follow(now, note) else {
@@ -284,15 +355,14 @@ impl<'a> Host<'a> {
         }
     }
 
-    /// How long to wait for a moment, and no longer than until the next line of counts.
-    fn timeout(&self, until: Option<u64>, now: u64) -> Option<Duration> {
-        let next = match (until, self.stats) {
-            (Some(until), Some((_, next))) => until.min(next),
-            (Some(until), None) => until,
-            (None, Some((_, next))) => next,
-            (None, None) => return None,
-        };
-        Some(Duration::from_millis(next.saturating_sub(now)))
+    /// The moment until which is slept: no later than that of the next line of counts.
+    fn next_of(&self, until: Option<u64>) -> Option<u64> {
+        match (until, self.stats) {
+            (Some(until), Some((_, next))) => Some(until.min(next)),
+            (Some(until), None) => Some(until),
+            (None, Some((_, next))) => Some(next),
+            (None, None) => None,
+        }
     }
 }
 
@@ -315,37 +385,34 @@ impl Outside for Host<'_> {
 
     fn wait(&mut self, until: Option<u64>, room: &mut Octets) -> Result<Meeting, OutsideFault> {
         let mut came = self.take(room)?;
-        let mut now = self.now()?;
-        if came.is_none() {
-            let timeout = self.timeout(until, now);
-            if let Err(e) = self.poll.poll(&mut self.events, timeout) {
-                if e.kind() != ErrorKind::Interrupted {
-                    return Err(OutsideFault);
-                }
-            }
+        if came.is_none() && self.turns.next().is_none() {
+            self.sleep(until)?;
             came = self.take(room)?;
-            now = self.now()?;
         }
+        let now = self.now()?;
+        self.moment = now;
         self.tell_counts(now);
+        self.tell_unmet(now);
         self.from = came.map(|came| came.1);
         Ok(Meeting { now, came })
     }
 
     fn send(&mut self, side: Side, to: SocketAddr, octets: &[u8]) {
-        // What can't be sent is lost, as in a network.
-        match side {
-            Side::Near => {
-                let _ = self.near.send_to(octets, to);
-            }
+        // What can't be sent is lost, as in a network, and told.
+        let sent = match side {
+            Side::Near => self.near.send_to(octets, to),
             Side::Far => {
                 self.left = self.left.saturating_add(1);
                 self.is_lost = self.draws.drops();
                 if self.is_lost {
                     self.counts.lose();
-                } else {
-                    let _ = self.far.send_to(octets, to);
+                    return;
                 }
+                self.far.send_to(octets, to)
             }
+        };
+        if let Err(error) = sent {
+            self.fail(&error, to);
         }
     }
 

@@ -3,7 +3,7 @@ ghost use Rattle.std.specs.Prelude.{◌≡◌, ℕ, List, Option, length, IfOk, 
 ghost use Rattle.rtpwire.specs.declared.limits.TheConstants.{MAX_DATAGRAM};
 ghost use Rattle.relays.specs.Passing.{IsWithin};
 ghost use Rattle.relays.specs.Running.{RestsUntil};
-ghost use Rattle.gozdrit_relay.specs.Machine.{FallsTo, Learns, goes_on, is_quiet, is_taken, is_turned_away, new_machine, unlearnt};
+ghost use Rattle.gozdrit_relay.specs.Machine.{Begins, FallsTo, Learns, goes_on, is_quiet, is_taken, is_turned_away, new_machine, unlearnt};
 
 use endpoint::Heard;
 use relays::{Claims, Note, Peers, Relay, Side, Stranger, Turn};
@@ -137,7 +137,16 @@ impl<R: Relay + Drop, L: Learner<R>> Machine<L, R> {
         if !self.falls_to(&beginning, from, now) {
             return;
         }
-        match self.learner.make(&beginning, from, &self.relay) {
+        self.replace(&beginning, from, now);
+    }
+
+    /// Has the relay of a session that begins take the place of the one before. It stands by itself since most datagrams begin none, and the
+    /// room for a relay would be made ready for each of them.
+    #[inline(never)]
+    fn replace(&mut self, beginning: &Beginning, from: SocketAddr, now: u64)
+        ensures { Begins L.Learner.makes self.old beginning.now from now self.new }
+    {
+        match self.learner.make(beginning, from, &self.relay) {
             Ok(learnt) => {
                 self.note = Some(learnt.note);
                 self.relay = Some(learnt.relay);

@@ -1,6 +1,7 @@
 //! The program `gozdrit-relay`: it stands between an application and a network that loses, and repairs an RTP stream.
 #![tactic(auto)]
 
+mod addresses;
 mod admission;
 mod command_line;
 mod counts;
@@ -9,6 +10,7 @@ mod entry;
 mod fault;
 mod greeting;
 mod help;
+mod hindrance;
 mod host;
 mod journal;
 mod known;
@@ -18,7 +20,11 @@ mod load;
 mod machine;
 mod options;
 mod seldom;
+mod sockets;
 mod too_long;
+mod turns;
+mod units;
+mod unmet;
 
 use command_line::choose;
 use entry::relay;

@@ -186,7 +186,13 @@ fn of_run<'a>(alloc: Global, command: Command<'a>) -> Result<Command<'a>, AllocE
             "PERMILLE",
             "For trials: drops so many of 1000 datagrams that leave for the network",
         ))?
-        .arg(option(alloc, "seed", "N", "The seed of these draws; 0 by default"))
+        .arg(option(alloc, "seed", "N", "The seed of these draws; 0 by default"))?
+        .arg(option(
+            alloc,
+            "socket-buffer",
+            "OCTETS",
+            "How many octets the system is asked to keep for a socket, each way; 4MiB by default",
+        ))
 }
 
 /// An option with a value, which has to be there.
