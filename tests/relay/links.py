@@ -13,6 +13,7 @@ import random
 import shutil
 import struct
 import subprocess
+import sys
 import tempfile
 import threading
 import time
@@ -218,6 +219,8 @@ def thin(checks, stage):
 
 def built(room):
     """The program in C, or None without the library."""
+    if subprocess.run([ROOT / "tools/need", "rt", "cc"]).returncode:
+        sys.exit(2)
     kit = File(subprocess.run(["rt", "doc"], stdout=subprocess.PIPE, text=True, check=True).stdout.strip()).parent
     if not LIBRARY.is_file():
         return None

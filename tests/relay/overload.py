@@ -81,6 +81,7 @@ def sessions(checks, stage):
     checks.same((counts.get("expired"), counts.get("early")), (4, 2), f"{name}: expired and early")
 
 
+@on_time(0.1)  # the relay ends behind nine seconds
 def reasons(checks, stage):
     """Numbers that the history has no packet of, NACKs for other media, and a packet that was retransmitted as often as may be."""
     far, name = End(stage), "reasons"
