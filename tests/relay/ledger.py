@@ -3,7 +3,7 @@ from base import COUNTS
 from rtp import packet, parse
 
 FORMS = {
-    "send": {"sent": 4, "repair": 4, "lost": 2, "marked": 2, "tail": 2, "refused": 2, "unsent": 1, "passed": 1, "stray": 1, "session": 6},
+    "send": {"sent": 4, "repair": 4, "lost": 2, "marked": 2, "tail": 2, "refused": 2, "unsent": 1, "passed": 1, "crowded": 2, "stray": 1, "session": 6},
     "receive": {"taken": 3, "held": 1, "restarted": 2, "overrun": 2, "abandoned": 2, "skipped": 2, "refused": 2, "padding": 2, "unasked": 2, "play": 7, "gap": 2, "ask": 3, "lost": 2, "rtt": 2, "stray": 1,
                 "moved": 1, "session": 6},
 }
