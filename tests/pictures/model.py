@@ -155,10 +155,10 @@ def relay_rows():
     checks.same("the rest", run.counts, {"held": 2, "moved": 1, "restarted": 1, "abandoned": 2, "skipped": 7, "stray": 1, "refused": 1})
     log = f"1 taken 65536 0\n2 taken 105536 0\n3 ask 0 {nack}00010000\n"
     checks.same("an ask far below the highest place", relay.read(log.encode()).marks["asked"], [(3, 65537)])
-    log = "1 sent 65537 0 00\n2 marked 3\n3 repair 65537 1 00\n3 lost 1\n4 tail 0\n5 tail 1\n6 unsent\n7 marked 2\n8 passed\n"
+    log = "1 sent 65537 0 00\n2 marked 3\n3 repair 65537 1 00\n3 lost 1\n4 tail 0\n5 tail 1\n6 unsent\n7 marked 2\n8 passed\n9 crowded 3\n"
     run = relay.read(log.encode())
     checks.same("a sender's marks", (run.marks["lost"], run.repairs), ([(3, 65537)], [(3, 2)]))
-    checks.same("a sender's counts", run.counts, {"marked": 5, "tail": 1, "unsent": 1, "passed": 1})
+    checks.same("a sender's counts", run.counts, {"marked": 5, "tail": 1, "unsent": 1, "passed": 1, "crowded": 3})
     checks.same("a sender has no window", run.held, [])
     checks.same("what a repair is", ("sent" in run.repaired_by, "noticed" in relay.read(b"1 gap 5\n").repaired_by), (True, True))
 

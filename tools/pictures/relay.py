@@ -14,6 +14,7 @@ LINES = {
     "refused": (COUNT,),
     "unsent": (),
     "passed": (),
+    "crowded": (COUNT,),
     "stray": (),
     "session": (text(SSRC), number(0, 127), or_none(text(SSRC)), number(0, 127), or_none(number(0, 65535))),
     "taken": (PLACE, COUNT),
@@ -28,7 +29,7 @@ LINES = {
     "ask": (INDEX, octets),
     "rtt": (COUNT,),
 }
-SENDS = ("sent", "repair", "marked", "tail", "unsent", "passed")
+SENDS = ("sent", "repair", "marked", "tail", "unsent", "passed", "crowded")
 RECEIVES = ("taken", "held", "moved", "restarted", "overrun", "abandoned", "skipped", "play", "gap", "ask", "rtt")
 
 
@@ -82,7 +83,7 @@ def tell(run, where, moment, word, line):
     elif word == "rtt":
         run.trips.append((moment, line[0]))
     elif word != "overrun":  # the line of what was taken tells these
-        run.tally(word, line[0] if word in ("marked", "tail", "abandoned", "skipped") else 1)
+        run.tally(word, line[0] if word in ("marked", "tail", "abandoned", "skipped", "crowded") else 1)
 
 
 def end_of_sender(run):
