@@ -58,7 +58,7 @@ def named_again(checks, stage):
 @on_time(0.05)
 def below_the_loss(checks, stage):
     """Of two megabits a second 15 in a hundred are lost both ways, 300 kilobits, and 200 may be retransmitted: of 15 some 6.6 stay lost where each one that
-    leaves is in time. Where the oldest went first none was."""
+    leaves is in time, and of so few packets one in a hundred more or less by chance. Where the oldest went first none was, and 14 to 16 stayed lost."""
     draw = random.Random()
     rate, seconds, latency = 250, 12, draw.choice((500, 700, 1000))
     name = f"--rate 200 of 300, latency {latency}"
@@ -66,7 +66,7 @@ def below_the_loss(checks, stage):
     running.join()
     time.sleep(latency / 1000 + 0.5)
     lost = missed(player, FIRST * rate, seconds * rate)
-    checks.count(lost < 9, f"{name}: {lost:.2f} in a hundred did not come")
+    checks.count(lost < 10, f"{name}: {lost:.2f} in a hundred did not come")
 
 
 if __name__ == "__main__":
