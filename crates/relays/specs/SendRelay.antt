@@ -110,11 +110,11 @@ Forwards old from octets now Unsent None out new =
     ((packet : RtpPacket) (content : Content) → Carries old.core.config.session old.stream from octets now packet content → 2 ^ 48 ≤ old.core.next) × (new ≡ old)
 Forwards old from octets now note leaves out new = ⊥
 
--- The path is measured by a datagram of the far side, what retransmissions may have falls with the media's rate, and the endpoint hears it. What is
--- marked is counted anew where nothing was.
+-- How much is marked once feedback was heard: counted anew where nothing was before, and seen beside what may leave soon.
 abbrev pub backlog_after : (first : Option ℕ) → Result Answer FeedbackFault → (now : ℕ) → SendSide → Backlog
 backlog_after first answer now s = seen_at (marked_by answer (kept_beside first s.backlog)) (room_of (fallen s.pace now)) now
 
+-- The path is measured by a datagram of the far side, what retransmissions may have falls with the media's rate, and the endpoint hears it.
 pub record HearsFeedback (old : SendSide) (octets : List ℕ) (now : ℕ) (answer : Result Answer FeedbackFault) (new : SendSide) : Type 0 where
   pub first : Option ℕ
   pub is_next : IsNextAny (state_of old.core) first

@@ -14,7 +14,7 @@ use timing::Playout;
 const AHEAD: u8 = 64;
 
 /// The RTP timestamp of a packet with these octets.
-pub(crate) fn timestamp_of(octets: &[u8]) -> u32
+fn timestamp_of(octets: &[u8]) -> u32
     ensures { result ≡ timestamp_of octets.now }
 {
     if octets.len() < 8 {
@@ -24,14 +24,14 @@ pub(crate) fn timestamp_of(octets: &[u8]) -> u32
     }
 }
 
-/// The clock hears what came as it was sent: media. It begins anew where the stream restarts.
+/// The clock hears when what came as it was sent, media, came. It begins anew where the stream restarts.
 pub(crate) fn hear_clock(
     hold: &mut Option<Playout>,
     answer: &Result<Heard, ReceiveFault>,
-    timestamp: u32,
+    octets: &[u8],
     now: u64,
 )
-    ensures { hold.new ≡ clock_after answer.now timestamp now hold.old }
+    ensures { hold.new ≡ clock_after answer.now (timestamp_of octets.now) now hold.old }
 {
     let Some(clock) = *hold else {
         return;
@@ -42,7 +42,7 @@ pub(crate) fn hear_clock(
         Ok(Heard::Restarted(_)) => clock = Playout::new(clock.rate()),
         _ => return,
     }
-    clock.hear(timestamp, now);
+    clock.hear(timestamp_of(octets), now);
     *hold = Some(clock);
 }
 

@@ -23,7 +23,6 @@ mod sending;
 mod stream;
 mod writing;
 
-pub use backlog::Backlog;
 pub use bounds::Bounds;
 pub use claim_tables::{Claim, ClaimTables, Claimant};
 pub use claims::{Claims, Step, Stranger};

@@ -19,7 +19,7 @@ use crate::bounds::Bounds;
 use crate::dropout::{dropout, probation};
 use crate::far_side::FarSide;
 use crate::feedback::{earn, renew};
-use crate::holding::{asking_time, hear_clock, release, timestamp_of, wait};
+use crate::holding::{asking_time, hear_clock, release, wait};
 use crate::moving::{media_number, next_of};
 use crate::numbering::Numbering;
 use crate::outside::Side;
@@ -270,7 +270,7 @@ impl<W: Window> ReceiveRelay<W> {
         earn(&mut self.budget, octets);
         let (answer, kind) = self.endpoint.on_datagram(octets, now);
         renumber(&mut self.numbering, &answer);
-        hear_clock(&mut self.hold, &answer, timestamp_of(octets), now);
+        hear_clock(&mut self.hold, &answer, octets, now);
         self.meter.hear(&answer, &standing, now);
         (answer, kind)
     }

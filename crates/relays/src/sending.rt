@@ -215,13 +215,13 @@ impl<H: History> SendRelay<H> {
         ensures within { IfSome result IsWithin }
         ensures room { length out.new ≡ MAX_DATAGRAM }
     {
-        if !self.pace.is_open(now) {
-            return None;
-        }
         let Some(_) = self.endpoint.endpoint().next_marked() else {
             self.is_pending = false;
             return None;
         };
+        if !self.pace.is_open(now) {
+            return None;
+        }
         let (rule, before) = (self.rule(now), self.endpoint.passed());
         match self.endpoint.retransmit_by(rule, out, now) {
             Ok(Some((place, len))) => {
