@@ -1,9 +1,9 @@
 //! What a relay before a network passes over, where more is asked for than may leave soon.
-use crate::packets::Packet::These;
+use crate::packets::Packet::{self, These};
 use crate::script::Script;
-use crate::sending::{ALL, FAR, eighty, relay};
+use crate::sending::{ALL, APPLICATION, FAR, eighty, relay};
 use endpoint::ResendRule;
-use relays::Side::Far;
+use relays::Side::{Far, Near};
 use relays::{Pace, Rate, run};
 use std::alloc::Global;
 use std::test::Fail;
@@ -105,6 +105,30 @@ fn what_comes_within_a_second_stands(rt: HostRuntime) -> Result<(), Fail> {
     let mut script = twice(rt.alloc(), 1021)?;
     let anew = leaves(&mut script, rt.alloc(), by(Rate::Kilobits(480)), ANEW, 144)?;
     assert!(rt; stands && anew);
+    Ok(())
+}
+
+/// Two are asked for at 20, more than may leave soon at 48 kilobits a second, and the last one leaves at 422, as the stream fell silent. At 1090 one is asked
+/// for alone, more than a second later: what stood is forgotten. So from 1195 on, where two are marked again, since the stream fell silent once more, both
+/// leave.
+#[test]
+fn what_stood_is_forgotten(rt: HostRuntime) -> Result<(), Fail> {
+    const TWO: &[u8] = b"\x81\xcd\x00\x03\x33\x33\x33\x33\x11\x11\x11\x11\x00\x0f\x00\x01";
+    const WANTED: &[(usize, u64, u16)] = &[
+        (80, 20, 15),
+        (81, 221, 16),
+        (82, 422, 78),
+        (83, 1090, 40),
+        (85, 1291, 41),
+        (86, 1492, 79),
+    ];
+    let mut script = eighty(rt.alloc(), &[])?;
+    script.comes(&(20, Far, FAR, These(TWO)))?;
+    script.comes(&(1090, Far, FAR, Packet::Nack(40)))?;
+    script.comes(&(1095, Near, APPLICATION, Packet::Long(80)))?;
+    script.comes(&(1100, Far, FAR, Packet::Nack(41)))?;
+    let is_right = leaves(&mut script, rt.alloc(), by(Rate::Kilobits(48)), WANTED, 87)?;
+    assert!(rt; is_right);
     Ok(())
 }
 

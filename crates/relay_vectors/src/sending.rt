@@ -10,7 +10,7 @@ use std::alloc::Global;
 use std::test::Fail;
 use stores::RingHistory;
 
-const APPLICATION: u16 = 4000;
+pub(crate) const APPLICATION: u16 = 4000;
 
 pub(crate) const FAR: u16 = 6004;
 
