@@ -8,6 +8,7 @@ the network between them, shows traces, packs feedback";
 /// Of the program as a whole.
 pub const TOOL: &str = "\
 Each command's --help tells its lines, with an example, and the numbers of refusals that it can print.
+Payloads have up to 1200 octets, or up to as many as the program was built for: make rtxtool builds it for 1460.
 Exit status: 0 done, 1 an input is refused, 2 the command line is refused, 3 a file or a socket fails,
 4 memory was refused.";
 
@@ -36,8 +37,9 @@ The log's `refused N` is an answer like any other:
   33 a retransmission before the start, 34 too far, 35 late, 36 a duplicate, 37 too long,
   38 a retransmission that was not asked for while its SSRC is to be learnt, 39 past the last place
   44 padding without a payload, 45 no place is left
-Exit status: 0 done, 1 a line is refused (refused 61 line L: it is no config line, or no event), 2 the command
-line is refused, 3 the script can't be read or the log can't be written, 4 memory was refused.";
+Exit status: 0 done, 1 a line is refused (refused 61 line L: it is no config line, or no event, or what it has is
+longer than the program was built for: see rtxtool --help), 2 the command line is refused, 3 the script can't be
+read or the log can't be written, 4 memory was refused.";
 
 /// Of `show`.
 pub const SHOW: &str = "\
