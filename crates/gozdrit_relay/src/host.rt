@@ -47,7 +47,7 @@ pub struct Host<'a> {
     /// Whether the last one was dropped for a trial.
     is_lost: bool,
     pub counts: Counts,
-    /// Where the relay shows how many retransmissions did not fit the time.
+    /// What was told of retransmissions that were asked for in vain.
     unmet: UnmetTold,
     pub journal: Option<Journal>,
     /// From where the last datagram came, and what of such came from elsewhere.
