@@ -44,7 +44,8 @@ impl<W: Window> ReceiveRelay<W> {
         })
     }
 
-    /// Asks the far side for what is due.
+    /// Asks the far side for what is due. By itself, as is what keeps it: an ask for nothing, which most are, blanks no room and moves no turn.
+    #[inline(never)]
     pub(super) fn ask(&mut self, now: u64, out: &mut [u8]) -> Option<Turn>
         requires { length out.old ≡ MAX_DATAGRAM }
         ensures some { IfSome result (λ turn. Asks self.old now turn.note turn.leaves out.new self.new) }
@@ -60,11 +61,10 @@ impl<W: Window> ReceiveRelay<W> {
         let len = self.ask_within(room, now, out)?;
         self.meter
             .ask(self.endpoint.endpoint().core(), &out[..len], now);
-        self.copy = if spend(&mut self.budget, len) {
-            Some(copy_of(&out[..len]))
-        } else {
-            None
-        };
+        self.copy = None;
+        if spend(&mut self.budget, len) {
+            self.keep(&out[..len]);
+        }
         Some(Turn {
             note: Note::Asked,
             leaves: Some(Departure {
@@ -73,6 +73,15 @@ impl<W: Window> ReceiveRelay<W> {
                 len,
             }),
         })
+    }
+
+    /// Has a NACK leave once more.
+    #[inline(never)]
+    fn keep(&mut self, nack: &[u8])
+        requires { length nack.now ≤ MAX_DATAGRAM }
+        ensures { self.new ≡ record self.old { copy = Some (record { items = nack.now }) } }
+    {
+        self.copy = Some(copy_of(nack));
     }
 
     /// Writes a NACK of so many octets at most: of all that is due, as far as one has room for it, or else of as many places as have, a pair each.
