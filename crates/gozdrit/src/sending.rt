@@ -3,7 +3,7 @@ ghost use Rattle.std.specs.Prelude.{◌≡◌, ℕ, List, ◌↔◌, IsTrue};
 ghost use Rattle.gozdrit.specs.declared.sizes.TheConstants.{SENDER_CONFIG};
 ghost use Rattle.gozdrit.specs.Sizes.{SaysKnown};
 ghost use Rattle.gozdrit.specs.Freeing.{AnswersFree};
-ghost use Rattle.gozdrit.specs.Sending.{AnswersAdapt, AnswersSenderNew, AnswersSend, AnswersFeedback, AnswersRetransmit, AnswersMarkLast, AnswersTime, RetransmitsTo, measured_resend, measured_send, rule_now, set_to, told_at};
+ghost use Rattle.gozdrit.specs.Sending.{AnswersAdapt, AnswersSenderNew, AnswersSend, AnswersFeedback, AnswersRetransmit, AnswersMarkLast, AnswersTime, RetransmitsTo, measured_resend, rule_now, set_to, told_at};
 
 use crate::answers::SentPacket;
 use crate::code::{BAD_SIZE, HELD, NO_END, NO_ROOM, OK, OUT_OF_MEMORY, TOO_LARGE};
@@ -15,7 +15,7 @@ use crate::sizes::{OUTCOME, SENT};
 use endpoint::{ResendMeter, ResendRule, TimelyEndpoint};
 use places::Place;
 use rtpwire::{ConfigFault, MAX_DATAGRAM, TooShort};
-use sender::{SendFault, SenderConfig};
+use sender::SenderConfig;
 use std::alloc::Global;
 use stores::RingHistory;
 
@@ -141,10 +141,9 @@ pub(crate) fn send(
     };
     let sender = sender.lend();
     let now = sender.now;
-    let answer = sender.endpoint.send_into(out, &carried, padding, now);
-    measure_send(&mut sender.meter, &answer, now);
-    match answer {
+    match sender.endpoint.send_into(out, &carried, padding, now) {
         Ok(Ok((place, length))) => {
+            sender.meter.send(now);
             sent.tell(place, length);
             OK
         }
@@ -201,20 +200,7 @@ fn retransmit_to(sender: &mut TimedSender, sent: &mut SentPacket, out: &mut [u8]
     OK
 }
 
-/// What was sent is measured.
-fn measure_send(
-    meter: &mut ResendMeter,
-    answer: &Result<Result<(Place, usize), SendFault>, TooShort>,
-    now: u64,
-)
-    ensures { meter.new ≡ measured_send answer.now now meter.old }
-{
-    if let Ok(Ok(_)) = answer {
-        meter.send(now);
-    }
-}
-
-/// And what was retransmitted.
+/// What was retransmitted is measured.
 fn measure_resend(
     meter: &mut ResendMeter,
     answer: &Result<Option<(Place, usize)>, TooShort>,
