@@ -86,7 +86,7 @@ extern "C" {
 /* ---- the version: that of this header, and that of the library that is linked */
 
 #define GOZDRIT_VERSION_MAJOR 2
-#define GOZDRIT_VERSION_MINOR 2
+#define GOZDRIT_VERSION_MINOR 3
 #define GOZDRIT_VERSION_PATCH 0
 #define GOZDRIT_VERSION (GOZDRIT_VERSION_MAJOR * 10000 + GOZDRIT_VERSION_MINOR * 100 + GOZDRIT_VERSION_PATCH)
 
@@ -675,6 +675,20 @@ int32_t gozdrit_set_adaptive(gozdrit_receiver *receiver, uint8_t adaptive);
  *   53  copies is not 0, 1 or 2
  */
 int32_t gozdrit_set_nack_copies(gozdrit_receiver *receiver, uint8_t copies);
+
+/*
+ * Since 2.3. Whether what leaves as NACKs is earned by what comes from now on: 0, no, as it is before the first call; 1, yes. Where datagrams may
+ * come from anybody it has to be: else whoever forges an address has it flooded with NACKs. Each datagram that is received earns a twentieth of its
+ * octets (RFC 3550, section 6.2), or 24 where that is more, and it has them; no more than GOZDRIT_MAX_NACK_DATAGRAM octets are saved up, and no more
+ * NACKs leave than datagrams came. A NACK names no more packets than have room there with four octets each behind its first twelve, and where
+ * none has, gozdrit_nack writes none, and gozdrit_next_timeout tells when a packet can be played. It leaves twice only where both are earned.
+ *
+ * With each call it begins anew, with nothing earned, and with gozdrit_reset: call it where the sender is at another address. What was to leave once
+ * more does not.
+ *
+ *   53  earned is not 0 or 1
+ */
+int32_t gozdrit_set_nack_budget(gozdrit_receiver *receiver, uint8_t earned);
 
 /* How many packets are missing. */
 int32_t gozdrit_missing(const gozdrit_receiver *receiver, size_t *count);

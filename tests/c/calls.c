@@ -81,6 +81,7 @@ int main(void) {
     test_times();
     test_follows();
     test_copies();
+    test_budget();
     test_begin();
     test_jumps();
     test_kinds();

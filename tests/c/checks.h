@@ -111,6 +111,7 @@ void test_receiver(void);
 void test_times(void);
 void test_follows(void);
 void test_copies(void);
+void test_budget(void);
 void test_begin(void);
 void test_jumps(void);
 void test_kinds(void);

@@ -157,6 +157,7 @@ static void test_asking(void) {
     ANSWERS(GOZDRIT_NULL, gozdrit_next_timeout(&receiver, NULL));
     ANSWERS(GOZDRIT_NULL, gozdrit_set_adaptive(NULL, 1));
     ANSWERS(GOZDRIT_NULL, gozdrit_set_nack_copies(NULL, 1));
+    ANSWERS(GOZDRIT_NULL, gozdrit_set_nack_budget(NULL, 1));
     ANSWERS(GOZDRIT_NULL, gozdrit_receiver_times(NULL, &l.times));
     ANSWERS(GOZDRIT_NULL, gozdrit_receiver_times(&receiver, NULL));
     ANSWERS(GOZDRIT_NULL, gozdrit_receiver_probe_counts(NULL, &l.probes));

@@ -1,6 +1,6 @@
 -- What a receiver of C's does with a datagram, an ask and a play: what its endpoint does; and its path is measured by that, where the
 -- times of asks follow it.
-use Rattle.std.specs.Prelude.{◌≡◌, ℕ, ◌<◌, ◌≤◌, ◌==◌, ◌||◌, ◌&&◌, Bool, true, false, not, List, length, take, Option, Some, None, Result, Ok, Err, OnErr, IsOk, if◌then◌else◌}
+use Rattle.std.specs.Prelude.{◌≡◌, ℕ, ◌<◌, ◌≤◌, ◌==◌, ◌||◌, ◌&&◌, Bool, true, false, not, min, nat_lt, List, ◌++◌, length, take, drop, Option, Some, None, Result, Ok, Err, OnErr, IsOk, if◌then◌else◌}
 use Rattle.arrayvec.specs.ArrayVec.{ArrayVec}
 use Rattle.rtpwire.specs.Buffer.{in_front}
 use Rattle.rtpwire.specs.declared.fault.TooShort.{TooShort}
@@ -23,6 +23,8 @@ use Rattle.endpoint.specs.Receiving.{HearsDatagram, ends_of}
 use Rattle.endpoint.specs.ReceiveCounts.{count_heard, count_played, CountsAskInto}
 use Rattle.endpoint.specs.Seen.{seen_after}
 use Rattle.timing.specs.Path.{times_over}
+use Rattle.timing.specs.declared.feedback_budget.FeedbackBudget.{FeedbackBudget}
+use Rattle.gozdrit.specs.Budget.{budget_with, budget_without, fewer_in, is_earned, room_in}
 use Rattle.gozdrit.specs.Ends.{Receiver}
 
 -- its receiver that has what is believed
@@ -71,6 +73,7 @@ pub record HearsAs (before : Receiver) (octets : List ℕ) (now : ℕ) (answer :
   pub by_sent : mid.by_sent ≡ before.by_sent
   pub copies : mid.copies ≡ before.copies
   pub again : mid.again ≡ before.again
+  pub budget : mid.budget ≡ budget_with (length octets) before.budget
   pub measures : Measures before.follows before octets now answer mid after
 
 -- a place that is played or given up is measured no longer
@@ -124,10 +127,38 @@ pub record AsksAs (before : Receiver) (now most : ℕ) (out : List ℕ) (answer 
 abbrev pub leaves_twice : Receiver → Bool
 leaves_twice r = (r.copies == 2) || ((r.copies == 0) && r.follows && not r.meter.path.trip.both)
 
--- what of an ask is to leave once more: its NACK
-abbrev pub again_of : (twice : Bool) → Result (Option ℕ) TooShort → (out : List ℕ) → Option (ArrayVec ℕ)
-again_of true (Ok (Some len)) out = Some (record { items = take len out })
-again_of twice answer out = None
+-- An ask of so many places at most, whose NACK has room in so many octets at the front of a slice.
+pub record AsksFront (space most : ℕ) (before : Receiver) (now : ℕ) (out : List ℕ) (answer : Result (Option ℕ) TooShort) (out' : List ℕ) (after : Receiver) : Type 0 where
+  pub front : List ℕ
+  pub size : length front ≡ space
+  pub asks : AsksAs before now most (take space out) answer front after
+  pub whole : out' ≡ front ++ drop space out
+
+-- What is due is asked for in so many octets at most, of as many places as have room there with a pair each; or not at all, where these are less than
+-- any NACK has.
+abbrev pub AsksWithin : (little : Bool) → (room most : ℕ) → (before : Receiver) → (now : ℕ) → (out : List ℕ) → Result (Option ℕ) TooShort → (out' : List ℕ) → (after : Receiver) → Type 0
+AsksWithin true room most before now out answer out' after = (answer ≡ Ok None) × (out' ≡ out) × (after ≡ before)
+AsksWithin false room most before now out answer out' after = AsksFront (min (length out) room) (min most (fewer_in room)) before now out answer out' after
+
+-- What is due is asked for, as far as that was earned.
+abbrev pub AsksEarned : Option FeedbackBudget → (before : Receiver) → (now most : ℕ) → (out : List ℕ) → Result (Option ℕ) TooShort → (out' : List ℕ) → (after : Receiver) → Type 0
+AsksEarned None before now most out answer out' after = AsksAs before now most out answer out' after
+AsksEarned (Some b) before now most out answer out' after = AsksWithin (nat_lt (room_in (Some b)) 16) (room_in (Some b)) most before now out answer out' after
+
+-- a NACK is to leave once more, and has left as far as that is to be earned
+abbrev pub copied_where : (twice : Bool) → (nack : List ℕ) → Receiver → Receiver
+copied_where true nack r = record r { again = Some (record { items = nack }); budget = budget_without (length nack) r.budget }
+copied_where false nack r = r
+
+-- A NACK leaves, and once more where it leaves twice and that was earned too.
+abbrev pub left_behind : (nack : List ℕ) → Receiver → Receiver
+left_behind nack r =
+    let budget = budget_without (length nack) r.budget in
+    copied_where (leaves_twice r && is_earned (length nack) budget) nack (record r { budget = budget })
+
+abbrev pub left_by : Result (Option ℕ) TooShort → (out : List ℕ) → Receiver → Receiver
+left_by (Ok (Some len)) out r = left_behind (take len out) r
+left_by answer out r = r
 
 -- A NACK leaves a second time, with the same octets. It is in no count, and nothing is measured by it.
 pub record AsksAgain (octets : List ℕ) (before : Receiver) (out : List ℕ) (answer : Result (Option ℕ) TooShort) (out' : List ℕ) (after : Receiver) : Type 0 where
@@ -138,4 +169,4 @@ pub record AsksAgain (octets : List ℕ) (before : Receiver) (out : List ℕ) (a
 abbrev pub AsksNext : Option (ArrayVec ℕ) → (before : Receiver) → (now most : ℕ) → (out : List ℕ) → Result (Option ℕ) TooShort → (out' : List ℕ) → (after : Receiver) → Type 0
 AsksNext (Some copy) before now most out answer out' after = AsksAgain copy.items before out answer out' after
 AsksNext None before now most out answer out' after =
-    (mid : Receiver) × AsksAs before now most out answer out' mid × (after ≡ record mid { again = again_of (leaves_twice mid) answer out' })
+    (mid : Receiver) × AsksEarned before.budget before now most out answer out' mid × (after ≡ left_by answer out' mid)

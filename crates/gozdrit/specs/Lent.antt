@@ -26,7 +26,7 @@ use Rattle.gozdrit.specs.Ends.{Receiver, Sender}
 use Rattle.gozdrit.specs.Freeing.{AnswersFree}
 use Rattle.gozdrit.specs.Packets.{AnswersRead, AnswersWrite}
 use Rattle.gozdrit.specs.Reading.{AnswersMissing, AnswersSsrc, AnswersNext, AnswersHighest, AnswersTimeout, AnswersReceiverTimes, AnswersReceiverCounts, AnswersProbeCounts, AnswersSenderCounts}
-use Rattle.gozdrit.specs.Receiving.{AnswersReceiverNew, AnswersReceive, AnswersPlay, AnswersNack, AnswersBegin, AnswersRestart, AnswersTimes, AnswersFollow, AnswersCopies}
+use Rattle.gozdrit.specs.Receiving.{AnswersReceiverNew, AnswersReceive, AnswersPlay, AnswersNack, AnswersBegin, AnswersRestart, AnswersTimes, AnswersFollow, AnswersCopies, AnswersBudget}
 use Rattle.gozdrit.specs.Sending.{AnswersAdapt, AnswersSenderNew, AnswersSend, AnswersFeedback, AnswersRetransmit, AnswersMarkLast, AnswersTime}
 
 -- `gozdrit_sender_defaults`
@@ -152,6 +152,12 @@ abbrev pub CopiesFor : (copies : ℕ) → Option (Handle Receiver) → ℤ → O
 CopiesFor copies =
     Answers1 null_pointer (λ receiver code receiver'.
     AnswersCopies receiver.inside copies code receiver'.inside)
+
+-- `gozdrit_set_nack_budget`
+abbrev pub BudgetFor : (earned : ℕ) → Option (Handle Receiver) → ℤ → Option (Handle Receiver) → Type 0
+BudgetFor earned =
+    Answers1 null_pointer (λ receiver code receiver'.
+    AnswersBudget receiver.inside earned code receiver'.inside)
 
 -- `gozdrit_missing`
 abbrev pub MissingFor : Option (Handle Receiver) → Option ℕ → ℤ → Option (Handle Receiver) → Option ℕ → Type 0

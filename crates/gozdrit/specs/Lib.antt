@@ -1,4 +1,5 @@
 pub mod Again
+pub mod Budget
 pub mod Codes
 pub mod Config
 pub mod Counted

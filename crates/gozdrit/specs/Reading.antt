@@ -1,10 +1,11 @@
 -- What the calls answer to C that read an end and leave it as it is.
 use Rattle.std.specs.Prelude.{◌≡◌, ◌↔◌, ◌^◌, ◌<◌, ◌≤◌, ℕ, ℤ, false, Option, Some, None, IsSome}
 use Rattle.stores.specs.Asking.{has_come}
-use Rattle.stores.specs.Span.{highest_of}
+use Rattle.stores.specs.Span.{front_of, highest_of}
 use Rattle.receiver.specs.Asks.{CountsMissing}
 use Rattle.receiver.specs.Receiver.{state_of}
 use Rattle.receiver.specs.Streams.{source_of}
+use Rattle.receiver.specs.Peeking.{is_ready}
 use Rattle.receiver.specs.Waking.{IsQuiet}
 use Rattle.gozdrit.specs.declared.answers.KnownTimeout.{KnownTimeout}
 use Rattle.gozdrit.specs.declared.answers.KnownSequence.{KnownSequence}
@@ -14,6 +15,7 @@ use Rattle.gozdrit.specs.declared.counts.ReceiverCounts.{ReceiverCounts}
 use Rattle.gozdrit.specs.declared.counts.ProbeCounts.{ProbeCounts}
 use Rattle.gozdrit.specs.declared.counts.SenderCounts.{SenderCounts}
 use Rattle.gozdrit.specs.declared.sizes.TheConstants.{PROBE_COUNTS, RECEIVE_COUNTS, SEND_COUNTS, TIMES}
+use Rattle.gozdrit.specs.Budget.{room_in}
 use Rattle.gozdrit.specs.Codes.{ok, no_end, bad_size}
 use Rattle.gozdrit.specs.Counted.{receiver_counts, probe_counts, sender_counts}
 use Rattle.gozdrit.specs.Ends.{Receiver, Sender}
@@ -33,11 +35,13 @@ pub record ReadsSized {X Y : Type 0} (size_of : Y → ℕ) (known : ℕ) (Tells 
   pub tells : (before : X) → old ≡ Some before → known ≤ size_of told → (code ≡ ok) × Tells before told told'
   pub same : new ≡ old
 
--- The moment from which on something is to be done, or none, is told: any moment, where a NACK is to leave once more.
+-- The moment from which on something is to be done, or none, is told: any moment, where a NACK is to leave once more; and where none was earned,
+-- from when on the next place is to be played or given up.
 pub record TellsNext (r : Receiver) (old new : KnownTimeout) : Type 0 where
   pub moment : Option ℕ
   pub again : IsSome r.again → moment ≡ Some 0
-  pub quiet : r.again ≡ None → (m : ℕ) → m < 2 ^ 64 → IsQuiet (record (core_of r).config { patience = patience_of r }) (state_of (core_of r)) m ↔ (has_come moment m ≡ false)
+  pub unearned : r.again ≡ None → room_in r.budget < 16 → (m : ℕ) → m < 2 ^ 64 → is_ready (patience_of r) m (front_of (core_of r).span) ≡ has_come moment m
+  pub quiet : r.again ≡ None → 16 ≤ room_in r.budget → (m : ℕ) → m < 2 ^ 64 → IsQuiet (record (core_of r).config { patience = patience_of r }) (state_of (core_of r)) m ↔ (has_come moment m ≡ false)
   pub told : TellsTimeout moment old new
 
 -- `gozdrit_missing`, `gozdrit_rtx_ssrc`, `gozdrit_next_sequence`, `gozdrit_highest_sequence`, `gozdrit_next_timeout`,

@@ -1,5 +1,5 @@
 -- What the calls of a receiver answer to C, by the endpoint that its handle held before and after, if it held one.
-use Rattle.std.specs.Prelude.{◌≡◌, ◌≢◌, ◌⊎◌, ◌+◌, ◌==◌, ℕ, ◌<◌, ◌≤◌, not, true, ℤ, pos, List, length, Option, Some, None, IsSome, IsSomeAnd, Result, Ok, Err}
+use Rattle.std.specs.Prelude.{◌≡◌, ◌≢◌, ◌⊎◌, ◌+◌, ◌==◌, ℕ, zero, suc, ◌<◌, ◌≤◌, not, true, ℤ, pos, List, length, Option, Some, None, IsSome, IsSomeAnd, Result, Ok, Err}
 use Rattle.rtpwire.specs.declared.fault.ConfigFault.{ConfigFault}
 use Rattle.rtpwire.specs.declared.fault.TooShort.{TooShort}
 use Rattle.rtpwire.specs.Fault.{config_number}
@@ -15,6 +15,9 @@ use Rattle.endpoint.specs.Seen.{none_seen}
 use Rattle.gozdrit.specs.declared.config.ReceiverFields.{ReceiverFields}
 use Rattle.gozdrit.specs.declared.heard.ReceivedFields.{ReceivedFields}
 use Rattle.gozdrit.specs.declared.answers.PlayedPacket.{PlayedPacket}
+use Rattle.timing.specs.FeedbackBudget.{nothing_earned}
+use Rattle.timing.specs.declared.feedback_budget.FeedbackBudget.{FeedbackBudget}
+use Rattle.gozdrit.specs.Budget.{budget_anew}
 use Rattle.gozdrit.specs.Ends.{Receiver}
 use Rattle.gozdrit.specs.Following.{AsksNext, HearsAs, PassesAs, core_of, next_play, place_of, with_ends}
 use Rattle.gozdrit.specs.Codes.{ok, no_end, is_held, out_of_memory, no_room, has_started, bad_limit, bad_size}
@@ -45,6 +48,7 @@ new_receiver f =
       by_sent = following_of f == 2;
       copies = 0;
       again = None;
+      budget = None;
     }
 
 -- A configuration is refused for the first check that it fails; else there is an endpoint that took nothing, or no
@@ -106,6 +110,7 @@ receiver_restarted r =
       endpoint = record r.endpoint { endpoint = record r.endpoint.endpoint { core = restarted (core_of r); run = no_run }; asked = none_asked (length r.endpoint.asked) };
       meter = meter_restarted r.meter;
       again = None;
+      budget = budget_anew r.budget;
     }
 
 -- `gozdrit_reset`
@@ -145,4 +150,17 @@ pub record AnswersCopies (old : Option Receiver) (copies : ℕ) (code : ℤ) (ne
   pub unknown : IsSome old → (IsCopies copies → ⊥) → code ≡ bad_limit
   pub tells : (before : Receiver) → old ≡ Some before → IsCopies copies
       → (code ≡ ok) × (new ≡ Some (record before { copies = copies }))
+  pub refused : code ≢ ok → new ≡ old
+
+-- what leaves is earned by what comes from now on, of which nothing came so far, or has not to be
+abbrev pub budget_of : (earned : ℕ) → Option FeedbackBudget
+budget_of zero = None
+budget_of (suc earned) = Some nothing_earned
+
+-- `gozdrit_set_nack_budget`
+pub record AnswersBudget (old : Option Receiver) (earned : ℕ) (code : ℤ) (new : Option Receiver) : Type 0 where
+  pub none : old ≡ None → code ≡ no_end
+  pub unknown : IsSome old → 1 < earned → code ≡ bad_limit
+  pub tells : (before : Receiver) → old ≡ Some before → earned ≤ 1
+      → (code ≡ ok) × (new ≡ Some (record before { budget = budget_of earned; again = None }))
   pub refused : code ≢ ok → new ≡ old

@@ -5,6 +5,8 @@ ghost use Rattle.gozdrit.specs.declared.config.SessionFields.{SessionFields};
 ghost use Rattle.gozdrit.specs.declared.config.SenderFields.{SenderFields};
 ghost use Rattle.gozdrit.specs.declared.config.ReceiverFields.{ReceiverFields};
 ghost use Rattle.gozdrit.specs.Config.{streams_of, sender_config, receiver_config, probation_of, rule_of};
+ghost use Rattle.timing.specs.FeedbackBudget.{room_of};
+ghost use Rattle.timing.specs.declared.feedback_budget.FeedbackBudget.{FeedbackBudget};
 ghost use Rattle.gozdrit.specs.Ends.{Receiver, Sender};
 ghost use Rattle.gozdrit.specs.Following.{AsksNext, leaves_twice};
 ghost use Rattle.gozdrit.specs.Sending.{IsNewSender, rule_now, set_to, told_at};
@@ -77,10 +79,10 @@ pub fn longer_configurations_say_no_more()
     ensures says_more { (known size octet : ℕ) (before after : List ℕ) → 0 < octet → SaysKnown known size (before ++ octet ∷ after) → ⊥ }
 {}
 
-/// A NACK that leaves twice leaves the second time with the octets of the first time, whenever that is, and no third time. What it names is
-/// asked for once, and counted once.
+/// A NACK that leaves twice leaves the second time with the octets of the first time, whenever that is, and no third time, where nothing has to be
+/// earned. What it names is asked for once, and counted once.
 pub fn nacks_leave_twice()
-    ensures second { (r mid after : Receiver) (now later most next_most len : ℕ) (out out' next next' : List ℕ) (answer : Result (Option ℕ) TooShort) → r.again ≡ None → leaves_twice r ≡ true
+    ensures second { (r mid after : Receiver) (now later most next_most len : ℕ) (out out' next next' : List ℕ) (answer : Result (Option ℕ) TooShort) → r.again ≡ None → r.budget ≡ None → leaves_twice r ≡ true
         → AsksNext r.again r now most out (Ok (Some len)) out' mid → len ≤ length next → AsksNext mid.again mid later next_most next answer next' after
         → (answer ≡ Ok (Some len)) × (take len next' ≡ take len out') × (after ≡ record mid { again = None }) }
     ensures once { (r mid : Receiver) (now most : ℕ) (out out' : List ℕ) (answer : Result (Option ℕ) TooShort) → r.again ≡ None → leaves_twice r ≡ false
@@ -90,4 +92,10 @@ pub fn nacks_leave_twice()
     ensures set_twice { (r : Receiver) → r.copies ≡ 2 → leaves_twice r ≡ true }
     ensures unset { (r : Receiver) → r.copies ≡ 0 → (leaves_twice r ≡ true)
         ↔ ((r.follows ≡ true) × (r.meter.path.trip.both ≡ false)) }
+{}
+
+/// Where NACKs are to be earned, none leaves that was not: it has no more octets than a budget of what came has room for.
+pub fn nacks_are_earned()
+    ensures { (b : FeedbackBudget) (r mid : Receiver) (now most len : ℕ) (out out' : List ℕ) → r.again ≡ None → r.budget ≡ Some b
+        → AsksNext r.again r now most out (Ok (Some len)) out' mid → len ≤ room_of b }
 {}

@@ -4,6 +4,7 @@
 mod again;
 mod answers;
 mod blocks;
+mod budget;
 mod code;
 mod config;
 mod counts;
@@ -31,6 +32,6 @@ mod unboxed;
 mod version;
 
 pub use laws::{
-    fields_say_configurations, longer_configurations_say_no_more, nacks_leave_twice,
-    new_ends_are_as_configured,
+    fields_say_configurations, longer_configurations_say_no_more, nacks_are_earned,
+    nacks_leave_twice, new_ends_are_as_configured,
 };

@@ -15,7 +15,7 @@ ghost use Rattle.gozdrit.specs.contracts.answers.PlayedPacket.{the_row as played
 ghost use Rattle.gozdrit.specs.declared.answers.PlayedPacket.{PlayedPacket};
 ghost use Rattle.gozdrit.specs.contracts.config.ReceiverFields.{the_row as receiver_config_row};
 ghost use Rattle.gozdrit.specs.declared.config.ReceiverFields.{ReceiverFields};
-ghost use Rattle.gozdrit.specs.Lent.{ReceiverNewFor, ReceiverFreeFor, ReceiveFor, PlayFor, NackFor, BeginFor, RestartFor, TimesFor, FollowFor, CopiesFor};
+ghost use Rattle.gozdrit.specs.Lent.{ReceiverNewFor, ReceiverFreeFor, ReceiveFor, PlayFor, NackFor, BeginFor, RestartFor, TimesFor, FollowFor, CopiesFor, BudgetFor};
 
 use crate::answers::PlayedPacket;
 use crate::blocks::ReceiverBlock;
@@ -25,7 +25,7 @@ use crate::heard::ReceivedFields;
 use crate::lent::{Lent, LentSlice};
 use crate::receiving::{
     ReceiverHandle, begin, follow, nack, play, receive, receiver_free, receiver_new, restart,
-    set_copies, set_times,
+    set_budget, set_copies, set_times,
 };
 use crate::rest::says_known;
 use crate::sized::LentSized;
@@ -413,5 +413,34 @@ fn copies_lent(mut receiver: Lent<ReceiverHandle>, copies: u8) -> (i32, Lent<Rec
         return (NULL, receiver);
     }
     let code = set_copies(receiver.get(), copies);
+    (code, receiver)
+}
+
+/// Whether what leaves as NACKs is earned by what comes.
+#[unsafe(no_mangle)]
+pub unsafe extern "C" fn gozdrit_set_nack_budget(receiver: *mut ReceiverBlock, earned: u8) -> i32
+    ghost before: { Option (Handle Receiver) }
+    requires* { sem 𝓛 (value_lies_at ReceiverRow receiver before) }
+    ensures* { ∃ₛ (λ (after : Option (Handle Receiver)).
+        sem 𝓛 (value_lies_at ReceiverRow receiver after)
+        ∗ ⌜ BudgetFor earned before result after ⌝) }
+{
+    budget_lent(
+        Lent {
+            at: receiver as *mut ReceiverHandle,
+        },
+        earned,
+    )
+    .0
+}
+
+fn budget_lent(mut receiver: Lent<ReceiverHandle>, earned: u8) -> (i32, Lent<ReceiverHandle>)
+    ensures { (result.1.at ≡ receiver.at)
+        × BudgetFor earned receiver.value result.0 result.1.value }
+{
+    if receiver.is_null() {
+        return (NULL, receiver);
+    }
+    let code = set_budget(receiver.get(), earned);
     (code, receiver)
 }

@@ -3,9 +3,10 @@ ghost use Rattle.std.specs.Prelude.{ℕ, List, ◌↔◌, IsTrue};
 ghost use Rattle.gozdrit.specs.declared.sizes.TheConstants.{RECEIVER_CONFIG};
 ghost use Rattle.gozdrit.specs.Sizes.{SaysKnown};
 ghost use Rattle.gozdrit.specs.Freeing.{AnswersFree};
-ghost use Rattle.gozdrit.specs.Receiving.{AnswersReceiverNew, AnswersReceive, AnswersPlay, AnswersNack, AnswersBegin, AnswersRestart, AnswersTimes, AnswersFollow, AnswersCopies};
+ghost use Rattle.gozdrit.specs.Receiving.{AnswersReceiverNew, AnswersReceive, AnswersPlay, AnswersNack, AnswersBegin, AnswersRestart, AnswersTimes, AnswersFollow, AnswersCopies, AnswersBudget};
 
 use crate::answers::PlayedPacket;
+use crate::budget::renew;
 use crate::code::{BAD_SIZE, HELD, NO_END, OK, OUT_OF_MEMORY};
 use crate::config::{MAX_FOLLOWS, ReceiverFields};
 use crate::following::MeteredReceiver;
@@ -17,6 +18,7 @@ use endpoint::{AskingEndpoint, PathMeter};
 use rtpwire::ConfigFault;
 use std::alloc::Global;
 use stores::Window;
+use timing::FeedbackBudget;
 
 /// What C holds of a receiver.
 pub type ReceiverHandle = Handle<MeteredReceiver>;
@@ -52,6 +54,7 @@ pub(crate) fn receiver_new(
         by_sent: config.following() == MAX_FOLLOWS,
         copies: 0,
         again: None,
+        budget: None,
     };
     let Ok(inside) = Box::new(alloc, made) else {
         return OUT_OF_MEMORY;
@@ -84,7 +87,8 @@ pub(crate) fn receive(
     if heard.size < RECEIVED {
         return BAD_SIZE;
     }
-    *heard = ReceivedFields::of(heard.size, receiver.lend().on_datagram(octets, now));
+    let answer = receiver.lend().on_datagram(octets, now);
+    *heard = ReceivedFields::of(heard.size, answer);
     OK
 }
 
@@ -147,6 +151,7 @@ pub(crate) fn restart(receiver: &mut ReceiverHandle) -> i32
     inside.endpoint.restart();
     inside.meter.restart();
     inside.again = None;
+    renew(&mut inside.budget);
     OK
 }
 
@@ -195,5 +200,25 @@ pub(crate) fn set_copies(receiver: &mut ReceiverHandle, copies: u8) -> i32
         return i32::from(ConfigFault::BadLimit.number());
     }
     receiver.lend().copies = copies;
+    OK
+}
+
+pub(crate) fn set_budget(receiver: &mut ReceiverHandle, earned: u8) -> i32
+    ensures { AnswersBudget receiver.old.inside earned result receiver.new.inside }
+{
+    if !receiver.is_held() {
+        return NO_END;
+    }
+    if earned > 1 {
+        return i32::from(ConfigFault::BadLimit.number());
+    }
+    let receiver = receiver.lend();
+    receiver.budget = if earned == 0 {
+        None
+    } else {
+        Some(FeedbackBudget::new())
+    };
+    // What was asked for before is not asked for again: nothing that came since earned it.
+    receiver.again = None;
     OK
 }

@@ -12,7 +12,7 @@
 #define CALLS(X) \
     X(version) X(max_payload) X(sender_defaults) X(sender_new) X(sender_free) X(send) X(feedback) X(retransmit) \
     X(tail_loss_probe) X(sender_set_time) X(sender_set_adaptive) X(sender_counts) X(receiver_defaults) X(receiver_new) X(receiver_free) X(receive) \
-    X(play) X(nack) X(next_timeout) X(begin) X(reset) X(set_times) X(set_adaptive) X(set_nack_copies) X(missing) X(rtx_ssrc) X(next_sequence) \
+    X(play) X(nack) X(next_timeout) X(begin) X(reset) X(set_times) X(set_adaptive) X(set_nack_copies) X(set_nack_budget) X(missing) X(rtx_ssrc) X(next_sequence) \
     X(highest_sequence) X(receiver_times) X(receiver_counts) X(receiver_probe_counts) X(rtp_read) X(rtp_write)
 #define CALL_NUMBER(name) CALL_##name,
 enum call { CALLS(CALL_NUMBER) CALL_COUNT };

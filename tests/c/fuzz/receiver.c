@@ -290,6 +290,12 @@ static void sooner(bool *is_known, uint64_t *moment, uint64_t since, uint64_t sp
     *is_known = true;
 }
 
+size_t room_for_nack(const struct receiver *it) {
+    uint64_t octets = it->allowed == 0 ? 0 : it->earned;
+    if (!it->earns) return GOZDRIT_MAX_NACK_DATAGRAM;
+    return octets < 16 ? 0 : (size_t)octets;
+}
+
 bool expect_timeout(const struct receiver *it, uint64_t *moment) {
     const gozdrit_receiver_config *config = &it->config;
     const struct slot *slot = front(&it->window);
@@ -300,6 +306,7 @@ bool expect_timeout(const struct receiver *it, uint64_t *moment) {
     if (slot == NULL) return false;
     if (slot->is_held) return true;
     sooner(&is_known, moment, slot->noticed, config->latency);
+    if (room_for_nack(it) == 0) return is_known;
     for (sequence = it->window.next; sequence <= it->window.highest; sequence++) {
         slot = slot_at(&it->window, sequence);
         if (slot->is_held || slot->nacks >= config->max_nacks) continue;

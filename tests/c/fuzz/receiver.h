@@ -49,12 +49,17 @@ struct receiver {
     uint64_t taken_at;          /* when a media packet was last taken */
     uint64_t seen[8192];        /* by a number modulo 8192: what was taken last, its number and timestamp, and one more */
     uint8_t copies;             /* of each NACK, as it was set */
+    bool earns;                 /* whether NACKs are earned by what comes, */
+    uint64_t earned, allowed;   /* the octets that were, and the datagrams that came more than NACKs left */
     uint8_t again[GOZDRIT_MAX_NACK_DATAGRAM]; /* the NACK that is to leave once more */
     size_t again_length;                      /* 0: none */
     bool has_played;            /* since it was reset, or the stream restarted */
     uint64_t played;            /* the last sequence that was played or given up */
     uint64_t fed;
 };
+
+/* What the next NACK may have: as many octets, and none where that is too little for any. */
+size_t room_for_nack(const struct receiver *it);
 
 /* Takes a datagram, with its counts. */
 void take_datagram(struct receiver *it, const struct datagram *datagram, uint64_t now, gozdrit_received *received);

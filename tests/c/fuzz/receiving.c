@@ -106,6 +106,7 @@ static void call_new(struct receiver *it) {
         memset(&it->counts, 0, sizeof it->counts);
         memset(it->seen, 0, sizeof it->seen);
         it->copies = 0;
+        it->earns = false;
         reset(it);
     }
     check_receiver(it, answer);
@@ -160,6 +161,13 @@ static void call_defaults(void) {
 
 /* ---- receiving */
 
+static void earn(struct receiver *it, size_t octets) {
+    size_t worth = octets / 20 > 24 ? octets / 20 : 24;
+    it->earned += worth < octets ? worth : octets;
+    if (it->earned > GOZDRIT_MAX_NACK_DATAGRAM) it->earned = GOZDRIT_MAX_NACK_DATAGRAM;
+    it->allowed++;
+}
+
 static void call_receive(struct receiver *it) {
     static struct datagram drawn;
     gozdrit_received *received, expected;
@@ -176,6 +184,7 @@ static void call_receive(struct receiver *it) {
     check_kept(AREA_IN, 0);
     check_told(answer, sizeof *received);
     if (answer != GOZDRIT_OK) return;
+    earn(it, drawn.length);
     take_datagram(it, &drawn, now, &expected);
     same(expected.kind, received->kind, "received->kind");
     same(expected.refusal, received->refusal, "received->refusal");
@@ -248,21 +257,39 @@ static void call_play(struct receiver *it) {
 
 /* ---- asking */
 
+/* What is due, of no more packets than have room, with a pair each, in what was earned. */
+static size_t expect_earned(const struct receiver *it, uint64_t now, size_t most, uint8_t *out, size_t *named) {
+    size_t room = room_for_nack(it), fewer;
+    *named = 0;
+    if (room == 0) return 0;
+    fewer = (room - 12) / 4;
+    return expect_nack(it, now, it->earns && fewer < most ? fewer : most, out, named);
+}
+
 /* The datagram that is expected: a NACK that is to leave once more, or what is due, of which `named` packets are named. */
 static size_t expect_datagram(const struct receiver *it, uint64_t now, size_t most, uint8_t *out, size_t *named) {
     *named = 0;
     if (!it->is_made) return 0;
-    if (it->again_length == 0) return expect_nack(it, now, most, out, named);
+    if (it->again_length == 0) return expect_earned(it, now, most, out, named);
     memcpy(out, it->again, it->again_length);
     return it->again_length;
 }
 
-/* What was written is to leave once more, where it was not written for the second time. */
+static void spend(struct receiver *it, size_t octets) {
+    if (!it->earns) return;
+    it->earned -= it->earned < octets ? it->earned : octets;
+    if (it->allowed > 0) it->allowed--;
+}
+
+/* What was written is to leave once more, where it was not written for the second time, and both are earned. */
 static void keep_again(struct receiver *it, const uint8_t *octets, size_t length) {
-    if (it->again_length > 0 || it->copies != 2) {
+    if (it->again_length > 0) {
         it->again_length = 0;
         return;
     }
+    spend(it, length);
+    if (it->copies != 2 || room_for_nack(it) < length) return;
+    spend(it, length);
     memcpy(it->again, octets, length);
     it->again_length = length;
 }
@@ -318,7 +345,10 @@ static void call_reset(struct receiver *it) {
     begin_call(CALL_reset);
     answer = gozdrit_reset(lend_receiver(it, true));
     end_call(unless_no_end(it, GOZDRIT_OK), answer);
-    if (answer == GOZDRIT_OK) reset(it);
+    if (answer == GOZDRIT_OK) {
+        reset(it);
+        it->earned = it->allowed = 0;
+    }
     check_receiver(it, answer);
 }
 
@@ -356,6 +386,20 @@ static void call_set_nack_copies(struct receiver *it) {
     check_receiver(it, answer);
 }
 
+static void call_set_nack_budget(struct receiver *it) {
+    uint8_t earned = (uint8_t)(one_in(4) ? between(2, 255) : below(2));
+    int32_t answer;
+    begin_call(CALL_set_nack_budget);
+    answer = gozdrit_set_nack_budget(lend_receiver(it, true), earned);
+    end_call(unless_no_end(it, earned > 1 ? GOZDRIT_BAD_LIMIT : GOZDRIT_OK), answer);
+    if (answer == GOZDRIT_OK) {
+        it->earns = earned;
+        it->earned = it->allowed = 0;
+        it->again_length = 0;
+    }
+    check_receiver(it, answer);
+}
+
 void call_receiver(void) {
     struct receiver *it = &receivers[below(RECEIVERS)];
     uint32_t which = below(1000);
@@ -368,6 +412,7 @@ void call_receiver(void) {
     else if (which < 24) call_set_times(it);
     else if (which < 26) call_set_adaptive(it);
     else if (which < 32) call_set_nack_copies(it);
+    else if (which < 35) call_set_nack_budget(it);
     else if (which < 600) call_receive(it);
     else if (which < 820) call_play(it);
     else if (which < 900) call_nack(it);

@@ -14,6 +14,7 @@ returns-then-not-self c =
       by_sent = c.hear.ensures.by_sent;
       copies = c.hear.ensures.copies;
       again = c.hear.ensures.again;
+      budget = c.hear.ensures.budget;
       measures = subst (λ (b : Bool). Measures b c.args.self.now c.args.octets.now c.args.now c.hear.result c.hear.new.self c.hear.new.self) (sym off) refl;
     }
 
@@ -29,6 +30,7 @@ returns c =
       by_sent = c.hear-answer.ensures.by_sent;
       copies = c.hear-answer.ensures.copies;
       again = c.hear-answer.ensures.again;
+      budget = c.hear-answer.ensures.budget;
       measures = subst (λ (b : Bool). Measures b c.args.self.now c.args.octets.now c.args.now c.hear-answer.result c.hear-answer.new.self c.measure.new.self) (sym on)
           (c.before-standing.result, stood, search rules);
     }
