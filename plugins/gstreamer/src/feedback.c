@@ -70,11 +70,19 @@ static void begin_stream(GstGozdritRecv *self) {
     g_free(id);
 }
 
+void feedback_set_budget(GstGozdritRecv *self) {
+    gboolean earns = self->settings.earns_nacks && feedback_is_taken(self);
+    if (!self->stream->end.held || earns == self->stream->earns) return;
+    self->stream->earns = earns;
+    gozdrit_set_nack_budget(&self->stream->end, earns ? 1 : 0);
+}
+
 /* The stream's next NACK, or NULL where none is due. */
 static GstBuffer *stream_nack(GstGozdritRecv *self, guint64 now) {
     guint8 octets[GOZDRIT_MAX_NACK_DATAGRAM];
     gsize length = 0;
     if (!self->stream->end.held) return NULL;
+    feedback_set_budget(self);
     gozdrit_set_nack_copies(&self->stream->end, auxiliary_is(self) ? 1 : 0); /* an event is not lost */
     gint32 number = gozdrit_nack(&self->stream->end, now, GOZDRIT_MAX_NACKED, &length, octets, sizeof octets);
     if (number != GOZDRIT_OK || length == 0) return NULL;

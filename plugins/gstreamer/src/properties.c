@@ -16,6 +16,7 @@ enum {
     PROP_TYPE_MAP,
     PROP_SSRC_MAP,
     PROP_PEER,
+    PROP_NACK_BUDGET,
     PROP_REQUESTS,
     PROP_PACKETS,
     PROP_TAKEN,
@@ -138,6 +139,7 @@ static gboolean set_own(GstGozdritRecv *self, guint id, const GValue *value) {
         self->ssrcs = g_value_dup_boxed(value);
         break;
     case PROP_PEER: peers_set(&self->peers, g_value_get_string(value)); break;
+    case PROP_NACK_BUDGET: settings->earns_nacks = g_value_get_boolean(value); break;
     default: return FALSE;
     }
     return TRUE;
@@ -159,6 +161,7 @@ static gboolean get_own(GstGozdritRecv *self, guint id, GValue *value) {
     case PROP_DO_LOST: g_value_set_boolean(value, settings->do_lost); break;
     case PROP_TYPE_MAP: g_value_set_boxed(value, self->types.given); break;
     case PROP_PEER: g_value_set_string(value, self->peers.text); break;
+    case PROP_NACK_BUDGET: g_value_set_boolean(value, settings->earns_nacks); break;
     case PROP_REQUESTS: g_value_set_uint(value, (guint)MIN(counts_sums(self).nacked, G_MAXUINT)); break;
     case PROP_PACKETS: g_value_set_uint(value, (guint)MIN(self->rtx_came, G_MAXUINT)); break;
     case PROP_TAKEN: g_value_set_uint(value, (guint)MIN(counts_sums(self).retransmissions, G_MAXUINT)); break;
@@ -239,6 +242,10 @@ static void install_own(GObjectClass *class) {
         class, PROP_PEER, g_param_spec_string("peer", NULL, "Who is heard: addresses, each with a port or at any, or prefixes, as "
                                               "192.0.2.1:5004,[2001:db8::1]:5004,198.51.100.0/24, by what udpsrc tells of each packet; others' packets are "
                                               "dropped (NULL == anybody)", NULL, PROPERTY_FLAGS));
+    g_object_class_install_property(
+        class, PROP_NACK_BUDGET, g_param_spec_boolean("nack-budget", NULL, "Let NACKs that leave by feedback_src be earned by what comes: a twentieth "
+                                                      "of its octets, or 24 of each packet, and no more NACKs than packets, so that whoever forges "
+                                                      "an address has nobody flooded", TRUE, PROPERTY_FLAGS));
     install_count(class, PROP_REQUESTS, "num-rtx-requests", "How many packets were asked for, each as often as it was");
     install_count(class, PROP_PACKETS, "num-rtx-packets", "How many retransmissions came");
     install_count(class, PROP_TAKEN, "num-rtx-assoc-packets", "How many of these were taken");

@@ -176,6 +176,8 @@ static gboolean begin(GstGozdritRecv *self, GstBuffer *buffer, const guint8 *oct
     if (type < 0 && config.session.rtx_payload_type == config.session.media_payload_type) return FALSE;
     self->untold.refused = gozdrit_receiver_new(&config, &self->stream->end);
     if (self->untold.refused != GOZDRIT_OK) return FALSE;
+    self->stream->earns = FALSE;
+    feedback_set_budget(self);
     self->stream->session = config.session;
     self->stream->rtx_type = rtx_type_of(self, PACKET_TYPE(octets));
     self->sessions++;
@@ -342,6 +344,7 @@ static void take_stranger(GstGozdritRecv *self, GstBuffer *buffer, const guint8 
     GST_INFO_OBJECT(self, "SSRC %08x %s, where there was %08x", PACKET_SSRC(octets), step == STRANGER_MOVES ? "is elsewhere" : "begins a session",
                     self->stream->session.media_ssrc);
     if (step == STRANGER_FALLS) receiving_end(self);
+    if (step == STRANGER_MOVES && self->stream->earns) gozdrit_set_nack_budget(&self->stream->end, 1); /* nothing came from there */
     if (step == STRANGER_MOVES || begin(self, buffer, octets, length, now)) take(self, buffer, octets, length, now);
 }
 

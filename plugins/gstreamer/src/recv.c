@@ -415,7 +415,7 @@ static void init_pads(GstGozdritRecv *self) {
 }
 
 static void gst_gozdrit_recv_init(GstGozdritRecv *self) {
-    self->settings = (recv_settings){.latency = 200, .delay = 20, .retry = -1, .nacks = 8, .window = 1024, .ssrc = SSRC_UNSET,
+    self->settings = (recv_settings){.latency = 200, .delay = 20, .retry = -1, .nacks = 8, .window = 1024, .earns_nacks = TRUE, .ssrc = SSRC_UNSET,
                                      .rtx_ssrc = SSRC_UNSET, .receiver_ssrc = SSRC_UNSET, .type = -1, .rtx_type = -1,
                                      .drops_interval = 200, .most_ahead = 1000, .mode = MODE_SLAVE};
     g_mutex_init(&self->starting);

@@ -33,6 +33,7 @@ typedef struct recv_settings {
     gint type;             /* -1: that of the caps or of the first packet */
     gint rtx_type;         /* -1: that of the caps, or RTX_TYPE */
     gboolean do_lost;
+    gboolean earns_nacks; /* those that leave as packets, by what comes */
     gboolean do_retransmission; /* looked at in a jitter buffer's place alone */
     gboolean drop_on_latency;
     gboolean tells_drops;
@@ -141,6 +142,7 @@ typedef struct drop_messages {
 typedef struct recv_stream {
     gozdrit_receiver end; /* holds one from the first packet on */
     gozdrit_session session;
+    gboolean earns;     /* whether its end's NACKs are earned by what comes */
     guint8 rtx_type;    /* that its retransmissions come with */
     guint64 last_media; /* when the last packet of the stream came, in milliseconds */
     guint32 newest;     /* the timestamp of the last one that came as media */
@@ -333,6 +335,8 @@ void playing_task(gpointer pad);
 
 /* Whether somebody takes feedback. */
 gboolean feedback_is_taken(const GstGozdritRecv *self);
+/* Has the stream's NACKs be earned by what comes, where they leave as packets: an event goes to who has a rate of its own. The lock is held. */
+void feedback_set_budget(GstGozdritRecv *self);
 /* Wakes the timer, where the session wants to be called earlier than it waits for. The lock is held. */
 void feedback_schedule(GstGozdritRecv *self);
 void feedback_wake(GstGozdritRecv *self);

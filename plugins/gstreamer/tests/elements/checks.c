@@ -143,7 +143,8 @@ void drop_bus(GstElement *element, GstBus *bus) {
 receiver make_receiver(const gchar *caps) {
     receiver r;
     r.element = gst_element_factory_make("gozdritrecv", NULL);
-    g_object_set(r.element, "do-lost", TRUE, "rtx-retry-timeout", 60, NULL);
+    /* The packets of the tests are small, and few. */
+    g_object_set(r.element, "do-lost", TRUE, "rtx-retry-timeout", 60, "nack-budget", FALSE, NULL);
     r.media = gst_harness_new_with_element(r.element, "sink", "src");
     r.feedback = gst_harness_new_with_element(r.element, NULL, "feedback_src");
     gst_harness_set_src_caps_str(r.media, caps);
@@ -292,7 +293,7 @@ int main(int count, char **words) {
         {"place", test_place}, {"drops", test_drops}, {"ptmap", test_pt_map}, {"reports", test_reports}, {"offsets", test_offsets},
         {"dropin", test_drop_in}, {"auxiliary", test_auxiliary}, {"histories", test_histories}, {"extensions", test_extensions},
         {"logs", test_logs},       {"path", test_path}, {"bundle", test_bundle}, {"crowd", test_crowd},
-        {"strangers", test_claims}, {"addresses", test_addresses}, {"peers", test_peers},
+        {"strangers", test_claims}, {"addresses", test_addresses}, {"peers", test_peers}, {"budget", test_budget},
     };
     gst_init(NULL, NULL);
     for (guint i = 0; i < G_N_ELEMENTS(tests); i++) {

@@ -137,6 +137,7 @@ void test_flushes(void);
 void test_restarts(void);
 void test_claims(void);
 void test_addresses(void);
+void test_budget(void);
 void test_peers(void);
 void test_rtx_caps(void);
 void test_states(void);
