@@ -21,26 +21,26 @@ struct row {
 };
 
 static const struct row ROWS[] = {
-    {"10 % lost", {.loss = .1, .delay = 25}, {2000, 40, 200}, .05, .2},
-    {"20 %", {.loss = .2, .delay = 25}, {2000, 40, 200}, .26, .2},
-    {"30 %", {.loss = .3, .delay = 25}, {2000, 40, 200}, 1.5, .3},
-    {"10 %, round trip 20, latency 120", {.loss = .1, .delay = 10}, {2000, 40, 120}, .03, .2},
-    {"10 %, round trip 150, latency 600", {.loss = .1, .delay = 75}, {2000, 40, 600}, .06, .3},
-    {"5 %, up to 10 ms of jitter", {.loss = .05, .delay = 18, .jitter = 10}, {2000, 40, 200}, .03, 1},
-    {"20 %, up to 15 ms", {.loss = .2, .delay = 18, .jitter = 15}, {2000, 40, 200}, .4, 3},
-    {"10 %, up to 40 ms", {.loss = .1, .delay = 18, .jitter = 40}, {2000, 40, 200}, .25, 30},
-    {"1 %, up to 40 ms", {.loss = .01, .delay = 18, .jitter = 40}, {2000, 40, 200}, .05, 2},
-    {"nothing lost, up to 60 ms, 20 Mbit/s", {.delay = 18, .jitter = 60}, {20000, 10, 200}, .1, 2},
-    {"nothing lost, up to 60 ms, 8 Mbit/s", {.delay = 18, .jitter = 60}, {8000, 20, 200}, .1, 2},
-    {"5 %, up to 60 ms", {.loss = .05, .delay = 18, .jitter = 60}, {2000, 40, 200}, .3, 20},
-    {"2 %, up to 100 ms", {.loss = .02, .delay = 18, .jitter = 100}, {2000, 40, 200}, .7, 60},
-    {"5 %, up to 150 ms", {.loss = .05, .delay = 18, .jitter = 150}, {2000, 40, 200}, 3.2, 90},
-    {"a link of 1.1, .3 s out, latency 1000", {.delay = 25, .kilobits = 2200, .queue = 150, .out = 10000, .out_for = 300}, {2000, 40, 1000}, .3, 1},
-    {"a link of 1.1, .5 s out, latency 500", {.delay = 25, .kilobits = 2200, .queue = 150, .out = 10000, .out_for = 500}, {2000, 40, 500}, .95, .5},
-    {"a link of 1.1, 1 s out, latency 1000", {.delay = 25, .kilobits = 2200, .queue = 150, .out = 10000, .out_for = 1000}, {2000, 40, 1000}, 2.3, .5},
-    {"a link of 1.1, a queue of 400, .5 s out, latency 1000", {.delay = 25, .kilobits = 2200, .queue = 400, .out = 10000, .out_for = 500}, {2000, 40, 1000}, .2, 1},
-    {"a link of 1.3, 5 % in bursts of 20, latency 500", {.loss = .05, .burst = 20, .delay = 25, .kilobits = 2600, .queue = 150}, {2000, 40, 500}, .75, 3},
-    {"a link of 1.1, the same", {.loss = .05, .burst = 20, .delay = 25, .kilobits = 2200, .queue = 150}, {2000, 40, 500}, 1.4, 4},
+    {"10 % lost", {.loss = .1, .delay = 25}, {2000, 40, 200, 0}, .05, .2},
+    {"20 %", {.loss = .2, .delay = 25}, {2000, 40, 200, 0}, .26, .2},
+    {"30 %", {.loss = .3, .delay = 25}, {2000, 40, 200, 0}, 1.5, .3},
+    {"10 %, round trip 20, latency 120", {.loss = .1, .delay = 10}, {2000, 40, 120, 0}, .03, .2},
+    {"10 %, round trip 150, latency 600", {.loss = .1, .delay = 75}, {2000, 40, 600, 0}, .06, .3},
+    {"5 %, up to 10 ms of jitter", {.loss = .05, .delay = 18, .jitter = 10}, {2000, 40, 200, 0}, .03, 1},
+    {"20 %, up to 15 ms", {.loss = .2, .delay = 18, .jitter = 15}, {2000, 40, 200, 0}, .4, 3},
+    {"10 %, up to 40 ms", {.loss = .1, .delay = 18, .jitter = 40}, {2000, 40, 200, 0}, .25, 30},
+    {"1 %, up to 40 ms", {.loss = .01, .delay = 18, .jitter = 40}, {2000, 40, 200, 0}, .05, 2},
+    {"nothing lost, up to 60 ms, 20 Mbit/s", {.delay = 18, .jitter = 60}, {20000, 10, 200, 0}, .1, 2},
+    {"nothing lost, up to 60 ms, 8 Mbit/s", {.delay = 18, .jitter = 60}, {8000, 20, 200, 0}, .1, 2},
+    {"5 %, up to 60 ms", {.loss = .05, .delay = 18, .jitter = 60}, {2000, 40, 200, 0}, .3, 20},
+    {"2 %, up to 100 ms", {.loss = .02, .delay = 18, .jitter = 100}, {2000, 40, 200, 0}, .7, 60},
+    {"5 %, up to 150 ms", {.loss = .05, .delay = 18, .jitter = 150}, {2000, 40, 200, 0}, 3.2, 90},
+    {"a link of 1.1, .3 s out, latency 1000", {.delay = 25, .kilobits = 2200, .queue = 150, .out = 10000, .out_for = 300}, {2000, 40, 1000, 0}, .3, 1},
+    {"a link of 1.1, .5 s out, latency 500", {.delay = 25, .kilobits = 2200, .queue = 150, .out = 10000, .out_for = 500}, {2000, 40, 500, 0}, .95, .5},
+    {"a link of 1.1, 1 s out, latency 1000", {.delay = 25, .kilobits = 2200, .queue = 150, .out = 10000, .out_for = 1000}, {2000, 40, 1000, 0}, 2.3, .5},
+    {"a link of 1.1, a queue of 400, .5 s out, latency 1000", {.delay = 25, .kilobits = 2200, .queue = 400, .out = 10000, .out_for = 500}, {2000, 40, 1000, 0}, .2, 1},
+    {"a link of 1.3, 5 % in bursts of 20, latency 500", {.loss = .05, .burst = 20, .delay = 25, .kilobits = 2600, .queue = 150}, {2000, 40, 500, 0}, .75, 3},
+    {"a link of 1.1, the same", {.loss = .05, .burst = 20, .delay = 25, .kilobits = 2200, .queue = 150}, {2000, 40, 500, 0}, 1.4, 4},
 };
 
 /* The means of so many seeds. */
@@ -61,29 +61,37 @@ static void print(const char *name, const struct outcome *came) {
            100 * came->retransmitted, 100 * came->in_vain);
 }
 
+/* Whether a row is kept, where NACKs are earned by what comes or not: of a stream none is held back. */
+static int is_kept(const struct row *row, uint8_t earned) {
+    struct stream stream = row->stream;
+    stream.earned = earned;
+    const struct outcome came = mean(&stream, &row->path, SEEDS);
+    const int is_so = 100 * (came.lost + came.late) <= row->most && 100 * came.in_vain <= row->in_vain;
+    if (!earned) print(row->name, &came);
+    if (is_so) return 1;
+    if (earned) print("where NACKs are earned", &came);
+    printf("FAILED: %s: at most %.2f lost and late, and %.2f in vain\n", row->name, row->most, row->in_vain);
+    return 0;
+}
+
 static int run_rows(void) {
     int failed = 0;
-    for (size_t i = 0; i < sizeof ROWS / sizeof *ROWS; i++) {
-        const struct outcome came = mean(&ROWS[i].stream, &ROWS[i].path, SEEDS);
-        const int is_kept = 100 * (came.lost + came.late) <= ROWS[i].most && 100 * came.in_vain <= ROWS[i].in_vain;
-        print(ROWS[i].name, &came);
-        if (!is_kept) printf("FAILED: %s: at most %.2f lost and late, and %.2f in vain\n", ROWS[i].name, ROWS[i].most, ROWS[i].in_vain);
-        failed += !is_kept;
-    }
+    for (size_t i = 0; i < sizeof ROWS / sizeof *ROWS; i++)
+        for (uint8_t earned = 0; earned <= 1; earned++) failed += !is_kept(&ROWS[i], earned);
     return failed > 0;
 }
 
 static int run_one(int words, char **word) {
     struct path path = {.delay = 25, .queue = 150};
-    struct stream stream = {2000, 40, 200};
-    double latency = 200, seeds = SEEDS;
+    struct stream stream = {2000, 40, 200, 0};
+    double latency = 200, seeds = SEEDS, earned = 0;
     const struct {
         const char *name;
         double *value;
     } KEYS[] = {{"loss", &path.loss},         {"burst", &path.burst},   {"delay", &path.delay},           {"jitter", &path.jitter},
                 {"kilobits", &path.kilobits}, {"queue", &path.queue},   {"out", &path.out},               {"out_for", &path.out_for},
                 {"slow", &path.slow},         {"rate", &stream.kilobits}, {"seconds", &stream.seconds}, {"latency", &latency},
-                {"seeds", &seeds}};
+                {"seeds", &seeds},            {"earned", &earned}};
     struct outcome came;
     for (int i = 0; i < words; i++) {
         const size_t length = strcspn(word[i], "=");
@@ -96,6 +104,7 @@ static int run_one(int words, char **word) {
         *KEYS[key].value = strtod(word[i] + length + 1, NULL);
     }
     stream.latency = (uint64_t)latency;
+    stream.earned = earned > 0;
     came = mean(&stream, &path, (unsigned)seeds);
     print("this path", &came);
     return 0;

@@ -45,6 +45,7 @@ static void begin(const struct stream *stream) {
     receives.session = SESSION;
     receives.latency = stream->latency;
     EXPECT(gozdrit_receiver_new(&receives, &receiver) == GOZDRIT_OK);
+    EXPECT(gozdrit_set_nack_budget(&receiver, stream->earned) == GOZDRIT_OK);
     count = repeats = vain = 0;
     now = 0;
 }

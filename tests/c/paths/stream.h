@@ -8,6 +8,7 @@ struct stream {
     double kilobits; /* of packets of 1200 octets */
     double seconds;
     uint64_t latency;
+    uint8_t earned; /* whether NACKs are earned by what comes */
 };
 
 /* What came of it, in shares: of the packets that were sent those that were never played; those that were played more than the latency, four
