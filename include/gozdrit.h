@@ -683,8 +683,8 @@ int32_t gozdrit_set_nack_copies(gozdrit_receiver *receiver, uint8_t copies);
  * NACKs leave than datagrams came. A NACK names no more packets than have room there with four octets each behind its first twelve, and where
  * none has, gozdrit_nack writes none, and gozdrit_next_timeout tells when a packet can be played. It leaves twice only where both are earned.
  *
- * With each call it begins anew, with nothing earned, and with gozdrit_reset: call it where the sender is at another address. What was to leave once
- * more does not.
+ * With each call it begins anew, with nothing earned, and with gozdrit_reset: call it where the sender is at another address, and hand the receiver
+ * only what comes from where NACKs go. What was to leave once more does not.
  *
  *   53  earned is not 0 or 1
  */
