@@ -34,6 +34,7 @@ HEADERS = $(PREFIX)/include
 PKGCONFIG = $(LIBDIR)/pkgconfig
 MAN = $(PREFIX)/share/man
 DOC = $(PREFIX)/share/doc/gozdrit
+UNITS = $(PREFIX)/lib/systemd/system
 # A folder as the pkg-config file has it: below the prefix by that, so that a tree that was moved is found.
 below = $(patsubst $(PREFIX)/%,$${prefix}/%,$(1))
 
@@ -111,7 +112,14 @@ install: lib
 	install -m 644 docs/pictures/*.png $(DESTDIR)$(DOC)/docs/pictures
 	[ ! -x $(PROGRAM) ] || install -D -m 755 $(PROGRAM) $(DESTDIR)$(BINDIR)/rtxtool
 	[ ! -x $(RELAY) ] || install -D -m 755 $(RELAY) $(DESTDIR)$(BINDIR)/gozdrit-relay
+	[ ! -x $(RELAY) ] || [ -z "$(PREFIX)" ] || $(MAKE) -s --no-print-directory -f $(firstword $(MAKEFILE_LIST)) units PREFIX=$(PREFIX) DESTDIR=$(DESTDIR)
 	@echo "installed below $(DESTDIR)$(PREFIX); next: cc ... \$$(pkg-config --cflags --libs gozdrit), and ldconfig where the loader knows $(LIBDIR)"
+
+# A unit names the program where it is installed.
+units:
+	install -d $(DESTDIR)$(UNITS) $(DESTDIR)$(DOC)/examples
+	sed 's|@BINDIR@|$(BINDIR)|' packaging/gozdrit-relay@.service.in >$(DESTDIR)$(UNITS)/gozdrit-relay@.service
+	install -m 644 packaging/send.conf packaging/receive.conf $(DESTDIR)$(DOC)/examples
 
 # Its parts stand below no prefix, since nobody knows where a user unpacks them.
 dist: lib $(RELAY) $(PROGRAM)
@@ -124,7 +132,7 @@ uninstall:
 	rm -f $(DESTDIR)$(HEADERS)/gozdrit.h $(DESTDIR)$(HEADERS)/gozdrit_limits.h $(DESTDIR)$(PKGCONFIG)/gozdrit.pc
 	rm -f $(addprefix $(DESTDIR)$(LIBDIR)/,libgozdrit.a libgozdrit.so $(SONAME) $(SHARED))
 	rm -f $(DESTDIR)$(MAN)/man3/gozdrit.3 $(addprefix $(DESTDIR)$(MAN)/man1/,rtxtool.1 gozdrit-relay.1)
-	rm -f $(addprefix $(DESTDIR)$(BINDIR)/,rtxtool gozdrit-relay)
+	rm -f $(addprefix $(DESTDIR)$(BINDIR)/,rtxtool gozdrit-relay) $(DESTDIR)$(UNITS)/gozdrit-relay@.service
 	rm -rf $(DESTDIR)$(DOC)
 
-.PHONY: demo lib relay rtxtool install dist uninstall help
+.PHONY: demo lib relay rtxtool install units dist uninstall help
