@@ -143,6 +143,25 @@ def too_long(checks, stage):
         checks.same(lengths, {10, relay.longest}, f"{relay.side}: the lengths that came")
 
 
+def no_rtp(checks, stage):
+    """What an application sends that is no RTP is told by its name, before a session and in one: once in ten seconds."""
+    stream, odd = (b"\x47" + bytes(187)) * 7, (b"\x47" + bytes(187)) * 7 + b"\0"
+    for what, hint in (stream, "datagrams of MPEG-TS without RTP, which does not pass: send it in RTP (RFC 2250), as ffmpeg does by -f rtp_mpegts"), \
+            (reports()[0], "datagrams of RTCP, which does not pass: it has to reach the player by another way"):
+        for is_begun in False, True:
+            network = End(stage)
+            sender = stage.send(network.at, "--seconds", 1)
+            app = App(stage, sender.at, ssrc=MEDIA, number=0)
+            if is_begun:
+                app.raw(packet(96, 0, MEDIA, Content(5, 0, b"media")))
+            for one in what, odd, what:
+                app.raw(one)
+            ends(checks, "what is no RTP", sender)
+            told = [one for one in sender.errors().splitlines() if one.startswith("left out")]
+            checks.same(told, [f"left out 1 {hint}"], f"what is no RTP, {what[:2].hex()}, begun {is_begun}: told")
+            checks.same(sender.counts().get("unsent"), 3, f"what is no RTP, {what[:2].hex()}, begun {is_begun}: unsent")
+
+
 def forged(checks, stage):
     """Retransmissions: one from elsewhere is stray, one that nobody asked for, as padding, is told apart, one that was asked for is played once."""
     name, player, far, third = "retransmissions", End(stage), End(stage), stage.keep(udp())
@@ -167,4 +186,4 @@ def forged(checks, stage):
 
 
 if __name__ == "__main__":
-    part(behind, before, application, too_long, forged)
+    part(behind, before, application, too_long, no_rtp, forged)

@@ -1,4 +1,5 @@
 //! What a relay tells at the start, and where it learnt a session.
+use crate::foreign::Foreign;
 use crate::journal::shown;
 use crate::sockets::Kept;
 use lines::{Word, push_line};
@@ -83,6 +84,29 @@ pub fn push_too_long(line: &mut Vec<u8>, count: u64) -> Result<(), OutOfMemory> 
             Word::Text(b"packets whose payload has more than"),
             Word::Decimal(MAX_PAYLOAD as u64),
             Word::Text(b"octets: make relay PAYLOAD=N builds a relay that carries N"),
+        ],
+    )
+}
+
+/// The line of what was left out since it is no RTP, with what to do.
+pub fn push_foreign(line: &mut Vec<u8>, count: u64, what: Foreign) -> Result<(), OutOfMemory> {
+    let (name, hint): (&[u8], &[u8]) = match what {
+        Foreign::Control => (
+            b"datagrams of RTCP,",
+            b"which does not pass: it has to reach the player by another way",
+        ),
+        Foreign::TransportStream => (
+            b"datagrams of MPEG-TS without RTP,",
+            b"which does not pass: send it in RTP (RFC 2250), as ffmpeg does by -f rtp_mpegts",
+        ),
+    };
+    push_line(
+        line,
+        &[
+            Word::Text(b"left out"),
+            Word::Decimal(count),
+            Word::Text(name),
+            Word::Text(hint),
         ],
     )
 }

@@ -1,8 +1,9 @@
 //! The sockets of the machine, its clock, and what is told of a run.
 use crate::counts::Counts;
 use crate::draws::Draws;
+use crate::foreign::foreign;
 use crate::greeting::{
-    push_failed, push_full, push_moved, push_session, push_strays, push_too_long,
+    push_failed, push_foreign, push_full, push_moved, push_session, push_strays, push_too_long,
 };
 use crate::hindrance::hindered_by;
 use crate::journal::Journal;
@@ -57,6 +58,8 @@ pub struct Host<'a> {
     application: Option<SocketAddr>,
     /// Packets whose payload is too long.
     too_long: Seldom,
+    /// What came that is no RTP.
+    foreign: Seldom,
     /// Datagrams that the system did not take.
     failed: Seldom,
     /// The moment of the last wait's end.
@@ -106,6 +109,7 @@ impl<'a> Host<'a> {
             strays: Seldom::NONE,
             application: None,
             too_long: Seldom::NONE,
+            foreign: Seldom::NONE,
             failed: Seldom::NONE,
             moment: 0,
             stats: match stats {
@@ -332,6 +336,20 @@ impl<'a> Host<'a> {
         }
     }
 
+    /// Writes the line of what is no RTP, and known all the same, at most each ten seconds.
+    fn tell_foreign(&mut self, note: &Note, octets: &[u8], now: u64) {
+        let Some(what) = foreign(note, octets) else {
+            return;
+        };
+        let Some(count) = self.foreign.come(now) else {
+            return;
+        };
+        self.line.clear();
+        if push_foreign(&mut self.line, count, what).is_ok() {
+            let _ = self.rt.stderr().write_all(&self.line);
+        }
+    }
+
     /// Counts a datagram that the system did not take, and writes the line of such, at most each ten seconds.
     fn fail(&mut self, error: &io::Error, to: SocketAddr) {
         self.counts.fail(hindered_by(error.raw_os_error()));
@@ -423,6 +441,7 @@ impl Outside for Host<'_> {
         self.tell_far(&turn.note);
         self.tell_strays(&turn.note, now);
         self.tell_too_long(&turn.note, octets, now);
+        self.tell_foreign(&turn.note, octets, now);
         self.tell_shortage(&turn.note, now);
     }
 }

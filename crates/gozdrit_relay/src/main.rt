@@ -8,6 +8,7 @@ mod counts;
 mod draws;
 mod entry;
 mod fault;
+mod foreign;
 mod greeting;
 mod help;
 mod hindrance;

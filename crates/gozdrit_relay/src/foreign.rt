@@ -1,0 +1,30 @@
+//! What an application sends to a relay that is no RTP, where it is known what it is.
+ghost use Rattle.std.specs.Prelude.{◌≡◌, ◌↔◌, ◌<◌, ◌%◌, length, get_or, true};
+
+use endpoint::is_control;
+use relays::Note;
+
+/// What it is.
+#[derive(Clone, Copy, Debug, PartialEq, Eq)]
+pub enum Foreign {
+    /// RTCP, which has a port of its own (RFC 3550, section 11), or comes beside the media where both share one (RFC 5761).
+    Control,
+    /// MPEG-2 transport stream without RTP.
+    TransportStream,
+}
+
+/// What octets are that a relay before the network sent nowhere, as a note has it.
+pub fn foreign(note: &Note, octets: &[u8]) -> Option<Foreign> {
+    match note {
+        Note::Unsent if is_transport_stream(octets) => Some(Foreign::TransportStream),
+        Note::Unsent if is_control(octets) => Some(Foreign::Control),
+        _ => None,
+    }
+}
+
+/// Whether octets are packets of a transport stream: of 188 octets each, of which the first is 0x47 (ISO/IEC 13818-1, section 2.4.3.2).
+fn is_transport_stream(octets: &[u8]) -> bool
+    ensures { result ≡ true ↔ ((0 < length octets.now) × (length octets.now % 188 ≡ 0) × (get_or octets.now 0 0 ≡ 0x47)) }
+{
+    !octets.is_empty() && octets.len() % 188 == 0 && octets[0] == 0x47
+}
