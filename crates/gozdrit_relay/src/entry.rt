@@ -188,6 +188,7 @@ fn go<'a, R: Relay + Drop, L: Learner<R> + Drop>(
     let journal = journal(rt, options, shows_repair)?;
     let stats = match options.stats {
         None if rt.stderr().is_terminal() => Some(1),
+        None => Some(60),
         stats => stats,
     };
     let draws = Draws::new(options.seed, options.loss);

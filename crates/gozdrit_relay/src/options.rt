@@ -177,7 +177,7 @@ fn of_run<'a>(alloc: Global, command: Command<'a>) -> Result<Command<'a>, AllocE
             alloc,
             "stats",
             "SECONDS",
-            "A line of counts each so many seconds; 1 where standard error is a terminal",
+            "A line of counts each so many seconds; 1 where standard error is a terminal, else 60",
         ))?
         .arg(option(alloc, "log", "FILE", "A line for each event"))?
         .arg(option(
