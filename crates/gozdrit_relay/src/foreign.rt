@@ -14,7 +14,7 @@ pub enum Foreign {
 }
 
 /// What octets are that a relay before the network sent nowhere, as a note has it.
-pub fn foreign(note: &Note, octets: &[u8]) -> Option<Foreign> {
+pub fn told_apart(note: &Note, octets: &[u8]) -> Option<Foreign> {
     match note {
         Note::Unsent if is_transport_stream(octets) => Some(Foreign::TransportStream),
         Note::Unsent if is_control(octets) => Some(Foreign::Control),

@@ -1,7 +1,7 @@
 //! The sockets of the machine, its clock, and what is told of a run.
 use crate::counts::Counts;
 use crate::draws::Draws;
-use crate::foreign::foreign;
+use crate::foreign::told_apart;
 use crate::greeting::{
     push_failed, push_foreign, push_full, push_moved, push_session, push_strays, push_too_long,
 };
@@ -338,7 +338,7 @@ impl<'a> Host<'a> {
 
     /// Writes the line of what is no RTP, and known all the same, at most each ten seconds.
     fn tell_foreign(&mut self, note: &Note, octets: &[u8], now: u64) {
-        let Some(what) = foreign(note, octets) else {
+        let Some(what) = told_apart(note, octets) else {
             return;
         };
         let Some(count) = self.foreign.come(now) else {
