@@ -2,7 +2,6 @@
 ghost use Rattle.std.specs.Prelude.{◌≡◌, ◌↔◌, ◌<◌, ◌%◌, length, get_or, true};
 
 use endpoint::is_control;
-use relays::Note;
 
 /// What it is.
 #[derive(Clone, Copy, Debug, PartialEq, Eq)]
@@ -13,12 +12,14 @@ pub enum Foreign {
     TransportStream,
 }
 
-/// What octets are that a relay before the network sent nowhere, as a note has it.
-pub fn told_apart(note: &Note, octets: &[u8]) -> Option<Foreign> {
-    match note {
-        Note::Unsent if is_transport_stream(octets) => Some(Foreign::TransportStream),
-        Note::Unsent if is_control(octets) => Some(Foreign::Control),
-        _ => None,
+/// What octets are that a relay before the network sent nowhere.
+pub fn told_apart(octets: &[u8]) -> Option<Foreign> {
+    if is_transport_stream(octets) {
+        Some(Foreign::TransportStream)
+    } else if is_control(octets) {
+        Some(Foreign::Control)
+    } else {
+        None
     }
 }
 

@@ -336,9 +336,10 @@ impl<'a> Host<'a> {
         }
     }
 
-    /// Writes the line of what is no RTP, and known all the same, at most each ten seconds.
-    fn tell_foreign(&mut self, note: &Note, octets: &[u8], now: u64) {
-        let Some(what) = told_apart(note, octets) else {
+    /// Writes the line of what is no RTP, and known all the same, at most each ten seconds. By itself, as only what is not sent is looked at.
+    #[inline(never)]
+    fn tell_foreign(&mut self, octets: &[u8], now: u64) {
+        let Some(what) = told_apart(octets) else {
             return;
         };
         let Some(count) = self.foreign.come(now) else {
@@ -441,7 +442,9 @@ impl Outside for Host<'_> {
         self.tell_far(&turn.note);
         self.tell_strays(&turn.note, now);
         self.tell_too_long(&turn.note, octets, now);
-        self.tell_foreign(&turn.note, octets, now);
+        if matches!(turn.note, Note::Unsent) {
+            self.tell_foreign(octets, now);
+        }
         self.tell_shortage(&turn.note, now);
     }
 }
