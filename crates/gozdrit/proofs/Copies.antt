@@ -1,8 +1,8 @@
 -- A NACK has 268 octets at most, so that there is room for a copy of it; and an ask behind it writes that.
-use Rattle.std.proofs.Common.{◌≡◌, ℕ, ◌*◌, ◌≤◌, ◌==◌, ◌&&◌, nat_lt, min, Bool, true, false, List, [], ◌∷◌, drop, length, take, Option, Some, None, Result, Ok, Err, refl, sym, ap, subst, arith, ◌∙◌, if◌then◌else◌}
+use Rattle.std.proofs.Common.{◌≡◌, ℕ, ◌+◌, ◌*◌, ◌≤◌, ◌==◌, ◌&&◌, nat_lt, min, Bool, true, false, List, [], ◌∷◌, ◌++◌, drop, length, take, Option, Some, None, Result, Ok, Err, refl, sym, ap, subst, arith, ◌∙◌, if◌then◌else◌}
 use Rattle.std.specs.Prelude.{◌||◌, not, IsSome}
 use Rattle.std.specs.List.{flat_map}
-use Rattle.std.proofs.lemmas.List.{length-take-le, take_at}
+use Rattle.std.proofs.lemmas.List.{length-append, length-take-le, take_at}
 use Rattle.std.proofs.lemmas.Option.{none-some}
 use Rattle.std.proofs.Math.Nat.{min-le_left, min-le_right}
 use Rattle.arrayvec.specs.ArrayVec.{ArrayVec}
@@ -127,33 +127,52 @@ leaves_once r mid now most out out' answer none once next =
     let keeps = kept_earned r.budget r first.0 now most out out' answer first.1 in
     ap (λ (x : Receiver). x.again) first.2 ∙ once_by answer out' first.0 (keeps.twice ∙ once) ∙ keeps.again ∙ none
 
--- Where it leaves twice, and nothing has to be earned, it is to leave once more.
-twice_behind : (nack : List ℕ) (r : Receiver) (budget : Option FeedbackBudget) → leaves_twice r ≡ true → budget ≡ None
-    → (copied_where (leaves_twice r && is_earned (length nack) (budget_without (length nack) budget)) nack (record r { budget = budget_without (length nack) budget })).again ≡ Some (record { items = nack })
-twice_behind nack r None twice free = ap (λ (b : Bool). (copied_where (b && true) nack (record r { budget = None })).again) twice
-twice_behind nack r (Some b) twice free = absurd (none-some _ (sym free))
+-- A NACK that was written has so many octets.
+front_written : (space most : ℕ) (before : Receiver) (now : ℕ) (out : List ℕ) (len : ℕ) (out' : List ℕ) (mid : Receiver) → AsksFront space most before now out (Ok (Some len)) out' mid → len ≤ length out'
+front_written space most before now out len out' mid asks =
+    let within : len ≤ length asks.front = asks.asks.asks.1.within in
+    let more : length (asks.front ++ drop space out) ≡ length asks.front + length (drop space out) = length-append asks.front (drop space out) in
+    let whole : length out' ≡ length (asks.front ++ drop space out) = ap length asks.whole in
+    omega (arith, within, more, whole)
 
-again_after : (r mid : Receiver) (now most len : ℕ) (out out' : List ℕ) → r.again ≡ None → r.budget ≡ None → leaves_twice r ≡ true → AsksNext r.again r now most out (Ok (Some len)) out' mid
+within_written : (little : Bool) (room most : ℕ) (before : Receiver) (now : ℕ) (out : List ℕ) (len : ℕ) (out' : List ℕ) (mid : Receiver) → AsksWithin little room most before now out (Ok (Some len)) out' mid → len ≤ length out'
+within_written true room most before now out len out' mid asks = let never = asks.0 in absurd (cc)
+within_written false room most before now out len out' mid asks = front_written (min (length out) room) (min most (fewer_in room)) before now out len out' mid asks
+
+earned_written : (b : Option FeedbackBudget) (before mid : Receiver) (now most len : ℕ) (out out' : List ℕ) → AsksEarned b before now most out (Ok (Some len)) out' mid → len ≤ length out'
+earned_written None before mid now most len out out' asks = asks.asks.1.within
+earned_written (Some b) before mid now most len out out' asks = within_written (nat_lt (room_in (Some b)) 16) (room_in (Some b)) most before now out len out' mid asks
+
+-- Where it leaves twice, and both are earned, it is to leave once more.
+twice_behind : (nack : List ℕ) (r : Receiver) (budget : Option FeedbackBudget) → leaves_twice r ≡ true → is_earned (length nack) budget ≡ true
+    → (copied_where (leaves_twice r && is_earned (length nack) budget) nack (record r { budget = budget })).again ≡ Some (record { items = nack })
+twice_behind nack r budget twice earned =
+    ap (λ (x : Bool). (copied_where (x && is_earned (length nack) budget) nack (record r { budget = budget })).again) twice
+    ∙ ap (λ (x : Bool). (copied_where (true && x) nack (record r { budget = budget })).again) earned
+
+again_after : (r mid : Receiver) (now most len : ℕ) (out out' : List ℕ) → r.again ≡ None → is_earned len (budget_without len r.budget) ≡ true → leaves_twice r ≡ true → AsksNext r.again r now most out (Ok (Some len)) out' mid
     → mid.again ≡ Some (record { items = take len out' })
-again_after r mid now most len out out' none free twice next =
+again_after r mid now most len out out' none earned twice next =
     let first = subst (λ (a : Option (ArrayVec ℕ)). AsksNext a r now most out (Ok (Some len)) out' mid) none next in
     let keeps = kept_earned r.budget r first.0 now most out out' (Ok (Some len)) first.1 in
-    ap (λ (x : Receiver). x.again) first.2 ∙ twice_behind (take len out') first.0 first.0.budget (keeps.twice ∙ twice) (keeps.budget ∙ free)
+    let nack = take len out' in
+    let whole : length nack ≡ len = length-take-le len out' (earned_written r.budget r first.0 now most len out out' first.1) in
+    let has : is_earned (length nack) (budget_without (length nack) first.0.budget) ≡ true =
+    ap (λ (n : ℕ). is_earned n (budget_without n first.0.budget)) whole ∙ ap (λ (b : Option FeedbackBudget). is_earned len (budget_without len b)) keeps.budget ∙ earned in
+    ap (λ (x : Receiver). x.again) first.2 ∙ twice_behind nack first.0 (budget_without (length nack) first.0.budget) (keeps.twice ∙ twice) has
 
--- A NACK that was written has so many octets.
-written : (r mid : Receiver) (now most len : ℕ) (out out' : List ℕ) → r.again ≡ None → r.budget ≡ None → AsksNext r.again r now most out (Ok (Some len)) out' mid → length (take len out') ≡ len
-written r mid now most len out out' none free next =
+written : (r mid : Receiver) (now most len : ℕ) (out out' : List ℕ) → r.again ≡ None → AsksNext r.again r now most out (Ok (Some len)) out' mid → length (take len out') ≡ len
+written r mid now most len out out' none next =
     let first = subst (λ (a : Option (ArrayVec ℕ)). AsksNext a r now most out (Ok (Some len)) out' mid) none next in
-    let asks = subst (λ (b : Option FeedbackBudget). AsksEarned b r now most out (Ok (Some len)) out' first.0) free first.1 in
-    length-take-le len out' asks.asks.1.within
+    length-take-le len out' (earned_written r.budget r first.0 now most len out out' first.1)
 
 -- The second time its octets are the same.
-pub second_copy : (r mid after : Receiver) (now later most next_most len : ℕ) (out out' next next' : List ℕ) (answer : Result (Option ℕ) TooShort) → r.again ≡ None → r.budget ≡ None → leaves_twice r ≡ true
+pub second_copy : (r mid after : Receiver) (now later most next_most len : ℕ) (out out' next next' : List ℕ) (answer : Result (Option ℕ) TooShort) → r.again ≡ None → is_earned len (budget_without len r.budget) ≡ true → leaves_twice r ≡ true
     → AsksNext r.again r now most out (Ok (Some len)) out' mid → len ≤ length next → AsksNext mid.again mid later next_most next answer next' after
     → (answer ≡ Ok (Some len)) × (take len next' ≡ take len out') × (after ≡ record mid { again = None })
-second_copy r mid after now later most next_most len out out' next next' answer none free twice first room second =
-    let kept = again_after r mid now most len out out' none free twice first in
-    let whole = written r mid now most len out out' none free first in
+second_copy r mid after now later most next_most len out out' next next' answer none earned twice first room second =
+    let kept = again_after r mid now most len out out' none earned twice first in
+    let whole = written r mid now most len out out' none first in
     let copied = subst (λ (a : Option (ArrayVec ℕ)). AsksNext a mid later next_most next answer next' after) kept second in
     let done = copied.fits (subst (λ (n : ℕ). n ≤ length next) (sym whole) room) in
     (done.0 ∙ ap (λ (n : ℕ). Ok (Some n)) whole, ap (take len) done.1 ∙ take_at (take len out') _ len whole, done.2)

@@ -7,6 +7,7 @@ ghost use Rattle.gozdrit.specs.declared.config.ReceiverFields.{ReceiverFields};
 ghost use Rattle.gozdrit.specs.Config.{streams_of, sender_config, receiver_config, probation_of, rule_of};
 ghost use Rattle.timing.specs.FeedbackBudget.{room_of};
 ghost use Rattle.timing.specs.declared.feedback_budget.FeedbackBudget.{FeedbackBudget};
+ghost use Rattle.gozdrit.specs.Budget.{budget_without, is_earned};
 ghost use Rattle.gozdrit.specs.Ends.{Receiver, Sender};
 ghost use Rattle.gozdrit.specs.Following.{AsksNext, leaves_twice};
 ghost use Rattle.gozdrit.specs.Sending.{IsNewSender, rule_now, set_to, told_at};
@@ -79,10 +80,10 @@ pub fn longer_configurations_say_no_more()
     ensures says_more { (known size octet : ℕ) (before after : List ℕ) → 0 < octet → SaysKnown known size (before ++ octet ∷ after) → ⊥ }
 {}
 
-/// A NACK that leaves twice leaves the second time with the octets of the first time, whenever that is, and no third time, where nothing has to be
-/// earned. What it names is asked for once, and counted once.
+/// A NACK that leaves twice leaves the second time with the octets of the first time, whenever that is, and no third time, where both are
+/// earned, as they are where nothing has to be. What it names is asked for once, and counted once.
 pub fn nacks_leave_twice()
-    ensures second { (r mid after : Receiver) (now later most next_most len : ℕ) (out out' next next' : List ℕ) (answer : Result (Option ℕ) TooShort) → r.again ≡ None → r.budget ≡ None → leaves_twice r ≡ true
+    ensures second { (r mid after : Receiver) (now later most next_most len : ℕ) (out out' next next' : List ℕ) (answer : Result (Option ℕ) TooShort) → r.again ≡ None → is_earned len (budget_without len r.budget) ≡ true → leaves_twice r ≡ true
         → AsksNext r.again r now most out (Ok (Some len)) out' mid → len ≤ length next → AsksNext mid.again mid later next_most next answer next' after
         → (answer ≡ Ok (Some len)) × (take len next' ≡ take len out') × (after ≡ record mid { again = None }) }
     ensures once { (r mid : Receiver) (now most : ℕ) (out out' : List ℕ) (answer : Result (Option ℕ) TooShort) → r.again ≡ None → leaves_twice r ≡ false
