@@ -8,11 +8,12 @@
 #include <string.h>
 
 enum { STORE = 1024, OCTETS = 1200, TIMES = 2000, FAR = 1000000000, ROOM = GOZDRIT_MAX_DATAGRAM };
+enum { HEAD = 12, FULL = 64, MOST = 396 }; /* octets before the pairs of a NACK, and how many a NACK has of a receiver here, and at most */
 static const gozdrit_session SESSION = {0x11111111, 0x22222222, 0x33333333, 96, 97, 0};
 
 static gozdrit_sender sender;
 static gozdrit_receiver receiver;
-static uint8_t payload[OCTETS], datagram[ROOM], nack[GOZDRIT_MAX_NACK_DATAGRAM], room[GOZDRIT_MAX_PAYLOAD];
+static uint8_t payload[OCTETS], datagram[ROOM], nack[GOZDRIT_MAX_NACK_DATAGRAM], room[GOZDRIT_MAX_PAYLOAD], vain[HEAD + 4 * MOST];
 static uint64_t now;
 static uint16_t number;
 
@@ -149,16 +150,21 @@ static void read_next(void) {
     EXPECT(!gozdrit_next_timeout(&receiver, &timeout) && !timeout.known);
 }
 
+/* Writes a NACK of full pairs, one behind the other. */
+static void write_pairs(uint8_t *to, uint16_t first, uint16_t pairs) {
+    const uint16_t words = (uint16_t)(2 + pairs);
+    const uint8_t head[HEAD] = {0x81, 205, (uint8_t)(words >> 8), (uint8_t)words, 0x33, 0x33, 0x33, 0x33, 0x11, 0x11, 0x11, 0x11};
+    memcpy(to, head, sizeof head);
+    for (uint16_t i = 0; i < pairs; i++, first = (uint16_t)(first + 17)) {
+        const uint8_t pair[4] = {(uint8_t)(first >> 8), (uint8_t)first, 0xff, 0xff};
+        memcpy(to + HEAD + 4 * i, pair, sizeof pair);
+    }
+}
+
 /* A NACK of 64 full pairs, and the 1088 retransmissions that it brings. The packets that they retransmit are of `begin_pairs`. */
 static void read_pairs(void) {
-    static const uint8_t head[12] = {0x81, 205, 0, 66, 0x33, 0x33, 0x33, 0x33, 0x11, 0x11, 0x11, 0x11};
-    memcpy(nack, head, sizeof head);
-    for (uint16_t i = 0; i < 64; i++) {
-        const uint16_t first = (uint16_t)(number - GOZDRIT_MAX_NACKED + 17 * i);
-        const uint8_t pair[4] = {(uint8_t)(first >> 8), (uint8_t)first, 0xff, 0xff};
-        memcpy(nack + 12 + 4 * i, pair, sizeof pair);
-    }
-    EXPECT(hear(sizeof head + 4 * 64) == GOZDRIT_MAX_NACKED);
+    write_pairs(nack, (uint16_t)(number - GOZDRIT_MAX_NACKED), FULL);
+    EXPECT(hear(HEAD + 4 * FULL) == GOZDRIT_MAX_NACKED);
     for (int i = 0; i < GOZDRIT_MAX_NACKED; i++) EXPECT(retransmit() == 14 + OCTETS);
     EXPECT(retransmit() == 0);
 }
@@ -167,6 +173,20 @@ static void begin_pairs(void) {
     make_sender(2 * STORE);
     for (int i = 0; i < 3 * STORE; i++) send_next();
     read_pairs();
+}
+
+/* A NACK of as many full pairs as a datagram holds, of which the history has nothing: who knows the SSRCs can send as many as he likes. */
+static void hear_in_vain(void) {
+    gozdrit_outcome outcome = GOZDRIT_OUTCOME_INIT;
+    EXPECT(!gozdrit_feedback(&sender, vain, sizeof vain, &outcome) && outcome.nacked == 17 * MOST);
+    EXPECT(outcome.not_in_history == 17 * MOST && outcome.queued == 0);
+}
+
+/* It is told the time, so that it looks for the answer's as well. */
+static void begin_in_vain(void) {
+    begin_sending();
+    EXPECT(!gozdrit_sender_set_time(&sender, now));
+    write_pairs(vain, number, MOST);
 }
 
 /* ---- a session: a packet a millisecond, and NACKs each twenty; what is lost is asked for again */
@@ -225,6 +245,7 @@ static const struct {
     {"NACK, nothing missing", begin_receiving, ask_in_vain, TIMES},
     {"NACK of 100", begin_missing, ask_for_hundred, TIMES / 20},
     {"64 full pairs and their retransmissions", begin_pairs, read_pairs, 5},
+    {"NACK of 396 pairs that are not kept", begin_in_vain, hear_in_vain, TIMES / 20},
     {"next moment, nothing missing", begin_playing, read_next, TIMES},
 };
 

@@ -218,6 +218,114 @@ fn a_history_from_start_to_end(rt: HostRuntime) -> Result<(), Fail> {
     Ok(())
 }
 
+/// From which numbers on 17 have no entry, or one has, in a history of this capacity to which so many were pushed from this place on.
+#[derive(Drop)]
+struct Edges {
+    capacity: usize,
+    first: u64,
+    pushes: u8,
+    free: &'static [u16],
+    taken: &'static [u16],
+}
+
+/// Whether a history of this kind has them so.
+fn has_edges<H: History>(alloc: Global, edges: &Edges) -> Result<bool, Fail>
+    requires nonzero { 0 < edges.now.capacity }
+    requires limit { edges.now.capacity ≤ 8192 }
+{
+    let mut sending: Sending<H> = start(alloc, edges.capacity, edges.first).map_err(
+        |_| "memory is ample",
+    )?;
+    for _ in 0..edges.pushes {
+        push(&mut sending, 0)?;
+    }
+    let mut is_so = true;
+    for first in edges.free {
+        is_so = is_so && sending.history.has_none_of_17(*first);
+    }
+    for first in edges.taken {
+        is_so = is_so && !sending.history.has_none_of_17(*first);
+    }
+    Ok(is_so)
+}
+
+/// The same of both kinds.
+fn have_edges(alloc: Global, edges: Edges) -> Result<bool, Fail>
+    requires nonzero { 0 < edges.capacity }
+    requires limit { edges.capacity ≤ 8192 }
+{
+    Ok(has_edges::<ListHistory>(alloc, &edges)? && has_edges::<RingHistory>(alloc, &edges)?)
+}
+
+#[test]
+fn seventeen_numbers_of_an_empty_history(rt: HostRuntime) -> Result<(), Fail> {
+    let edges = Edges {
+        capacity: 3,
+        first: 0,
+        pushes: 0,
+        free: &[0, 1, 32768, 65519, 65520, 65535],
+        taken: &[],
+    };
+    assert!(rt; have_edges(rt.alloc(), edges)?);
+    Ok(())
+}
+
+/// Of 100 to 104 the last four are kept.
+#[test]
+fn seventeen_numbers_about_four(rt: HostRuntime) -> Result<(), Fail> {
+    let edges = Edges {
+        capacity: 4,
+        first: 100,
+        pushes: 5,
+        free: &[0, 84, 105, 32872, 65535],
+        taken: &[85, 88, 100, 101, 104],
+    };
+    assert!(rt; have_edges(rt.alloc(), edges)?);
+    Ok(())
+}
+
+/// 65534, 65535, 0 and 1, one cycle up.
+#[test]
+fn seventeen_numbers_about_a_wrap(rt: HostRuntime) -> Result<(), Fail> {
+    let edges = Edges {
+        capacity: 4,
+        first: 131070,
+        pushes: 4,
+        free: &[2, 32768, 65517],
+        taken: &[65518, 65534, 65535, 0, 1],
+    };
+    assert!(rt; have_edges(rt.alloc(), edges)?);
+    Ok(())
+}
+
+/// 3 and 4, which begin a cycle: what lies before them ends the one before.
+#[test]
+fn seventeen_numbers_before_the_first(rt: HostRuntime) -> Result<(), Fail> {
+    let edges = Edges {
+        capacity: 64,
+        first: 3,
+        pushes: 2,
+        free: &[5, 65519, 65522],
+        taken: &[65523, 65535, 0, 3, 4],
+    };
+    assert!(rt; have_edges(rt.alloc(), edges)?);
+    Ok(())
+}
+
+/// 200 to 239, of which 17 lie between both edges.
+#[test]
+fn seventeen_numbers_within_forty(rt: HostRuntime) -> Result<(), Fail> {
+    let edges = Edges {
+        capacity: 40,
+        first: 200,
+        pushes: 40,
+        free: &[183, 240],
+        taken: &[184, 200, 210, 223, 239],
+    };
+    assert!(rt; have_edges(rt.alloc(), edges)?);
+    Ok(())
+}
+
 /// A history of 8192, at the second try where memory is refused at the first.
 fn tried_twice<H: History>(alloc: Global) -> Result<H, Fail> {
     if let Ok(history) = H::new(alloc, 8192) {

@@ -19,4 +19,5 @@ pub mod KindsTallied
 pub mod KindsTold
 pub mod PaddingTold
 pub mod RepairsFound
-pub mod Masked
+pub mod PairCounts
+pub mod LastPair

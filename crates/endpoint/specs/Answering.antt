@@ -2,6 +2,7 @@
 use Rattle.std.specs.Prelude.{◌≡◌, ℕ, ◌+◌, ◌-◌, ◌%◌, ◌==◌, ◌&&◌, Bool, true, false, not, List, [], ◌∷◌, Option, Some, None, Result, Ok, Err, if◌then◌else◌}
 use Rattle.std.specs.Option.{option_map}
 use Rattle.fbwire.specs.declared.fault.FeedbackFault.{FeedbackFault}
+use Rattle.fbwire.specs.declared.nack.Pair.{Pair}
 use Rattle.fbwire.specs.Nack.{Nack, numbers_of}
 use Rattle.stores.specs.declared.entry.HistoryEntry.{HistoryEntry}
 use Rattle.stores.specs.Past.{Past, entry_at, numbered}
@@ -15,6 +16,11 @@ use Rattle.endpoint.specs.Moments.{times_at}
 abbrev pub last_of : (before : Option ℕ) → List ℕ → Option ℕ
 last_of before [] = before
 last_of before (n ∷ others) = last_of (Some n) others
+
+-- the last of some pairs
+abbrev pub last_pair : (before : Option Pair) → List Pair → Option Pair
+last_pair before [] = before
+last_pair before (pair ∷ others) = last_pair (Some pair) others
 
 -- the last one that such NACKs name of those that are of this session
 abbrev pub last_in : Config → (before : Option ℕ) → Nack → Option ℕ

@@ -1,12 +1,13 @@
 //! How long an answer takes, as a sender sees it by the feedback that comes.
 ghost use Rattle.std.specs.Prelude.{◌≡◌, IsSome, None};
+ghost use Rattle.fbwire.specs.Nack.{numbers_of};
 ghost use Rattle.stores.specs.Past.{entry_at};
 ghost use Rattle.sender.specs.Feedback.{is_ours};
-ghost use Rattle.endpoint.specs.Answering.{ReadsAnswer, TellsAnswer, answer_by, is_untouched, last_in, last_named, last_of};
+ghost use Rattle.endpoint.specs.Answering.{ReadsAnswer, TellsAnswer, answer_by, is_untouched, last_in, last_named, last_of, last_pair};
 
 use crate::demultiplex::is_control;
 use crate::moments::Moments;
-use fbwire::{Compound, NackView, Nacks, Numbers};
+use fbwire::{Compound, NackView, Nacks, Numbers, Pair, Pairs};
 use places::Place;
 use sender::{Sender, SenderConfig};
 use stores::{History, history_by_place};
@@ -88,10 +89,31 @@ fn last_in(nack: &NackView<'_>, config: &SenderConfig, before: Option<u16>) -> O
     ensures { result ≡ last_in config.now before nack.now }
 {
     if is_ours(nack, config) {
-        last_of(nack.numbers(), before)
+        last_of_pairs(nack.pairs(), before)
     } else {
         before
     }
+}
+
+/// The number that pairs name last: one of the last pair.
+fn last_of_pairs(pairs: Pairs<'_>, before: Option<u16>) -> Option<u16>
+    ensures { result ≡ last_of before (numbers_of pairs.entry) }
+{
+    match last_pair(pairs) {
+        Some(pair) => last_of(pair.masked(), Some(pair.pid)),
+        None => before,
+    }
+}
+
+/// The last pair.
+fn last_pair(pairs: Pairs<'_>) -> Option<Pair>
+    ensures { result ≡ last_pair None pairs.entry }
+{
+    let mut last = None;
+    for pair in pairs {
+        last = Some(pair);
+    }
+    last
 }
 
 /// The last of some numbers.

@@ -15,13 +15,13 @@ pub(crate) fn places_in(octets: &[u8]) -> u64
     }
 }
 
-/// How many these pairs name: each its PID, and one for each set bit of its mask (RFC 4585, section 6.2.1).
+/// How many these pairs name.
 fn count(pairs: Pairs<'_>) -> u64
     ensures { result ≡ count_in_64 (length (numbers_of pairs.entry)) }
 {
     let mut count = 0u64;
     for pair in pairs {
-        count = count.saturating_add(1 + u64::from(pair.blp.count_ones()));
+        count = count.saturating_add(u64::from(pair.count()));
     }
     count
 }

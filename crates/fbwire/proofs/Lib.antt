@@ -14,3 +14,4 @@ pub mod WholePackets
 pub mod InOrder
 pub mod Walks
 pub mod CheckOrder
+pub mod MaskCounts

@@ -5,7 +5,7 @@ ghost use Rattle.std.specs.Option.{option_map};
 ghost use Rattle.std.specs.Result.{result_err};
 ghost use Rattle.rtpwire.specs.Buffer.{in_front};
 ghost use Rattle.rtpwire.specs.FirstOf.{FirstOf};
-ghost use Rattle.fbwire.specs.Nack.{IsPair, Nack, NackSpells, Names, numbers_of, nack_octets, pair_octets};
+ghost use Rattle.fbwire.specs.Nack.{IsPair, Nack, NackSpells, Names, masked_numbers, pair_numbers, numbers_of, nack_octets, pair_octets};
 ghost use Rattle.fbwire.specs.Fault.{feedback_number};
 ghost use Rattle.fbwire.specs.Order.{nack_order};
 ghost use Rattle.fbwire.specs.NackChecks.{nack_fault};
@@ -35,6 +35,22 @@ pub struct Pair {
     pub pid: u16,
     /// A bit for each of the 16 packets after it.
     pub blp: u16,
+}
+
+impl Pair {
+    /// How many sequence numbers it names, from 1 to 17.
+    pub fn count(self) -> u32
+        ensures { result ≡ length (pair_numbers self) }
+    {
+        1 + self.blp.count_ones()
+    }
+
+    /// Those that it names beside the PID, from bit 1 up.
+    pub fn masked(self) -> Numbers<'static>
+        ensures { result ≡ masked_numbers self.pid self.blp }
+    {
+        Numbers::masked(self)
+    }
 }
 
 /// A generic NACK in the octets that spell it, which it borrows. Nothing is copied.

@@ -1,7 +1,7 @@
 //! The pairs of a generic NACK, and the sequence numbers that they name, one after another.
 ghost use Rattle.std.specs.Prelude.{◌≡◌, ◌≤◌, length};
 ghost use Rattle.std.specs.Iterator.{YieldsFirst, item_count};
-ghost use Rattle.fbwire.specs.Nack.{numbers_of};
+ghost use Rattle.fbwire.specs.Nack.{masked_numbers, numbers_of};
 ghost use Rattle.fbwire.specs.NackReading.{pair_in, pairs_in};
 
 use crate::nack::Pair;
@@ -92,6 +92,17 @@ impl<'a> Numbers<'a> {
             pairs,
             pid: 0,
             mask: 0,
+        }
+    }
+
+    /// The numbers that the mask of a pair names, without its PID.
+    pub(crate) fn masked(pair: Pair) -> Numbers<'a>
+        ensures { result ≡ masked_numbers pair.pid pair.blp }
+    {
+        Numbers {
+            pairs: Pairs::new(&[]),
+            pid: pair.pid,
+            mask: pair.blp,
         }
     }
 }

@@ -144,6 +144,43 @@ fn a_reporter_that_is_not_known(rt: HostRuntime) -> Result<(), Fail> {
     Ok(())
 }
 
+/// NACKs of pairs at the edges of the numbers 1 to 3: from 65520 and from 65521 on, the latter also without bit 16; from 4 and from 3 on; and from 65533 on.
+const UP_TO_0: &[u8] = b"\x81\xcd\x00\x03\x33\x33\x33\x33\x11\x11\x11\x11\xff\xf0\xff\xff";
+
+const UP_TO_1: &[u8] = b"\x81\xcd\x00\x03\x33\x33\x33\x33\x11\x11\x11\x11\xff\xf1\xff\xff";
+
+const BUT_1: &[u8] = b"\x81\xcd\x00\x03\x33\x33\x33\x33\x11\x11\x11\x11\xff\xf1\x7f\xff";
+
+const FROM_4: &[u8] = b"\x81\xcd\x00\x03\x33\x33\x33\x33\x11\x11\x11\x11\x00\x04\xff\xff";
+
+const FROM_3: &[u8] = b"\x81\xcd\x00\x03\x33\x33\x33\x33\x11\x11\x11\x11\x00\x03\xff\xff";
+
+const ROUND: &[u8] = b"\x81\xcd\x00\x03\x33\x33\x33\x33\x11\x11\x11\x11\xff\xfd\xff\xff";
+
+/// A pair from 4 on, the number 3, and a pair of the number 32768 and that behind the next one.
+const APART: &[u8] =
+    b"\x81\xcd\x00\x05\x33\x33\x33\x33\x11\x11\x11\x11\x00\x04\xff\xff\x00\x03\x00\x00\x80\x00\x00\x02";
+
+#[test]
+fn pairs_at_the_edges(rt: HostRuntime) -> Result<(), Fail> {
+    // The other sender's media is another one.
+    const ROWS: &[Row] = &[
+        (UP_TO_0, (0, [0, 1, 0, 17, 17, 0]), (18, REFUSED)),
+        (BUT_1, (0, [0, 1, 0, 16, 16, 0]), (18, REFUSED)),
+        (UP_TO_1, (0, [1, 1, 0, 17, 16, 0]), (18, REFUSED)),
+        (FROM_4, (0, [0, 1, 0, 17, 17, 0]), (18, REFUSED)),
+        (FROM_3, (0, [1, 1, 0, 17, 16, 0]), (18, REFUSED)),
+        // 1 and 3 are marked already.
+        (ROUND, (0, [1, 1, 0, 17, 14, 0]), (18, REFUSED)),
+        (APART, (0, [0, 1, 0, 20, 19, 0]), (18, REFUSED)),
+    ];
+    let first = config(0x11111111, 0x33333333, 3)?;
+    let second = config(0x55555555, 0x77777777, 3)?;
+    let told = wrong(rt.alloc(), first, second, ROWS, FROM_4)?;
+    assert_eq!(rt; told, (None, true, false));
+    Ok(())
+}
+
 /// The place of the next retransmission.
 fn repaired<H: History>(sender: &mut Sender<H>) -> Option<u64> {
     match sender.next_repair() {

@@ -13,3 +13,4 @@ pub mod SameShared
 pub mod InOrder
 pub mod InFull
 pub mod Passes
+pub mod PassedBy

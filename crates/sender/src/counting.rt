@@ -1,11 +1,12 @@
 //! What is counted of feedback that several senders share, before anything is marked for it.
 ghost use Rattle.std.specs.Prelude.{◌≡◌, [], ◌∷◌};
+ghost use Rattle.fbwire.specs.Nack.{pair_numbers, numbers_of};
 ghost use Rattle.sender.specs.Counting.{CountsNumbers, CountsNacks, AddsUp};
 
 use crate::answer::Shared;
 use crate::config::SenderConfig;
 use crate::marking::is_ours;
-use fbwire::{NackView, Nacks, Numbers};
+use fbwire::{NackView, Nacks, Numbers, Pair, Pairs};
 use stores::{History, history_by_place};
 
 /// Nothing was counted.
@@ -41,11 +42,40 @@ fn count_nack<H: History>(history: &H, nack: &NackView<'_>, config: &SenderConfi
     if !is_ours(nack, config) {
         return Shared { others: 1, ..NONE };
     }
-    let named = count_numbers(history, nack.numbers(), config.repeats());
+    let named = count_pairs(history, nack.pairs(), config.repeats());
     Shared { nacks: 1, ..named }
 }
 
-/// The counts of the numbers that a NACK names.
+/// The counts of the numbers that pairs name.
+fn count_pairs<H: History>(history: &H, pairs: Pairs<'_>, repeats: u8) -> Shared
+    ensures { CountsNumbers repeats (H.meaning history.now) (numbers_of pairs.entry) result }
+{
+    let mut shared = NONE;
+    for pair in pairs {
+        shared = sum(shared, count_pair(history, pair, repeats));
+    }
+    shared
+}
+
+/// One pair's counts. Where the history has nothing that a pair from this PID on can name, its numbers are counted together: whoever
+/// names what is not kept is to have it cheap.
+fn count_pair<H: History>(history: &H, pair: Pair, repeats: u8) -> Shared
+    ensures { CountsNumbers repeats (H.meaning history.now) (pair_numbers pair) result }
+{
+    history_by_place();
+    if history.has_none_of_17(pair.pid) {
+        let count = pair.count();
+        return Shared {
+            numbers: count,
+            unknown: count,
+            ..NONE
+        };
+    }
+    let first = count_number(history, pair.pid, repeats);
+    sum(first, count_numbers(history, pair.masked(), repeats))
+}
+
+/// The counts of numbers, one by one.
 fn count_numbers<H: History>(history: &H, numbers: Numbers<'_>, repeats: u8) -> Shared
     ensures { CountsNumbers repeats (H.meaning history.now) numbers.entry result }
 {

@@ -1,12 +1,13 @@
 //! What feedback does to a history.
 ghost use Rattle.std.specs.Prelude.{◌≡◌, ℕ, ◌≤◌, ◌<◌, [], ◌∷◌, length, None, Some, Ok, Err, MatchResult, IsFalse, if◌then◌else◌};
+ghost use Rattle.fbwire.specs.Nack.{pair_numbers, numbers_of};
 ghost use Rattle.sender.specs.Feedback as feedback;
 ghost use Rattle.sender.specs.Feedback.{first_wrong, wrong_with};
 ghost use Rattle.sender.specs.Shared.{ours, our_numbers, first_fault};
 ghost use Rattle.sender.specs.Marking.{MarksNumbers};
 
 use crate::config::SenderConfig;
-use fbwire::{FeedbackFault, NackView, Nacks, Numbers};
+use fbwire::{FeedbackFault, NackView, Nacks, Numbers, Pair, Pairs};
 use stores::{History, history_by_place};
 
 /// Whether a NACK is from this session's receiver, on its media; else what is wrong with it.
@@ -88,10 +89,35 @@ fn mark_nack<H: History>(history: &mut H, nack: &NackView<'_>, config: &SenderCo
     if !is_ours(nack, config) {
         return 0;
     }
-    mark_numbers(history, nack.numbers(), config.repeats())
+    mark_pairs(history, nack.pairs(), config.repeats())
 }
 
-/// Marks for the numbers of one NACK.
+/// Marks for the numbers that pairs name.
+fn mark_pairs<H: History>(history: &mut H, pairs: Pairs<'_>, repeats: u8) -> u32
+    ensures marks { MarksNumbers repeats (numbers_of pairs.entry) (H.meaning history.old) result (H.meaning history.new) }
+    ensures few { result ≤ 8192 }
+{
+    let mut count = 0;
+    for pair in pairs {
+        count += mark_pair(history, pair, repeats);
+    }
+    count
+}
+
+/// Marks for the numbers of one pair. There is nothing to mark where the history has nothing that a pair from this PID on can name.
+fn mark_pair<H: History>(history: &mut H, pair: Pair, repeats: u8) -> u32
+    ensures marks { MarksNumbers repeats (pair_numbers pair) (H.meaning history.old) result (H.meaning history.new) }
+    ensures few { result ≤ 8192 }
+{
+    history_by_place();
+    if history.has_none_of_17(pair.pid) {
+        return 0;
+    }
+    let first = u32::from(mark_number(history, pair.pid, repeats));
+    first + mark_numbers(history, pair.masked(), repeats)
+}
+
+/// Marks for numbers, one by one.
 fn mark_numbers<H: History>(history: &mut H, numbers: Numbers<'_>, repeats: u8) -> u32
     ensures marks { MarksNumbers repeats numbers.entry (H.meaning history.old) result (H.meaning history.new) }
     ensures few { result ≤ 8192 }

@@ -30,3 +30,4 @@ pub mod EntryNumbers
 pub mod Filling
 pub mod CellSteps
 pub mod Determined
+pub mod NoneOf17

@@ -1,5 +1,5 @@
 -- What a history is to its callers: the latest entries, one for each place, the oldest first.
-use Rattle.std.specs.Prelude.{◌≡◌, ℕ, ◌+◌, ◌-◌, ◌^◌, ◌<◌, ◌≤◌, ◌==◌, Bool, true, false, List, [], ◌∷◌, ◌++◌, length, map, drop, slice_get, Option, Some, if◌then◌else◌}
+use Rattle.std.specs.Prelude.{◌≡◌, ℕ, ◌+◌, ◌-◌, ◌%◌, ◌^◌, ◌<◌, ◌≤◌, ◌==◌, nat_lt, is_none, Bool, true, false, List, [], ◌∷◌, ◌++◌, length, map, drop, slice_get, Option, Some, if◌then◌else◌}
 use Rattle.std.specs.Option.{ForSome, option_map}
 use Rattle.std.specs.List.{find}
 use Rattle.places.specs.Place.{number}
@@ -48,6 +48,14 @@ first_place test entries = option_map (λ (entry : HistoryEntry). entry.place) (
 -- the place of the entry with this sequence number, if there is one
 abbrev pub numbered : Past → ℕ → Option ℕ
 numbered h n = first_place (λ (entry : HistoryEntry). number entry.place == n) h.entries
+
+-- the number n is the first one or one of the 16 after it, modulo 65536
+abbrev pub is_of_17 : (first n : ℕ) → Bool
+is_of_17 first n = nat_lt ((n + 65536 - first) % 65536) 17
+
+-- no entry has one of these 17 sequence numbers
+abbrev pub has_none_of_17 : Past → (first : ℕ) → Bool
+has_none_of_17 h first = is_none (first_place (λ (entry : HistoryEntry). is_of_17 first (number entry.place)) h.entries)
 
 -- the least place whose entry is marked
 abbrev pub least_marked : Past → Option ℕ

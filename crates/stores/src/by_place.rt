@@ -1,4 +1,4 @@
-ghost use Rattle.std.specs.Prelude.{◌≡◌, ◌↔◌, ℕ, ◌+◌, ◌-◌, ◌^◌, ◌<◌, ◌≤◌, true, Some, IsSome, IsSomeAnd, OnOk, OnErr, Option, Result};
+ghost use Rattle.std.specs.Prelude.{◌≡◌, ◌↔◌, ℕ, ◌+◌, ◌-◌, ◌%◌, ◌^◌, ◌<◌, ◌≤◌, true, Some, None, IsSome, IsSomeAnd, OnOk, OnErr, Option, Result};
 ghost use Rattle.std.specs.List.{range_with_len};
 ghost use Rattle.std.specs.Option.{ForSome};
 ghost use Rattle.places.specs.Place.{number};
@@ -11,7 +11,7 @@ ghost use Rattle.stores.specs.ByPlace.{slot_at, IsInside, PutStep, LosesFront};
 ghost use Rattle.stores.specs.PlaceLists.{Lists};
 ghost use Rattle.stores.specs.Asking.{is_due, is_missing, places_of, due_places, missing_places, CanBeAsked, asked, CountsAsk};
 ghost use Rattle.stores.specs.declared.entry.HistoryEntry.{HistoryEntry};
-ghost use Rattle.stores.specs.Past.{Past, IsPast, first_of, next_of, entry_at, pushed, marked, marked_at, unmarked, unmarked_at, repeated, repeated_at};
+ghost use Rattle.stores.specs.Past.{Past, IsPast, first_of, next_of, entry_at, numbered, has_none_of_17, pushed, marked, marked_at, unmarked, unmarked_at, repeated, repeated_at};
 ghost use Rattle.stores.specs.PastByPlace.{IsKept, Pushes, Changes, Finds, FindsLeast};
 
 /// What the calls of a window mean place by place. It computes nothing: its contract is a law on the
@@ -81,4 +81,8 @@ pub fn history_by_place()
     ensures one { (h : Past) (p q : ℕ) → IsPast h → IsSome (entry_at h p) → IsSome (entry_at h q) →
         number p ≡ number q → p ≡ q }
     ensures least_marked { (h : Past) → IsPast h → FindsLeast h }
+
+    // What `has_none_of_17` answers: whether `find` answers no place for each of the 17 numbers.
+    ensures none { (h : Past) (first : ℕ) → first < 65536 →
+        (has_none_of_17 h first ≡ true) ↔ ((i : ℕ) → i ≤ 16 → numbered h ((first + i) % 65536) ≡ None) }
 {}

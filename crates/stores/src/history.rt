@@ -1,6 +1,6 @@
 ghost use Rattle.std.specs.Prelude.{◌≡◌, ◌<◌, ◌≤◌, IfOk, Some, IsSome, IsSomeAnd};
 ghost use Rattle.std.specs.Option.{ForSome};
-ghost use Rattle.stores.specs.Past.{Past, IsPast, empty_past, next_of, entry_at, pushed, numbered, least_marked, marked_at, unmarked_at, CanBeRepeated, repeated_at};
+ghost use Rattle.stores.specs.Past.{Past, IsPast, empty_past, next_of, entry_at, pushed, numbered, has_none_of_17, least_marked, marked_at, unmarked_at, CanBeRepeated, repeated_at};
 
 use crate::entry::HistoryEntry;
 use crate::memory::OutOfMemory;
@@ -44,6 +44,11 @@ pub trait History: Drop {
     /// The place of the entry with this sequence number, if there is one. No two entries have the same.
     fn find(&self, number: u16) -> Option<Place>
         ensures { result ≡ numbered (meaning self.now) number };
+
+    /// Whether no entry has this sequence number or one of the 16 after it, modulo 65536: all that a pair of a NACK can name. It
+    /// takes no longer than [`find`](History::find) does for one of them.
+    fn has_none_of_17(&self, first: u16) -> bool
+        ensures { result ≡ has_none_of_17 (meaning self.now) first };
 
     /// The entry of this place, which must be there.
     fn get(&self, place: Place) -> &HistoryEntry

@@ -1,6 +1,8 @@
 ghost use Rattle.std.specs.Prelude.{◌≡◌, ◌+◌, ◌-◌, ◌^◌, ◌<◌, ◌≤◌, IsSome, length, drop, slice_get};
 ghost use Rattle.std.specs.Vec.{vec_capacity};
-ghost use Rattle.stores.specs.Past.{IsRun, entry_of};
+ghost use Rattle.places.specs.Place.{number};
+ghost use Rattle.stores.specs.declared.entry.HistoryEntry.{HistoryEntry};
+ghost use Rattle.stores.specs.Past.{IsRun, entry_of, first_place, is_of_17};
 
 use crate::entry::HistoryEntry;
 use crate::history::History;
@@ -36,6 +38,17 @@ impl ListHistory {
         ensures entry { slice_get self.now.entries.items result ≡ entry_of self.now.entries.items place }
     {
         (place.value() - self.first) as usize
+    }
+
+    /// The place of the first entry that has one of the 17 numbers from this one on.
+    fn first_of_17(&self, first: u16) -> Option<Place>
+        ensures { result ≡ first_place (λ (entry : HistoryEntry). is_of_17 first (number entry.place)) self.now.entries.items }
+    {
+        let entry = self
+            .entries
+            .iter()
+            .find(|entry| entry.place.number().wrapping_sub(first) < 17)?;
+        Some(entry.place)
     }
 }
 
@@ -74,6 +87,10 @@ impl History for ListHistory {
             .iter()
             .find(|entry| entry.place.number() == number)?;
         Some(entry.place)
+    }
+
+    fn has_none_of_17(&self, first: u16) -> bool {
+        self.first_of_17(first).is_none()
     }
 
     fn get(&self, place: Place) -> &HistoryEntry {

@@ -84,6 +84,19 @@ impl History for RingHistory {
         }
     }
 
+    fn has_none_of_17(&self, first: u16) -> bool {
+        let len = self.entries.len();
+        if len == 0 {
+            return true;
+        }
+        // How far the first number is ahead of the oldest entry's. The last one must not come round to that entry.
+        let ahead = usize::from(first.wrapping_sub((self.first % 65536) as u16));
+        if ahead < len {
+            return false;
+        }
+        ahead < 65536 - 16
+    }
+
     fn get(&self, place: Place) -> &HistoryEntry {
         self.entries.get(self.index_of(place))
     }

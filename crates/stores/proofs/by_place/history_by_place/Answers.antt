@@ -1,6 +1,7 @@
 use Rattle.stores.proofs.EntryPlaces.{inside_by_place, ends_by_place, entry_by_place, same_by_place, one_by_place}
 use Rattle.stores.proofs.EntryChanges.{push_by_place, mark_by_place, unmark_by_place, repeat_by_place}
 use Rattle.stores.proofs.EntrySearch.{finds_by_place, least_by_place}
+use Rattle.stores.proofs.NoneOf17.{none_of_17}
 use Rattle.stores.proofs.by_place.history_by_place.Goals as goal
 
 pub returns-clause-inside : goal.returns-clause-inside
@@ -35,3 +36,6 @@ returns-clause-one c = one_by_place
 
 pub returns-clause-least_marked : goal.returns-clause-least_marked
 returns-clause-least_marked c = least_by_place
+
+pub returns-clause-none : goal.returns-clause-none
+returns-clause-none c = none_of_17

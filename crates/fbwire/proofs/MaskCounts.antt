@@ -1,10 +1,9 @@
--- How many numbers a mask of a generic NACK names.
-use Rattle.std.proofs.Common.{◌≡◌, ℕ, zero, suc, ◌+◌, ◌-◌, ◌/◌, ◌%◌, ◌^◌, ◌<◌, ◌≤◌, ◌==◌, Bool, true, false, List, [], ◌∷◌, ◌++◌, length, map, filter, ap, sym, ◌∙◌, refl, arith, count_ones, length-append}
+-- How many numbers a pair of a generic NACK names.
+use Rattle.std.proofs.Common.{◌≡◌, ℕ, zero, suc, ◌+◌, ◌-◌, ◌/◌, ◌%◌, ◌^◌, ◌<◌, ◌≤◌, ◌==◌, Bool, true, false, List, [], ◌∷◌, length, map, filter, ap, sym, ◌∙◌, refl, arith, count_ones}
 use Rattle.std.specs.Int.{bit_at}
-use Rattle.std.proofs.lemmas.Grind.{flat_map-append}
 use Rattle.std.proofs.lemmas.Nat.Bits.{bit_at-suc, bit_at_lowest, bit_at-lt}
 use Rattle.fbwire.specs.declared.nack.Pair.{Pair}
-use Rattle.fbwire.specs.Nack.{has_bit, up_from, mask_bits, masked_numbers, pair_numbers, numbers_of}
+use Rattle.fbwire.specs.Nack.{has_bit, up_from, mask_bits, masked_numbers, pair_numbers}
 use lib.Count.{ones_step, ones-le}
 
 abbrev weight : Bool → ℕ
@@ -51,11 +50,5 @@ masked_count : (pid mask : ℕ) → mask < 2 ^ 16 → length (masked_numbers pid
 unfolding mask_bits
 masked_count pid mask fits = length_mapped (λ i. (pid + i) % 65536) (filter (has_bit mask) (up_from 1 16)) ∙ ones_above 16 mask 1 fits
 
--- one pair more
-pub count_more : (pairs : List Pair) (pair : Pair) → pair.blp < 2 ^ 16 → length (numbers_of (pairs ++ pair ∷ [])) ≡ length (numbers_of pairs) + (1 + count_ones pair.blp)
-count_more pairs pair fits =
-    let split = ap length (flat_map-append pair_numbers pairs (pair ∷ [])) in
-    let joined = length-append (numbers_of pairs) (numbers_of (pair ∷ [])) in
-    let last = length-append (pair_numbers pair) [] in
-    let many = masked_count pair.pid pair.blp fits in
-    omega (arith, split, joined, last, many)
+pub pair_count : (pair : Pair) → pair.blp < 2 ^ 16 → length (pair_numbers pair) ≡ 1 + count_ones pair.blp
+pair_count pair fits = let many = masked_count pair.pid pair.blp fits in omega (arith, many)
