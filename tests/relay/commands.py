@@ -38,14 +38,14 @@ def runs(stage, *words):
 
 def helps(checks, stage):
     """Help and the version are the only output."""
-    for words in (["--help"], ["send", "--help"], ["receive", "--help"]):
+    for words in (["--help"], ["send", "--help"], ["receive", "--help"], ["ctl", "--help"]):
         status, out, err = runs(stage, *words)
         checks.count(status == 0 and out and not err, f"{words}: {status} {out[:50]!r} {err[:50]!r}")
     status, out, err = runs(stage, "--version")
     good = status == 0 and re.fullmatch(r"gozdrit-relay \d+\.\d+\.\d+\n", out) and not err
     checks.count(good, f"--version: {status} {out!r} {err!r}")
     for side in SIDES:
-        out, options = runs(stage, side, "--help")[1], [*NUMBERS, *OF_SIDE[side], "listen", "to", "from", "log"]
+        out, options = runs(stage, side, "--help")[1], [*NUMBERS, *OF_SIDE[side], "listen", "to", "from", "log", "control", "metrics"]
         checks.same([one for one in options if f"--{one}" not in out], [], f"options that {side} --help lacks")
 
 

@@ -1,1 +1,4 @@
 pub mod Beginning
+pub mod FirstLine
+pub mod Ends
+pub mod Objects

@@ -4,3 +4,10 @@ pub mod Learning
 pub mod Unmet
 pub mod Turns
 pub mod Hindrance
+pub mod Asking
+pub mod Seats
+pub mod Stats
+pub mod Answers
+pub mod Figures
+pub mod Metrics
+pub mod Client

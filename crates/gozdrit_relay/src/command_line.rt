@@ -32,6 +32,9 @@ pub struct Options<'a> {
     pub seconds: Option<u64>,
     pub stats: Option<u64>,
     pub log: Option<&'a str>,
+    /// Where the control socket is, and that of the metrics.
+    pub control: Option<&'a str>,
+    pub metrics: Option<&'a str>,
     /// So many of 1000 datagrams are dropped.
     pub loss: u32,
     pub seed: u64,
@@ -59,6 +62,12 @@ pub enum Choice<'a> {
         window: usize,
         /// The RTP clock rate by which packets are held for the player, if they are.
         hold: Option<u32>,
+    },
+    /// A request of a relay that runs.
+    Ctl {
+        /// Where its control socket is.
+        path: &'a str,
+        request: &'a str,
     },
 }
 
@@ -109,6 +118,8 @@ fn chosen<'a>(matches: &ArgMatches<'a>) -> Result<Choice<'a>, Fault<'a>> {
         Some((name, inner)) => {
             if name == "send" {
                 send(inner)
+            } else if name == "ctl" {
+                ctl(inner)
             } else {
                 receive(inner)
             }
@@ -143,6 +154,13 @@ fn receive<'a>(matches: &ArgMatches<'a>) -> Result<Choice<'a>, Fault<'a>> {
     })
 }
 
+fn ctl<'a>(matches: &ArgMatches<'a>) -> Result<Choice<'a>, Fault<'a>> {
+    Ok(Choice::Ctl {
+        path: matches.get_str("path").ok_or(Fault::Missing("path"))?,
+        request: matches.get_str("request").ok_or(Fault::Missing("request"))?,
+    })
+}
+
 /// The options of both.
 fn common<'a>(matches: &ArgMatches<'a>) -> Result<Options<'a>, Fault<'a>> {
     Ok(Options {
@@ -160,6 +178,8 @@ fn common<'a>(matches: &ArgMatches<'a>) -> Result<Options<'a>, Fault<'a>> {
         seconds: value(matches, "seconds", Form::Seconds(1, LONGEST))?,
         stats: value(matches, "stats", Form::Seconds(1, LONGEST))?,
         log: matches.get_str("log"),
+        control: matches.get_str("control"),
+        metrics: matches.get_str("metrics"),
         loss: value(matches, "loss", Form::Share(0, 1000))?
             .unwrap_or(0)
             .min(1000) as u32,

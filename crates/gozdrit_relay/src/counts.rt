@@ -6,11 +6,9 @@ use crate::hindrance::Hindrance;
 use crate::unmet::Unmet;
 use endpoint::{Heard, Kind, ResendCounts, Told};
 use fbwire::FeedbackFault;
-use lines::{Word, push_line};
 use receiver::ReceiveFault;
 use relays::Note;
 use sender::Shared;
-use stores::OutOfMemory;
 
 /// What a relay did so far, by its notes.
 #[derive(Clone, Copy, Debug, PartialEq, Eq)]
@@ -236,122 +234,6 @@ impl Counts {
             Hindrance::Other => &mut self.failed,
         };
         add(count, 1);
-    }
-
-    /// The line of a relay before the network, or of one behind it.
-    pub fn push(&self, line: &mut Vec<u8>, is_sender: bool) -> Result<(), OutOfMemory> {
-        if is_sender {
-            self.push_sender(line)
-        } else {
-            self.push_receiver(line)
-        }
-    }
-
-    fn push_sender(&self, line: &mut Vec<u8>) -> Result<(), OutOfMemory> {
-        push_line(line, &self.sender_words())
-    }
-
-    /// The words of a relay before the network.
-    fn sender_words<'x>(&self) -> [Word<'x>; 38] {
-        [
-            Word::Text(b"sent"),
-            Word::Decimal(self.sent),
-            Word::Text(b"unsent"),
-            Word::Decimal(self.unsent),
-            Word::Text(b"marked"),
-            Word::Decimal(self.marked),
-            Word::Text(b"retransmitted"),
-            Word::Decimal(self.retransmitted),
-            Word::Text(b"early"),
-            Word::Decimal(self.early),
-            Word::Text(b"expired"),
-            Word::Decimal(self.expired),
-            Word::Text(b"refused"),
-            Word::Decimal(self.refused),
-            Word::Text(b"stray"),
-            Word::Decimal(self.stray),
-            Word::Text(b"lost"),
-            Word::Decimal(self.lost),
-            Word::Text(b"others"),
-            Word::Decimal(self.others),
-            Word::Text(b"unknown"),
-            Word::Decimal(self.unknown),
-            Word::Text(b"exhausted"),
-            Word::Decimal(self.exhausted),
-            Word::Text(b"crowded"),
-            Word::Decimal(self.crowded),
-            Word::Text(b"strangers"),
-            Word::Decimal(self.strangers),
-            Word::Text(b"full"),
-            Word::Decimal(self.full),
-            Word::Text(b"unreachable"),
-            Word::Decimal(self.unreachable),
-            Word::Text(b"oversize"),
-            Word::Decimal(self.oversize),
-            Word::Text(b"rejected"),
-            Word::Decimal(self.rejected),
-            Word::Text(b"failed"),
-            Word::Decimal(self.failed),
-        ]
-    }
-
-    fn push_receiver(&self, line: &mut Vec<u8>) -> Result<(), OutOfMemory> {
-        let time = match self.time {
-            Some(time) => Word::Decimal(time),
-            None => Word::Text(b"-"),
-        };
-        let restarts = self
-            .restarts
-            .saturating_add(self.sessions.saturating_sub(1));
-        push_line(line, &self.receiver_words(restarts, time))
-    }
-
-    /// The words of a relay behind the network, with its restarts and the round-trip time as they are shown.
-    fn receiver_words<'x>(&self, restarts: u64, time: Word<'x>) -> [Word<'x>; 42] {
-        [
-            Word::Text(b"taken"),
-            Word::Decimal(self.taken),
-            Word::Text(b"repaired"),
-            Word::Decimal(self.repaired),
-            Word::Text(b"played"),
-            Word::Decimal(self.played),
-            Word::Text(b"gaps"),
-            Word::Decimal(self.gaps),
-            Word::Text(b"overrun"),
-            Word::Decimal(self.overrun),
-            Word::Text(b"abandoned"),
-            Word::Decimal(self.abandoned),
-            Word::Text(b"skipped"),
-            Word::Decimal(self.skipped),
-            Word::Text(b"asked"),
-            Word::Decimal(self.asked),
-            Word::Text(b"refused"),
-            Word::Decimal(self.refused),
-            Word::Text(b"padding"),
-            Word::Decimal(self.padding),
-            Word::Text(b"unasked"),
-            Word::Decimal(self.unasked),
-            Word::Text(b"restarts"),
-            Word::Decimal(restarts),
-            Word::Text(b"moved"),
-            Word::Decimal(self.moved),
-            Word::Text(b"stray"),
-            Word::Decimal(self.stray),
-            Word::Text(b"lost"),
-            Word::Decimal(self.lost),
-            Word::Text(b"rtt"),
-            time,
-            Word::Text(b"full"),
-            Word::Decimal(self.full),
-            Word::Text(b"unreachable"),
-            Word::Decimal(self.unreachable),
-            Word::Text(b"oversize"),
-            Word::Decimal(self.oversize),
-            Word::Text(b"rejected"),
-            Word::Decimal(self.rejected),
-            Word::Text(b"failed"),
-            Word::Decimal(self.failed),
-        ]
     }
 }
 

@@ -3,17 +3,20 @@ ghost use Rattle.std.specs.Prelude.{◌≤◌, ◌<◌};
 
 use crate::addresses::{bound, found, is_loop, leaving, toward};
 use crate::admission::peers;
+use crate::clients::Doors;
 use crate::command_line::{Choice, Options};
+use crate::control::doors;
+use crate::ctl::ask;
 use crate::draws::Draws;
 use crate::fault::Fault;
-use crate::greeting::{push_kept, push_sockets};
-use crate::host::Host;
+use crate::greeting::{push_kept, push_metrics, push_sockets};
+use crate::host::{Host, Sockets};
 use crate::journal::Journal;
 use crate::known::Known;
 use crate::learners::{ReceiveLearner, SendLearner};
 use crate::load::Store;
 use crate::machine::{Learner, Machine};
-use crate::sockets::keep;
+use crate::sockets::{keep, Kept};
 use endpoint::ResendRule;
 use mio::net::UdpSocket;
 use relays::{Bounds, Peers, Rate, ReceiveRelay, Relay, SendRelay, run};
@@ -22,8 +25,8 @@ use std::io::{IsTerminal, Write};
 use std::net::SocketAddr;
 use stores::{RingHistory, RingWindow};
 
-/// Runs the relay that was chosen, until one of its bounds.
-pub fn relay<'a>(rt: &HostRuntime, choice: &Choice<'a>) -> Result<(), Fault<'a>> {
+/// Runs the relay that was chosen, until one of its bounds, or asks one that runs. It answers the exit status.
+pub fn relay<'a>(rt: &HostRuntime, choice: &Choice<'a>) -> Result<u8, Fault<'a>> {
     match choice {
         Choice::Send {
             options,
@@ -34,12 +37,18 @@ pub fn relay<'a>(rt: &HostRuntime, choice: &Choice<'a>) -> Result<(), Fault<'a>>
             rtx_first,
         } => {
             let peers = peers(rt, options.peers)?;
-            let (to, near, far) = opened(rt, options)?;
+            let Sides {
+                to,
+                listening: near,
+                leaving: far,
+                doors,
+            } = opened(rt, options)?;
             let learner = sender(
                 rt, options, *rate, *rule, *follows, *history, *rtx_first, to,
             );
             let store = Store::History(*history as u64);
-            go::<SendRelay<RingHistory>, SendLearner>(rt, options, learner, peers, near, far, store)
+            let sockets = Sockets { near, far, doors };
+            go::<SendRelay<RingHistory>, SendLearner>(rt, options, learner, peers, sockets, store)
         }
         Choice::Receive {
             options,
@@ -48,17 +57,36 @@ pub fn relay<'a>(rt: &HostRuntime, choice: &Choice<'a>) -> Result<(), Fault<'a>>
             hold,
         } => {
             let peers = peers(rt, options.peers)?;
-            let (to, far, near) = opened(rt, options)?;
+            let Sides {
+                to,
+                listening: far,
+                leaving: near,
+                doors,
+            } = opened(rt, options)?;
             let learner = receiver(rt, options, *latency, *window, *hold, to);
             let store = Store::Window {
                 places: *window as u64,
                 latency: *latency,
             };
+            let sockets = Sockets { near, far, doors };
             go::<ReceiveRelay<RingWindow>, ReceiveLearner>(
-                rt, options, learner, peers, near, far, store,
+                rt, options, learner, peers, sockets, store,
             )
         }
+        Choice::Ctl { path, request } => match ask(rt, path, request)? {
+            true => Ok(0),
+            false => Ok(1),
+        },
     }
+}
+
+/// The address that a relay sends to, the socket that it listens at, the one that it sends from, and where its clients come to.
+#[derive(Drop)]
+struct Sides {
+    to: SocketAddr,
+    listening: UdpSocket,
+    leaving: UdpSocket,
+    doors: Doors,
 }
 
 /// What makes the relay before a network, once its session is known.
@@ -117,11 +145,8 @@ fn within(capacity: usize) -> usize
     capacity.max(1).min(8192)
 }
 
-/// The address that a relay sends to, the socket that it listens at and the one that it sends from.
-fn opened<'a>(
-    rt: &HostRuntime,
-    options: &Options<'a>,
-) -> Result<(SocketAddr, UdpSocket, UdpSocket), Fault<'a>> {
+/// Opens all sockets, and tells of them.
+fn opened<'a>(rt: &HostRuntime, options: &Options<'a>) -> Result<Sides, Fault<'a>> {
     are_of_a_session(options)?;
     let from = match options.from {
         Some(name) => found(rt, name)?,
@@ -137,9 +162,17 @@ fn opened<'a>(
         }
     }
     let leaving = leaving(rt, &from, to, options.from.unwrap_or(options.to))?;
+    let doors = doors(rt, options)?;
+    let kept = make_room(options.socket_buffer, &listening, &leaving);
     greet(rt, &listening, to, &leaving);
-    make_room(rt, options.socket_buffer, &listening, &leaving);
-    Ok((to, listening, leaving))
+    greet_metrics(rt, &doors);
+    tell_room(rt, options.socket_buffer, kept);
+    Ok(Sides {
+        to,
+        listening,
+        leaving,
+        doors,
+    })
 }
 
 /// Nothing that a relay sends to has the family of what it sends from, or nothing is found there.
@@ -161,12 +194,19 @@ fn are_of_a_session<'a>(options: &Options<'a>) -> Result<(), Fault<'a>> {
     Ok(())
 }
 
-/// Asks the system to keep so many octets for both sockets, each way, and tells where it keeps fewer.
-fn make_room(rt: &HostRuntime, wanted: i32, listening: &UdpSocket, leaving: &UdpSocket) {
-    let (Some(one), Some(other)) = (keep(listening, wanted), keep(leaving, wanted)) else {
+/// Asks the system to keep so many octets for both sockets, each way, and gives how many it keeps for either, where it tells. That is
+/// done before anybody is told that the relay listens: what comes then is kept.
+fn make_room(wanted: i32, listening: &UdpSocket, leaving: &UdpSocket) -> Option<Kept> {
+    let one = keep(listening, wanted)?;
+    let other = keep(leaving, wanted)?;
+    Some(one.least(&other))
+}
+
+/// Tells where the system keeps fewer octets than are wanted.
+fn tell_room(rt: &HostRuntime, wanted: i32, kept: Option<Kept>) {
+    let Some(kept) = kept else {
         return;
     };
-    let kept = one.least(&other);
     let wanted = u64::from(wanted.unsigned_abs());
     let mut line = Vec::new(rt.alloc());
     if kept.is_less_than(wanted) && push_kept(&mut line, wanted, &kept).is_ok() {
@@ -180,10 +220,9 @@ fn go<'a, R: Relay + Drop, L: Learner<R> + Drop>(
     options: &Options<'a>,
     learner: L,
     peers: Peers,
-    near: UdpSocket,
-    far: UdpSocket,
+    sockets: Sockets,
     store: Store,
-) -> Result<(), Fault<'a>> {
+) -> Result<u8, Fault<'a>> {
     let shows_repair = store.is_history() || options.rtx_ssrc.is_some();
     let journal = journal(rt, options, shows_repair)?;
     let stats = match options.stats {
@@ -192,7 +231,7 @@ fn go<'a, R: Relay + Drop, L: Learner<R> + Drop>(
         stats => stats,
     };
     let draws = Draws::new(options.seed, options.loss);
-    let Ok(mut host) = Host::new(rt, near, far, draws, journal, stats, store, shows_repair) else {
+    let Ok(mut host) = Host::new(rt, sockets, draws, journal, stats, store, shows_repair) else {
         return Err(Fault::Outside);
     };
     let mut machine = Machine::<L, R>::new(
@@ -204,6 +243,9 @@ fn go<'a, R: Relay + Drop, L: Learner<R> + Drop>(
     );
     let outcome = run(&mut host, &mut machine);
     host.write_counts();
+    if let Some(path) = options.control {
+        let _ = fs::remove_file(rt, path);
+    }
     if let (Some(journal), Some(file)) = (&host.journal, options.log) {
         if journal.lost() > 0 {
             return Err(Fault::Write(file, journal.lost()));
@@ -213,8 +255,8 @@ fn go<'a, R: Relay + Drop, L: Learner<R> + Drop>(
         return Err(Fault::Memory);
     }
     match outcome {
-        Ok(()) => Ok(()),
-        Err(_) => Err(Fault::Outside),
+        Err(_) if !host.is_stopped() => Err(Fault::Outside),
+        _ => Ok(0),
     }
 }
 
@@ -251,6 +293,20 @@ fn greet(rt: &HostRuntime, listening: &UdpSocket, to: SocketAddr, leaving: &UdpS
     };
     let mut line = Vec::new(rt.alloc());
     if push_sockets(rt, &mut line, listening, to, leaving).is_ok() {
+        let _ = rt.stderr().write_all(&line);
+    }
+}
+
+/// Tells where the metrics are.
+fn greet_metrics(rt: &HostRuntime, doors: &Doors) {
+    let Some(metrics) = &doors.metrics else {
+        return;
+    };
+    let Ok(at) = metrics.local_addr() else {
+        return;
+    };
+    let mut line = Vec::new(rt.alloc());
+    if push_metrics(rt, &mut line, at).is_ok() {
         let _ = rt.stderr().write_all(&line);
     }
 }

@@ -24,6 +24,11 @@ pub enum Fault<'a> {
     Find(&'a str),
     /// A socket can't be had at this address.
     Bind(SocketAddr, ErrorKind),
+    /// The control socket can't be had at this path, nor that of the metrics at this address.
+    Control(&'a str, ErrorKind),
+    Metrics(SocketAddr, ErrorKind),
+    /// The relay whose control socket is at this path does not answer.
+    Reach(&'a str, ErrorKind),
     /// This file can't be opened.
     Open(&'a str),
     /// This file did not take so many lines.
@@ -34,8 +39,8 @@ pub enum Fault<'a> {
     Memory,
 }
 
-/// Writes what there is to say of a fault, and answers the exit status, whatever the writer does: 2 for a command line, 3 for an
-/// address, a file or a socket, 4 for memory.
+/// Writes what there is to say of a fault, and answers the exit status, whatever the writer does: 1 for a relay that does
+/// not answer, 2 for a command line, 3 for an address, a file or a socket, 4 for memory.
 pub fn tell<W: Write>(fault: &Fault<'_>, error: &mut W) -> u8 {
     let _ = match fault {
         // It ends in a line feed of its own.
@@ -62,6 +67,11 @@ pub fn tell<W: Write>(fault: &Fault<'_>, error: &mut W) -> u8 {
         ),
         Fault::Find(name) => writeln!(error, "can't find {name}"),
         Fault::Bind(at, kind) => writeln!(error, "can't bind {at}: {}", reason(*kind)),
+        Fault::Control(path, kind) => {
+            writeln!(error, "can't bind --control {path}: {}", reason(*kind))
+        }
+        Fault::Metrics(at, kind) => writeln!(error, "can't bind --metrics {at}: {}", reason(*kind)),
+        Fault::Reach(path, kind) => writeln!(error, "no answer at {path}: {}", silence(*kind)),
         Fault::Open(file) => writeln!(error, "can't open {file}"),
         Fault::Write(file, lost) => writeln!(error, "can't write {file}: {lost} lines are lost"),
         Fault::Outside => writeln!(error, "the clock or a socket failed"),
@@ -75,6 +85,7 @@ pub fn tell<W: Write>(fault: &Fault<'_>, error: &mut W) -> u8 {
         | Fault::Families(..)
         | Fault::Loop(..)
         | Fault::Peer(_) => 2,
+        Fault::Reach(..) => 1,
         Fault::Memory => 4,
         _ => 3,
     }
@@ -86,6 +97,20 @@ fn reason(kind: ErrorKind) -> &'static str {
         ErrorKind::AddrInUse => "in use",
         ErrorKind::AddrNotAvailable => "no address of this machine",
         ErrorKind::PermissionDenied => "not permitted",
+        ErrorKind::NotFound => "there is no such folder",
+        ErrorKind::InvalidInput => "too long for a socket's name",
         _ => "refused",
+    }
+}
+
+/// Why a relay does not answer.
+fn silence(kind: ErrorKind) -> &'static str {
+    match kind {
+        ErrorKind::NotFound => "there is no such file",
+        ErrorKind::ConnectionRefused => "no relay listens there",
+        ErrorKind::PermissionDenied => "not permitted",
+        ErrorKind::TimedOut => "it took too long",
+        ErrorKind::WouldBlock => "too many wait there",
+        _ => "the connection broke",
     }
 }

@@ -23,6 +23,17 @@ pub fn push_sockets(
     Ok(())
 }
 
+/// The line of the metrics' address.
+pub fn push_metrics(
+    rt: &HostRuntime,
+    line: &mut Vec<u8>,
+    at: SocketAddr,
+) -> Result<(), OutOfMemory> {
+    let told = format!(in rt.alloc(); "metrics at http://{at}/metrics\n")?;
+    line.extend_from_slice(told.as_bytes())?;
+    Ok(())
+}
+
 /// The line of a session that was learnt, with its far side.
 pub fn push_session(
     rt: &HostRuntime,

@@ -10,8 +10,9 @@ pub const PROGRAM: &str = "\
   gozdrit-relay send    --listen 127.0.0.1:5004 --to far.example:6004
   gozdrit-relay receive --listen 0.0.0.0:6004   --to 127.0.0.1:5006 --latency 200
 A number may have its unit behind it: 200ms or 2s, 90s, 5m or 2h, 500k or 2M bits a second, 10%, 64KiB or 4MiB.
-Exit status: 0 a bound was reached, 2 the command line is refused, 3 an address, a file or a socket fails,
-4 memory was refused.";
+  gozdrit-relay ctl     /run/relay.sock stats
+Exit status: 0 a bound was reached, or it was stopped, 1 ctl was refused or not answered, 2 the command line is
+refused, 3 an address, a file or a socket fails, 4 memory was refused.";
 
 /// Of `send`.
 pub const SEND: &str = "\
@@ -25,3 +26,7 @@ The first RTP packet tells the session and its far side, which alone is heard fr
 there for four of its gaps, 100 ms at least, four packets that go on with the session show its new address, as where a
 NAT binds anew. Where nothing was taken for a second, the next packet of another session begins one anew, and what is
 played goes on. A session whose sender sends no stream falls to one that does.";
+
+/// Of `ctl`.
+pub const CTL: &str = "\
+The answer is printed. Exit status: 0 the relay did what was asked for, 1 it refused it or did not answer.";

@@ -1,15 +1,14 @@
 //! The sockets of the machine, its clock, and what is told of a run.
+mod telling;
+
+use crate::answers::State;
+use crate::clients::{Clients, Doors};
 use crate::counts::Counts;
 use crate::draws::Draws;
-use crate::foreign::told_apart;
-use crate::greeting::{
-    push_failed, push_foreign, push_full, push_moved, push_session, push_strays, push_too_long,
-};
-use crate::hindrance::hindered_by;
 use crate::journal::Journal;
 use crate::load::{Load, Store};
+use crate::seats::sooner;
 use crate::seldom::Seldom;
-use crate::too_long::is_too_long;
 use crate::turns::Turns;
 use crate::unmet::UnmetTold;
 use mio::net::UdpSocket;
@@ -18,7 +17,7 @@ use relays::{Meeting, Note, Octets, Outside, OutsideFault, Side, Turn};
 use rtpwire::MAX_DATAGRAM;
 use std::alloc::Global;
 use std::io;
-use std::io::{ErrorKind, Write};
+use std::io::ErrorKind;
 use std::net::SocketAddr;
 use std::time::{Duration, Instant};
 
@@ -29,6 +28,20 @@ const ROOM: usize = MAX_DATAGRAM + 1;
 const NEAR: Token = Token(0);
 
 const FAR: Token = Token(1);
+
+/// How many events the system tells at once.
+const EVENTS: usize = 8;
+
+/// How long who asks how the relay does waits at most while datagrams come without a pause, in milliseconds.
+const UNHEARD: u64 = 100;
+
+/// The sockets of a relay: one a side, and where its clients come to.
+#[derive(Drop)]
+pub struct Sockets {
+    pub near: UdpSocket,
+    pub far: UdpSocket,
+    pub doors: Doors,
+}
 
 /// Both sockets, the clock, and who is told.
 #[derive(Drop)]
@@ -71,14 +84,18 @@ pub struct Host<'a> {
     /// Whether the SSRC of the retransmissions is known from the beginning.
     shows_repair: bool,
     line: Vec<u8>,
+    /// Who asks how the relay does, where anybody may, and the moment from which on they are heard whatever comes.
+    clients: Option<Clients>,
+    heard_from: u64,
+    /// Whether one of them has the run end.
+    is_stopped: bool,
 }
 
 impl<'a> Host<'a> {
-    /// A host over two sockets.
+    /// A host over these sockets.
     pub fn new(
         rt: &'a HostRuntime,
-        mut near: UdpSocket,
-        mut far: UdpSocket,
+        sockets: Sockets,
         draws: Draws,
         journal: Option<Journal>,
         stats: Option<u64>,
@@ -87,13 +104,23 @@ impl<'a> Host<'a> {
     ) -> io::Result<Host<'a>> {
         let start = Instant::now(rt)?;
         let poll = Poll::new(rt)?;
+        let Sockets {
+            mut near,
+            mut far,
+            doors,
+        } = sockets;
         poll.registry()
             .register(&mut near, NEAR, Interest::READABLE)?;
         poll.registry().register(&mut far, FAR, Interest::READABLE)?;
+        let clients = if doors.control.is_some() || doors.metrics.is_some() {
+            Some(Clients::new(rt.alloc(), poll.registry(), doors)?)
+        } else {
+            None
+        };
         Ok(Host {
             rt,
             poll,
-            events: Events::with_capacity(rt.alloc(), 2)?,
+            events: Events::with_capacity(rt.alloc(), EVENTS)?,
             near,
             far,
             start,
@@ -123,6 +150,9 @@ impl<'a> Host<'a> {
             load: Load::new(store),
             shows_repair,
             line: Vec::new(rt.alloc()),
+            clients,
+            heard_from: 0,
+            is_stopped: false,
         })
     }
 
@@ -190,198 +220,65 @@ impl<'a> Host<'a> {
             Some(next) => Some(Duration::from_millis(next.saturating_sub(self.now()?))),
             None => None,
         };
+        self.ask_system(timeout)
+    }
+
+    /// Asks the system which sockets have something, and keeps that.
+    fn ask_system(&mut self, timeout: Option<Duration>) -> Result<(), OutsideFault> {
         match self.poll.poll(&mut self.events, timeout) {
             Ok(()) => {}
             Err(e) if e.kind() == ErrorKind::Interrupted => {}
             Err(_) => return Err(OutsideFault),
         }
         for event in self.events.iter() {
-            let side = if event.token() == NEAR {
-                Side::Near
-            } else {
-                Side::Far
-            };
-            self.turns.wake(side);
+            let token = event.token();
+            if token == NEAR {
+                self.turns.wake(Side::Near);
+            } else if token == FAR {
+                self.turns.wake(Side::Far);
+            } else if let Some(clients) = &mut self.clients {
+                clients.wake(token);
+            }
+        }
+        self.serve()
+    }
+
+    /// Answers clients. Where one has the run end, what is outside can't be waited at any longer.
+    fn serve(&mut self) -> Result<(), OutsideFault> {
+        if self.clients.is_none() {
+            return Ok(());
+        }
+        let now = self.now()?;
+        self.heard_from = now.saturating_add(UNHEARD);
+        let Some(clients) = &mut self.clients else {
+            return Ok(());
+        };
+        let state = State {
+            counts: &self.counts,
+            is_sender: self.is_sender,
+        };
+        if clients.serve(self.poll.registry(), now, state) {
+            self.is_stopped = true;
+            return Err(OutsideFault);
         }
         Ok(())
     }
 
-    /// Writes the line of counts where its moment has come.
-    fn tell_counts(&mut self, now: u64) {
-        if let Some((apart, next)) = self.stats {
-            if now >= next {
-                self.stats = Some((apart, now.saturating_add(apart)));
-                self.write_counts();
-            }
-        }
+    /// Whether clients were not heard for long, since datagrams come without a pause.
+    fn are_unheard(&self) -> bool {
+        self.clients.is_some() && self.moment >= self.heard_from
     }
 
-    /// Writes the line of counts.
-    pub fn write_counts(&mut self) {
-        self.line.clear();
-        if self.counts.push(&mut self.line, self.is_sender).is_ok() {
-            let _ = self.rt.stderr().write_all(&self.line);
-        }
+    /// Whether a client had the run end.
+    pub fn is_stopped(&self) -> bool {
+        self.is_stopped
     }
 
-    /// Writes the line of what was not retransmitted, at most each ten seconds.
-    fn tell_unmet(&mut self, now: u64) {
-        if !self.is_sender {
-            return;
-        }
-        let Some(unmet) = self.unmet.look(&self.counts.unmet(), now) else {
-            return;
-        };
-        self.line.clear();
-        if unmet.push(&mut self.line).is_ok() {
-            let _ = self.rt.stderr().write_all(&self.line);
-        }
-    }
-
-    /// Writes the line of a session that was learnt, or of a far side at another address.
-    fn tell_far(&mut self, note: &Note) {
-        self.line.clear();
-        let pushed = match note {
-            Note::Began(session, first, far) => push_session(
-                self.rt,
-                &mut self.line,
-                session,
-                *first,
-                *far,
-                self.shows_repair,
-            ),
-            Note::Moved(far, ..) => push_moved(self.rt, &mut self.line, *far),
-            _ => return,
-        };
-        if pushed.is_ok() {
-            let _ = self.rt.stderr().write_all(&self.line);
-        }
-    }
-
-    /// Logs what a relay did, and tells once where that can't be written.
-    fn log(&mut self, turn: &Turn, octets: &[u8], now: u64) {
-        let Some(journal) = &mut self.journal else {
-            return;
-        };
-        let lost = journal.lost();
-        let index = self.left.saturating_sub(1);
-        journal.note(now, &turn.note, octets, index);
-        if self.is_lost {
-            journal.lose(now, index);
-        }
-        if lost == 0 && journal.lost() > 0 {
-            self.line.clear();
-            if push_full(&mut self.line).is_ok() {
-                let _ = self.rt.stderr().write_all(&self.line);
-            }
-        }
-    }
-
-    /// Writes the line of datagrams that came from elsewhere, at most each ten seconds.
-    fn tell_strays(&mut self, note: &Note, now: u64) {
-        let Some(from) = self.from else {
-            return;
-        };
-        if !self.is_stray(note, from) {
-            return;
-        }
-        let Some(count) = self.strays.come(now) else {
-            return;
-        };
-        self.line.clear();
-        if push_strays(self.rt, &mut self.line, count, from).is_ok() {
-            let _ = self.rt.stderr().write_all(&self.line);
-        }
-    }
-
-    /// Whether a datagram came from elsewhere than what the relay has a session with: a stray, or a packet of another application than the
-    /// one whose stream is sent on.
-    fn is_stray(&mut self, note: &Note, from: SocketAddr) -> bool {
-        match note {
-            Note::Stray => true,
-            Note::Sent(_) => {
-                self.application = Some(from);
-                false
-            }
-            Note::Unsent => {
-                let is_stranger = self.is_stranger(from);
-                if is_stranger {
-                    self.counts.turn_away();
-                }
-                is_stranger
-            }
-            _ => false,
-        }
-    }
-
-    /// Whether an address is another one than that of the application whose stream is sent on.
-    fn is_stranger(&self, from: SocketAddr) -> bool {
-        match self.application {
-            Some(application) => from != application,
-            None => false,
-        }
-    }
-
-    /// Writes the line of packets that are longer than this program carries, at most each ten seconds.
-    fn tell_too_long(&mut self, note: &Note, octets: &[u8], now: u64) {
-        if !is_too_long(note, octets) {
-            return;
-        }
-        let Some(count) = self.too_long.come(now) else {
-            return;
-        };
-        self.line.clear();
-        if push_too_long(&mut self.line, count).is_ok() {
-            let _ = self.rt.stderr().write_all(&self.line);
-        }
-    }
-
-    /// Writes the line of what is no RTP, and known all the same, at most each ten seconds. By itself, as only what is not sent is looked at.
-    #[inline(never)]
-    fn tell_foreign(&mut self, octets: &[u8], now: u64) {
-        let Some(what) = told_apart(octets) else {
-            return;
-        };
-        let Some(count) = self.foreign.come(now) else {
-            return;
-        };
-        self.line.clear();
-        if push_foreign(&mut self.line, count, what).is_ok() {
-            let _ = self.rt.stderr().write_all(&self.line);
-        }
-    }
-
-    /// Counts a datagram that the system did not take, and writes the line of such, at most each ten seconds.
-    fn fail(&mut self, error: &io::Error, to: SocketAddr) {
-        self.counts.fail(hindered_by(error.raw_os_error()));
-        let Some(count) = self.failed.come(self.moment) else {
-            return;
-        };
-        self.line.clear();
-        if push_failed(self.rt, &mut self.line, count, to, error).is_ok() {
-            let _ = self.rt.stderr().write_all(&self.line);
-        }
-    }
-
-    /// Writes the line of a store that is too short, once in each session.
-    fn tell_shortage(&mut self, note: &Note, now: u64) {
-        let Some(shortage) = self.load.follow(now, note) else {
-            return;
-        };
-        self.line.clear();
-        if shortage.push(&mut self.line).is_ok() {
-            let _ = self.rt.stderr().write_all(&self.line);
-        }
-    }
-
-    /// The moment until which is slept: no later than that of the next line of counts.
+    /// The moment until which is slept: no later than that of the next line of counts, nor than clients have it.
     fn next_of(&self, until: Option<u64>) -> Option<u64> {
-        match (until, self.stats) {
-            (Some(until), Some((_, next))) => Some(until.min(next)),
-            (Some(until), None) => Some(until),
-            (None, Some((_, next))) => Some(next),
-            (None, None) => None,
-        }
+        let line = self.stats.map(|stats| stats.1);
+        let clients = self.clients.as_ref().and_then(Clients::next_moment);
+        sooner(sooner(until, line), clients)
     }
 }
 
@@ -403,6 +300,9 @@ impl Outside for Host<'_> {
     ghost traffic = { λ host. None };
 
     fn wait(&mut self, until: Option<u64>, room: &mut Octets) -> Result<Meeting, OutsideFault> {
+        if self.are_unheard() {
+            self.ask_system(Some(Duration::ZERO))?;
+        }
         let mut came = self.take(room)?;
         if came.is_none() && self.turns.next().is_none() {
             self.sleep(until)?;

@@ -3,11 +3,19 @@
 
 mod addresses;
 mod admission;
+mod answers;
+mod asking;
+mod client;
+mod clients;
 mod command_line;
+mod control;
+mod counted;
 mod counts;
+mod ctl;
 mod draws;
 mod entry;
 mod fault;
+mod figures;
 mod foreign;
 mod greeting;
 mod help;
@@ -19,9 +27,12 @@ mod learners;
 mod learning;
 mod load;
 mod machine;
+mod metrics;
 mod options;
+mod seats;
 mod seldom;
 mod sockets;
+mod stats;
 mod too_long;
 mod turns;
 mod units;
@@ -60,7 +71,7 @@ fn main(rt: HostRuntime) -> ExitCode {
         Err(fault) => return ExitCode::from(tell(&fault, &mut error)),
     };
     match relay(&rt, &choice) {
-        Ok(()) => ExitCode::from(0),
+        Ok(status) => ExitCode::from(status),
         Err(fault) => ExitCode::from(tell(&fault, &mut error)),
     }
 }

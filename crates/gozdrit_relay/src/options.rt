@@ -13,7 +13,8 @@ pub fn command<'a>(alloc: Global) -> Result<Command<'a>, AllocError> {
         .version(VERSION)
         .subcommand_required(true)
         .subcommand(send(alloc)?)?
-        .subcommand(receive(alloc)?)
+        .subcommand(receive(alloc)?)?
+        .subcommand(ctl(alloc)?)
 }
 
 fn send<'a>(alloc: Global) -> Result<Command<'a>, AllocError> {
@@ -106,6 +107,20 @@ fn receive<'a>(alloc: Global) -> Result<Command<'a>, AllocError> {
     common(alloc, command)
 }
 
+/// A client of a relay that runs.
+fn ctl<'a>(alloc: Global) -> Result<Command<'a>, AllocError> {
+    Command::new(alloc, "ctl")
+        .about("Asks a relay that runs how it does, or has it stop")
+        .after_help(help::CTL)
+        .arg(word(alloc, "path", "PATH", "What the relay's --control is"))?
+        .arg(word(
+            alloc,
+            "request",
+            "REQUEST",
+            "stats: all counts, as JSON; stop: the run ends, with the last line of counts",
+        ))
+}
+
 /// The options of both.
 fn common<'a>(alloc: Global, command: Command<'a>) -> Result<Command<'a>, AllocError> {
     of_run(alloc, of_peers(alloc, of_session(alloc, command)?)?)
@@ -182,6 +197,18 @@ fn of_run<'a>(alloc: Global, command: Command<'a>) -> Result<Command<'a>, AllocE
         .arg(option(alloc, "log", "FILE", "A line for each event"))?
         .arg(option(
             alloc,
+            "control",
+            "PATH",
+            "A Unix socket where gozdrit-relay ctl asks how it does, or has it stop",
+        ))?
+        .arg(option(
+            alloc,
+            "metrics",
+            "ADDR:PORT",
+            "Where GET /metrics has all counts in Prometheus' text form",
+        ))?
+        .arg(option(
+            alloc,
             "loss",
             "PERMILLE",
             "For trials: drops so many of 1000 datagrams that leave for the network",
@@ -193,6 +220,14 @@ fn of_run<'a>(alloc: Global, command: Command<'a>) -> Result<Command<'a>, AllocE
             "OCTETS",
             "How many octets the system is asked to keep for a socket, each way; 4MiB by default",
         ))
+}
+
+/// A word of the line, which has to be there.
+fn word<'a>(alloc: Global, name: &'a str, value: &'a str, help: &'a str) -> Arg<'a> {
+    Arg::new(alloc, name)
+        .value_name(value)
+        .help(help)
+        .required(true)
 }
 
 /// An option with a value, which has to be there.

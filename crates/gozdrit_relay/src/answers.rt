@@ -1,0 +1,189 @@
+//! What a client is answered.
+ghost use Rattle.std.specs.Prelude.{◌≡◌, ◌++◌, take, IfOk, OnOk};
+ghost use Rattle.gozdrit_relay.specs.Answers.{answer_text, fault_line, head_of, page_of, shown, visible};
+ghost use Rattle.gozdrit_relay.specs.Stats.{stats_line};
+
+use crate::asking::Asked;
+use crate::counts::Counts;
+use crate::figures::{Figure, push_figures};
+use crate::metrics::metrics_of;
+use crate::stats::stats_text;
+use lines::{Word, push_line};
+use std::alloc::Global;
+use stores::OutOfMemory;
+
+/// How many octets of a request a fault names.
+const NAMED: usize = 64;
+
+/// The fields of an HTTP response, the length of its body last.
+const FIELDS: &str =
+    "\r\nConnection: close\r\nContent-Type: text/plain; version=0.0.4; charset=utf-8\r\nContent-Length:";
+
+/// What an HTTP response ends its head with, behind the length of its body; and where a method is refused.
+const END: &str = "\r\n\r";
+
+const ALLOWED: &str = "\r\nAllow: GET\r\n\r";
+
+/// What is told of a run.
+#[derive(Clone, Copy)]
+pub struct State<'a> {
+    pub counts: &'a Counts,
+    pub is_sender: bool,
+}
+
+/// The answer of a relay to what was asked for by these octets.
+pub fn answer_of(
+    alloc: Global,
+    asked: Asked,
+    octets: &[u8],
+    state: State<'_>,
+) -> Result<Vec<u8>, OutOfMemory> {
+    if state.is_sender {
+        let figures = state.counts.sender_figures();
+        answer(alloc, asked, octets, "gozdrit_send_", &figures)
+    } else {
+        let figures = state.counts.receiver_figures();
+        answer(alloc, asked, octets, "gozdrit_receive_", &figures)
+    }
+}
+
+/// The answer to what was asked for by these octets, with the figures of a run, and what the names of its metrics begin
+/// with.
+fn answer(
+    alloc: Global,
+    asked: Asked,
+    octets: &[u8],
+    prefix: &str,
+    figures: &[Figure<'_>],
+) -> Result<Vec<u8>, OutOfMemory>
+    ensures { IfOk result (λ text. text.items ≡ answer_text asked octets.now prefix.now figures.now) }
+{
+    match asked {
+        Asked::Stats => stats_line(alloc, figures),
+        Asked::Stop => {
+            let mut line = Vec::new(alloc);
+            push_figures(alloc, &mut line, figures)?;
+            Ok(line)
+        }
+        Asked::Metrics => {
+            let body = metrics_of(alloc, prefix, figures)?;
+            page(alloc, "200 OK", END, &body)
+        }
+        Asked::Unknown => fault(alloc, octets, "is neither stats nor stop"),
+        Asked::LongLine => fault(alloc, octets, "has more than 8192 octets"),
+        Asked::LongHead => page(
+            alloc,
+            "431 Request Header Fields Too Large",
+            END,
+            b"too long\n",
+        ),
+        Asked::Malformed => page(alloc, "400 Bad Request", END, b"this is no HTTP\n"),
+        Asked::NoPage => page(alloc, "404 Not Found", END, b"there is /metrics alone\n"),
+        Asked::NoMethod => page(
+            alloc,
+            "405 Method Not Allowed",
+            ALLOWED,
+            b"there is GET alone\n",
+        ),
+    }
+}
+
+/// All figures as one line.
+fn stats_line(alloc: Global, figures: &[Figure<'_>]) -> Result<Vec<u8>, OutOfMemory>
+    ensures { IfOk result (λ text. text.items ≡ stats_line figures.now) }
+{
+    let mut line = stats_text(alloc, figures)?.into_bytes();
+    line.push(b'\n')?;
+    Ok(line)
+}
+
+/// The line of a request that is refused, with its beginning.
+fn fault(alloc: Global, octets: &[u8], why: &str) -> Result<Vec<u8>, OutOfMemory>
+    ensures { IfOk result (λ text. text.items ≡ fault_line octets.now why.now) }
+{
+    let named = shown(alloc, octets)?;
+    let mut line = Vec::new(alloc);
+    push_line(
+        &mut line,
+        &[
+            Word::Text(b"fault request:"),
+            Word::Text(&named),
+            Word::Text(why.as_bytes()),
+        ],
+    )?;
+    Ok(line)
+}
+
+/// The beginning of the first line, with a question mark for each octet that is no character of ASCII.
+fn shown(alloc: Global, octets: &[u8]) -> Result<Vec<u8>, OutOfMemory>
+    ensures { IfOk result (λ text. text.items ≡ shown octets.now) }
+{
+    let front = front_of(octets);
+    let mut text = Vec::new(alloc);
+    for octet in front {
+        if *octet == b'\n' {
+            return Ok(text);
+        }
+        text.push(visible(*octet))?;
+    }
+    Ok(text)
+}
+
+/// The first of some octets.
+fn front_of(octets: &[u8]) -> &[u8]
+    ensures { result.now ≡ take 64 octets.now }
+{
+    if octets.len() > NAMED {
+        &octets[..NAMED]
+    } else {
+        octets
+    }
+}
+
+/// An octet as it is shown.
+fn visible(octet: u8) -> u8
+    ensures { result ≡ visible octet }
+{
+    if octet >= b' ' && octet <= b'~' {
+        octet
+    } else {
+        b'?'
+    }
+}
+
+/// A page of HTTP (RFC 9112, section 4), behind which the connection ends.
+fn page<'x>(
+    alloc: Global,
+    status: &'x str,
+    end: &'x str,
+    body: &[u8],
+) -> Result<Vec<u8>, OutOfMemory>
+    ensures { IfOk result (λ text. text.items ≡ page_of status.now end.now body.now) }
+{
+    let mut text = Vec::new(alloc);
+    push_head(&mut text, status, FIELDS, body.len() as u64, end)?;
+    text.extend_from_slice(body)?;
+    Ok(text)
+}
+
+/// Pushes the head of a page: its status, its fields with the length of its body, and its end.
+fn push_head<'x>(
+    text: &mut Vec<u8>,
+    status: &'x str,
+    fields: &'x str,
+    length: u64,
+    end: &'x str,
+) -> Result<(), OutOfMemory>
+    ensures { OnOk result (text.new.items ≡ text.old.items ++ head_of status.now fields.now length end.now) }
+{
+    push_line(
+        text,
+        &[
+            Word::Text(b"HTTP/1.1"),
+            Word::Text(status.as_bytes()),
+            Word::Text(fields.as_bytes()),
+            Word::Decimal(length),
+            Word::Text(end.as_bytes()),
+        ],
+    )
+}

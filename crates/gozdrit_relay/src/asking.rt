@@ -1,0 +1,120 @@
+//! What a client asks for, by what came of it so far: a line at the control socket, or the head of an HTTP request for
+//! the metrics.
+ghost use Rattle.std.specs.Prelude.{◌≡◌, ◌≤◌, ◌<◌, ◌⊎◌, ℕ, List, length, false, true};
+ghost use Rattle.httparse.specs.Grammar.{HasNoRequest, NeverHasRequest, ReadsRequest, RequestHead};
+ghost use Rattle.httparse.specs.Spans.{RequestExceeds};
+ghost use Rattle.gozdrit_relay.specs.Asking.{asked_of_line, asked_of_page, line_heard, unfinished};
+
+use httparse::spans::{EMPTY_HEADER_SPAN, parse_request};
+use httparse::{Error, Status};
+use lines::find_byte;
+
+/// How many octets a request has at most, its end included.
+pub const LONGEST: usize = 8192;
+
+/// How many fields the head of an HTTP request has at most.
+const FIELDS: usize = 64;
+
+/// What a request asks for.
+#[derive(Clone, Copy, Debug, PartialEq, Eq)]
+pub enum Asked {
+    /// All counts.
+    Stats,
+    /// That the run ends.
+    Stop,
+    /// A line that is none of both.
+    Unknown,
+    /// The metrics.
+    Metrics,
+    /// A page that there is not.
+    NoPage,
+    /// The metrics by another method than GET.
+    NoMethod,
+    /// What is no HTTP.
+    Malformed,
+    /// It is longer than may be, as a line or as a head.
+    LongLine,
+    LongHead,
+}
+
+/// What came of a client so far.
+#[derive(Clone, Copy, Debug, PartialEq, Eq)]
+pub enum Come {
+    /// A whole request, or so much that it can't become one.
+    Asks(Asked),
+    /// The beginning of one, of which more may come.
+    More,
+    /// The beginning of one, and the client is gone.
+    Gone,
+}
+
+/// What octets at the control socket ask for: the first line, where it has its end within 8192 octets.
+pub fn hear_line(octets: &[u8], is_gone: bool) -> Come
+    ensures { result ≡ line_heard octets.now is_gone }
+{
+    match find_byte(octets, b'\n') {
+        Some(end) => Come::Asks(asked_of_line(&octets[..end])),
+        None => unfinished(octets, is_gone, Asked::LongLine),
+    }
+}
+
+/// What a line asks for.
+fn asked_of_line(line: &[u8]) -> Asked
+    ensures { result ≡ asked_of_line line.now }
+{
+    if line == b"stats".as_slice() {
+        Asked::Stats
+    } else if line == b"stop".as_slice() {
+        Asked::Stop
+    } else {
+        Asked::Unknown
+    }
+}
+
+/// A request that is not whole.
+fn unfinished(octets: &[u8], is_gone: bool, long: Asked) -> Come
+    ensures { result ≡ unfinished (length octets.now) is_gone long }
+{
+    if octets.len() >= LONGEST {
+        Come::Asks(long)
+    } else if is_gone {
+        Come::Gone
+    } else {
+        Come::More
+    }
+}
+
+/// What octets of HTTP ask for.
+pub fn hear_head(octets: &[u8], is_gone: bool) -> Come
+    ensures found { (head : RequestHead) (rest : List ℕ) → ReadsRequest octets.now head rest
+        → length head.fields ≤ 64 → result ≡ Come.Asks (asked_of_page head.method head.target) }
+    ensures more { result ≡ Come.More → HasNoRequest octets.now × (is_gone ≡ false) × (length octets.now < 8192) }
+    ensures gone { result ≡ Come.Gone → HasNoRequest octets.now × (is_gone ≡ true) × (length octets.now < 8192) }
+    ensures malformed { result ≡ Come.Asks Asked.Malformed → NeverHasRequest octets.now }
+    ensures long { result ≡ Come.Asks Asked.LongHead → (8192 ≤ length octets.now) ⊎ RequestExceeds 64 octets.now }
+{
+    let mut fields = [EMPTY_HEADER_SPAN; FIELDS];
+    match parse_request(octets, &mut fields) {
+        Ok(Status::Complete(head)) => {
+            let method = head.method.of(octets);
+            let target = head.path.of(octets);
+            Come::Asks(asked_of_page(method, target))
+        }
+        Ok(Status::Partial) => unfinished(octets, is_gone, Asked::LongHead),
+        Err(Error::TooManyHeaders) => Come::Asks(Asked::LongHead),
+        Err(_) => Come::Asks(Asked::Malformed),
+    }
+}
+
+/// What a method and a target ask for.
+fn asked_of_page(method: &[u8], target: &[u8]) -> Asked
+    ensures { result ≡ asked_of_page method.now target.now }
+{
+    if target != b"/metrics".as_slice() {
+        Asked::NoPage
+    } else if method == b"GET".as_slice() {
+        Asked::Metrics
+    } else {
+        Asked::NoMethod
+    }
+}

@@ -1,0 +1,185 @@
+//! What is told of a run: its counts, its sessions, and what goes wrong, line by line.
+use super::Host;
+use crate::foreign::told_apart;
+use crate::greeting::{
+    push_failed, push_foreign, push_full, push_moved, push_session, push_strays, push_too_long,
+};
+use crate::hindrance::hindered_by;
+use crate::too_long::is_too_long;
+use relays::{Note, Turn};
+use std::io;
+use std::io::Write;
+use std::net::SocketAddr;
+
+impl<'a> Host<'a> {
+    /// Writes the line of counts where its moment has come.
+    pub(super) fn tell_counts(&mut self, now: u64) {
+        if let Some((apart, next)) = self.stats {
+            if now >= next {
+                self.stats = Some((apart, now.saturating_add(apart)));
+                self.write_counts();
+            }
+        }
+    }
+
+    /// Writes the line of counts.
+    pub fn write_counts(&mut self) {
+        self.line.clear();
+        let pushed = self
+            .counts
+            .push(self.rt.alloc(), &mut self.line, self.is_sender);
+        if pushed.is_ok() {
+            let _ = self.rt.stderr().write_all(&self.line);
+        }
+    }
+
+    /// Writes the line of what was not retransmitted, at most each ten seconds.
+    pub(super) fn tell_unmet(&mut self, now: u64) {
+        if !self.is_sender {
+            return;
+        }
+        let Some(unmet) = self.unmet.look(&self.counts.unmet(), now) else {
+            return;
+        };
+        self.line.clear();
+        if unmet.push(&mut self.line).is_ok() {
+            let _ = self.rt.stderr().write_all(&self.line);
+        }
+    }
+
+    /// Writes the line of a session that was learnt, or of a far side at another address.
+    pub(super) fn tell_far(&mut self, note: &Note) {
+        self.line.clear();
+        let pushed = match note {
+            Note::Began(session, first, far) => push_session(
+                self.rt,
+                &mut self.line,
+                session,
+                *first,
+                *far,
+                self.shows_repair,
+            ),
+            Note::Moved(far, ..) => push_moved(self.rt, &mut self.line, *far),
+            _ => return,
+        };
+        if pushed.is_ok() {
+            let _ = self.rt.stderr().write_all(&self.line);
+        }
+    }
+
+    /// Logs what a relay did, and tells once where that can't be written.
+    pub(super) fn log(&mut self, turn: &Turn, octets: &[u8], now: u64) {
+        let Some(journal) = &mut self.journal else {
+            return;
+        };
+        let lost = journal.lost();
+        let index = self.left.saturating_sub(1);
+        journal.note(now, &turn.note, octets, index);
+        if self.is_lost {
+            journal.lose(now, index);
+        }
+        if lost == 0 && journal.lost() > 0 {
+            self.line.clear();
+            if push_full(&mut self.line).is_ok() {
+                let _ = self.rt.stderr().write_all(&self.line);
+            }
+        }
+    }
+
+    /// Writes the line of datagrams that came from elsewhere, at most each ten seconds.
+    pub(super) fn tell_strays(&mut self, note: &Note, now: u64) {
+        let Some(from) = self.from else {
+            return;
+        };
+        if !self.is_stray(note, from) {
+            return;
+        }
+        let Some(count) = self.strays.come(now) else {
+            return;
+        };
+        self.line.clear();
+        if push_strays(self.rt, &mut self.line, count, from).is_ok() {
+            let _ = self.rt.stderr().write_all(&self.line);
+        }
+    }
+
+    /// Whether a datagram came from elsewhere than what the relay has a session with: a stray, or a packet of another application than the
+    /// one whose stream is sent on.
+    fn is_stray(&mut self, note: &Note, from: SocketAddr) -> bool {
+        match note {
+            Note::Stray => true,
+            Note::Sent(_) => {
+                self.application = Some(from);
+                false
+            }
+            Note::Unsent => {
+                let is_stranger = self.is_stranger(from);
+                if is_stranger {
+                    self.counts.turn_away();
+                }
+                is_stranger
+            }
+            _ => false,
+        }
+    }
+
+    /// Whether an address is another one than that of the application whose stream is sent on.
+    fn is_stranger(&self, from: SocketAddr) -> bool {
+        match self.application {
+            Some(application) => from != application,
+            None => false,
+        }
+    }
+
+    /// Writes the line of packets that are longer than this program carries, at most each ten seconds.
+    pub(super) fn tell_too_long(&mut self, note: &Note, octets: &[u8], now: u64) {
+        if !is_too_long(note, octets) {
+            return;
+        }
+        let Some(count) = self.too_long.come(now) else {
+            return;
+        };
+        self.line.clear();
+        if push_too_long(&mut self.line, count).is_ok() {
+            let _ = self.rt.stderr().write_all(&self.line);
+        }
+    }
+
+    /// Writes the line of what is no RTP, and known all the same, at most each ten seconds. By itself, as only what is not sent is looked at.
+    #[inline(never)]
+    pub(super) fn tell_foreign(&mut self, octets: &[u8], now: u64) {
+        let Some(what) = told_apart(octets) else {
+            return;
+        };
+        let Some(count) = self.foreign.come(now) else {
+            return;
+        };
+        self.line.clear();
+        if push_foreign(&mut self.line, count, what).is_ok() {
+            let _ = self.rt.stderr().write_all(&self.line);
+        }
+    }
+
+    /// Counts a datagram that the system did not take, and writes the line of such, at most each ten seconds.
+    pub(super) fn fail(&mut self, error: &io::Error, to: SocketAddr) {
+        self.counts.fail(hindered_by(error.raw_os_error()));
+        let Some(count) = self.failed.come(self.moment) else {
+            return;
+        };
+        self.line.clear();
+        if push_failed(self.rt, &mut self.line, count, to, error).is_ok() {
+            let _ = self.rt.stderr().write_all(&self.line);
+        }
+    }
+
+    /// Writes the line of a store that is too short, once in each session.
+    pub(super) fn tell_shortage(&mut self, note: &Note, now: u64) {
+        let Some(shortage) = self.load.follow(now, note) else {
+            return;
+        };
+        self.line.clear();
+        if shortage.push(&mut self.line).is_ok() {
+            let _ = self.rt.stderr().write_all(&self.line);
+        }
+    }
+}
