@@ -139,7 +139,7 @@ class Relay:
         self.side, self.began, self.lasted = side, time.monotonic(), None
         self.base = stage.room / f"relay{len(stage.relays)}"
         self.log = self.base.with_suffix(".log")
-        words = [stage.program, side, *map(str, words), *(["--log", self.log] if log else [])]
+        words = [stage.program, side, *map(str, words), *(["--log", self.log, "--log-form", "packets"] if log else [])]
         self.said, self.printed = (open(self.base.with_suffix(end), "w") for end in (".err", ".out"))
         self.run = subprocess.Popen(words, stdin=subprocess.DEVNULL, stdout=self.printed, stderr=self.said)
         WATCH.follow(self.run.pid)
@@ -169,6 +169,11 @@ class Relay:
     def stop(self, number=signal.SIGKILL):
         self.run.send_signal(number)
         return self.status()
+
+    def freeze(self):
+        """Stops it where it is, and waits until it stands still."""
+        self.run.send_signal(signal.SIGSTOP)
+        soon(lambda: pathlib.Path(f"/proc/{self.run.pid}/stat").read_text().rpartition(")")[2].split()[0] == "T")
 
     def lines(self):
         """What it said behind its first line, but for the one that tells how little the system keeps for its sockets."""

@@ -45,7 +45,7 @@ def helps(checks, stage):
     good = status == 0 and re.fullmatch(r"gozdrit-relay \d+\.\d+\.\d+\n", out) and not err
     checks.count(good, f"--version: {status} {out!r} {err!r}")
     for side in SIDES:
-        out, options = runs(stage, side, "--help")[1], [*NUMBERS, *OF_SIDE[side], "listen", "to", "from", "log", "control", "metrics"]
+        out, options = runs(stage, side, "--help")[1], [*NUMBERS, *OF_SIDE[side], "listen", "to", "from", "log", "log-form", "control", "metrics"]
         checks.same([one for one in options if f"--{one}" not in out], [], f"options that {side} --help lacks")
 
 
@@ -212,7 +212,7 @@ def full(checks, stage):
     """A log that takes nothing is told once, and the stream goes on; at the end it is 3."""
     for side in SIDES:
         other = End(stage)
-        relay = getattr(stage, side)(other.at, "--log", "/dev/full", "--packets", 200, log=False)
+        relay = getattr(stage, side)(other.at, "--log", "/dev/full", "--log-form", "packets", "--packets", 200, log=False)
         App(stage, relay.at).stream(plain(200), 1000)
         status = relay.status()
         lines = relay.errors().splitlines()
@@ -277,18 +277,19 @@ def killed(checks, stage):
 
 
 def limits(checks, stage):
-    """A log that is there already is written anew, and moments count from the program's start."""
+    """A log that is there already is added to, and moments count from the program's start."""
     path = pathlib.Path(stage.room / "old.log")
-    path.write_text("an old line\n" * 1000)
+    old = "an old line\n" * 1000
+    path.write_text(old)
     player = End(stage)
-    sender = stage.send(player.at, "--packets", 1, "--log", path, log=False)
+    sender = stage.send(player.at, "--packets", 1, "--log", path, "--log-form", "packets", log=False)
     time.sleep(0.5)
     before = time.monotonic() - sender.began
     App(stage, sender.at).send(plain(1)[0])
     ends(checks, "an old log", sender)
     text = path.read_text()
-    first = text.split(" ")[0]
-    checks.count("an old line" not in text and first.isdigit(), f"an old log begins with {text[:40]!r}")
+    first = text[len(old):].split(" ")[0]
+    checks.count(text.startswith(old) and first.isdigit(), f"an old log goes on with {text[len(old):][:40]!r}")
     checks.count(first.isdigit() and 450 <= int(first) <= 1000 * before + 10000, f"a log begins at {first} after {before} seconds")
 
 

@@ -9,7 +9,6 @@ import os
 import pathlib
 import re
 import shutil
-import signal
 import socket
 import stat
 import subprocess
@@ -28,7 +27,7 @@ out, until = socket.socket(socket.AF_INET, socket.SOCK_DGRAM), time.monotonic() 
 while time.monotonic() < until:
     out.sendto(b"x" * 40, ("127.0.0.1", int(sys.argv[1])))
 """
-NEITHER = "fault request: {} is neither stats nor stop\n"
+NEITHER = "fault request: {} is none of stats, reopen and stop\n"
 
 
 def dial(stage, path):
@@ -153,7 +152,7 @@ def files(checks, stage):
         one = subprocess.run(words, capture_output=True, text=True, timeout=60)
         checks.same((one.returncode, one.stderr), (3, f"can't bind --control {path}: in use\n"), f"{side} where a relay listens")
     checks.count(stats(checks, stage, first, path)["played"] == 0, "the first one answers still")
-    first.run.send_signal(signal.SIGSTOP)
+    first.freeze()
     one = subprocess.run(words, capture_output=True, text=True, timeout=60)
     checks.same((one.returncode, one.stderr), (3, f"can't bind --control {path}: in use\n"), "where a relay listens that does not run")
     first.stop()

@@ -8,7 +8,6 @@ import os
 import pathlib
 import re
 import shutil
-import signal
 import subprocess
 import time
 
@@ -29,7 +28,7 @@ def kept(checks, stage):
             return
         for side in ("send", "receive"):
             relay = getattr(stage, side)(End(stage).at, *words, log=False)
-            relay.run.send_signal(signal.SIGSTOP)
+            relay.freeze()
             app, name = udp(), f"{side} {words}"
             for at in range(MANY):
                 app.sendto(packet(96, at, 7, plain(1, 1000)[0]), relay.at)

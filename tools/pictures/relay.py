@@ -48,6 +48,8 @@ def read(log):
         where, moment = f"line {at}", MOMENT(words[0])
         if moment is None or len(words) < 2:
             raise Refused(where, "a line begins with a moment and a word")
+        if words[1] == "events":
+            raise Refused(where, "this is a log of events: one of packets is written by --log-form packets")
         line = values(where, words[1:], LINES)
         is_side = "sends" if words[1] in SENDS else "receives" if words[1] in RECEIVES else side
         if side not in (None, is_side):

@@ -7,7 +7,7 @@ use Rattle.gozdrit_relay.specs.Figures.{figure_words}
 use Rattle.gozdrit_relay.specs.Metrics.{metrics_text}
 use Rattle.gozdrit_relay.specs.Stats.{stats_line}
 use Rattle.gozdrit_relay.specs.declared.asking.Asked.{Asked}
-use Rattle.gozdrit_relay.specs.declared.asking.Asked.TheVariants.{Stats, Stop, Unknown, Metrics, NoPage, NoMethod, Malformed, LongLine, LongHead}
+use Rattle.gozdrit_relay.specs.declared.asking.Asked.TheVariants.{Stats, Stop, Reopen, NoLog, Unknown, Metrics, NoPage, NoMethod, Malformed, LongLine, LongHead}
 use Rattle.gozdrit_relay.specs.declared.figures.Figure.{Figure}
 
 -- an octet that is a character of ASCII as it is, and a question mark for another one
@@ -43,7 +43,9 @@ abbrev pub answer_text : Asked → (octets prefix : List ℕ) → List Figure �
 answer_text Stats octets prefix figures = stats_line figures
 answer_text Stop octets prefix figures = line_of (flat_map figure_words figures)
 answer_text Metrics octets prefix figures = page_of (codes "200 OK") (codes "\r\n\r") (metrics_text prefix figures)
-answer_text Unknown octets prefix figures = fault_line octets (codes "is neither stats nor stop")
+answer_text Reopen octets prefix figures = line_of (codes "reopen" ∷ [])
+answer_text NoLog octets prefix figures = fault_line octets (codes "has no --log to open")
+answer_text Unknown octets prefix figures = fault_line octets (codes "is none of stats, reopen and stop")
 answer_text LongLine octets prefix figures = fault_line octets (codes "has more than 8192 octets")
 answer_text LongHead octets prefix figures = page_of (codes "431 Request Header Fields Too Large") (codes "\r\n\r") (codes "too long\n")
 answer_text Malformed octets prefix figures = page_of (codes "400 Bad Request") (codes "\r\n\r") (codes "this is no HTTP\n")

@@ -1,7 +1,7 @@
 -- What a client asks for. Text is a list of octets, and 10 is the line feed.
-use Rattle.std.specs.Prelude.{ℕ, ◌==◌, List, [], ◌∷◌, length, Bool, nat_le, if◌then◌else◌, Option, Some, None, option_map, codes, bytes_eq}
+use Rattle.std.specs.Prelude.{ℕ, ◌==◌, List, [], ◌∷◌, length, Bool, false, true, nat_le, if◌then◌else◌, Option, Some, None, option_map, codes, bytes_eq}
 use Rattle.gozdrit_relay.specs.declared.asking.Asked.{Asked}
-use Rattle.gozdrit_relay.specs.declared.asking.Asked.TheVariants.{Stats, Stop, Unknown, Metrics, NoPage, NoMethod, LongLine}
+use Rattle.gozdrit_relay.specs.declared.asking.Asked.TheVariants.{Stats, Stop, Reopen, NoLog, Unknown, Metrics, NoPage, NoMethod, Malformed, LongLine, LongHead}
 use Rattle.gozdrit_relay.specs.declared.asking.Come.{Come}
 use Rattle.gozdrit_relay.specs.declared.asking.Come.TheVariants.{Asks, More, Gone}
 
@@ -12,7 +12,26 @@ first_line (c ∷ more) = if c == 10 then Some [] else option_map (λ line. c �
 
 -- a line asks by its whole text
 abbrev pub asked_of_line : List ℕ → Asked
-asked_of_line line = if bytes_eq line (codes "stats") then Stats else if bytes_eq line (codes "stop") then Stop else Unknown
+asked_of_line line =
+    if bytes_eq line (codes "stats") then Stats
+    else if bytes_eq line (codes "stop") then Stop
+    else if bytes_eq line (codes "reopen") then Reopen
+    else Unknown
+
+-- a relay without a log has none to open anew
+abbrev pub asked_where : (has_log : Bool) → Asked → Asked
+asked_where true asked = asked
+asked_where false Stats = Stats
+asked_where false Stop = Stop
+asked_where false Reopen = NoLog
+asked_where false NoLog = NoLog
+asked_where false Unknown = Unknown
+asked_where false Metrics = Metrics
+asked_where false NoPage = NoPage
+asked_where false NoMethod = NoMethod
+asked_where false Malformed = Malformed
+asked_where false LongLine = LongLine
+asked_where false LongHead = LongHead
 
 -- a page is asked for by its path, and then by the method
 abbrev pub asked_of_page : (method target : List ℕ) → Asked

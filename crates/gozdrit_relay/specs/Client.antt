@@ -1,7 +1,7 @@
 -- One client of a relay.
 use Rattle.std.specs.Prelude.{ℕ, zero, suc}
 use Rattle.gozdrit_relay.specs.declared.asking.Asked.{Asked}
-use Rattle.gozdrit_relay.specs.declared.asking.Asked.TheVariants.{Stats, Stop, Unknown, Metrics, NoPage, NoMethod, Malformed, LongLine, LongHead}
+use Rattle.gozdrit_relay.specs.declared.asking.Asked.TheVariants.{Stats, Stop, Reopen, NoLog, Unknown, Metrics, NoPage, NoMethod, Malformed, LongLine, LongHead}
 use Rattle.gozdrit_relay.specs.declared.client.Stage.{Stage}
 use Rattle.gozdrit_relay.specs.declared.client.Stage.TheVariants.{Hears, Lingers, Waits}
 
@@ -9,6 +9,8 @@ use Rattle.gozdrit_relay.specs.declared.client.Stage.TheVariants.{Hears, Lingers
 abbrev pub when_told : Asked → Stage
 when_told Stats = Lingers
 when_told Stop = Waits
+when_told Reopen = Lingers
+when_told NoLog = Lingers
 when_told Unknown = Lingers
 when_told Metrics = Lingers
 when_told NoPage = Lingers

@@ -29,6 +29,7 @@ const ALLOWED: &str = "\r\nAllow: GET\r\n\r";
 pub struct State<'a> {
     pub counts: &'a Counts,
     pub is_sender: bool,
+    pub has_log: bool,
 }
 
 /// The answer of a relay to what was asked for by these octets.
@@ -69,7 +70,13 @@ fn answer(
             let body = metrics_of(alloc, prefix, figures)?;
             page(alloc, "200 OK", END, &body)
         }
-        Asked::Unknown => fault(alloc, octets, "is neither stats nor stop"),
+        Asked::Reopen => {
+            let mut line = Vec::new(alloc);
+            push_line(&mut line, &[Word::Text(b"reopen")])?;
+            Ok(line)
+        }
+        Asked::NoLog => fault(alloc, octets, "has no --log to open"),
+        Asked::Unknown => fault(alloc, octets, "is none of stats, reopen and stop"),
         Asked::LongLine => fault(alloc, octets, "has more than 8192 octets"),
         Asked::LongHead => page(
             alloc,

@@ -3,7 +3,7 @@
 ghost use Rattle.std.specs.Prelude.{◌≡◌, ◌≤◌, ◌<◌, ◌⊎◌, ℕ, List, length, false, true};
 ghost use Rattle.httparse.specs.Grammar.{HasNoRequest, NeverHasRequest, ReadsRequest, RequestHead};
 ghost use Rattle.httparse.specs.Spans.{RequestExceeds};
-ghost use Rattle.gozdrit_relay.specs.Asking.{asked_of_line, asked_of_page, line_heard, unfinished};
+ghost use Rattle.gozdrit_relay.specs.Asking.{asked_of_line, asked_of_page, asked_where, line_heard, unfinished};
 
 use httparse::spans::{EMPTY_HEADER_SPAN, parse_request};
 use httparse::{Error, Status};
@@ -22,7 +22,11 @@ pub enum Asked {
     Stats,
     /// That the run ends.
     Stop,
-    /// A line that is none of both.
+    /// That the log goes on in the file that has its name now.
+    Reopen,
+    /// The same of a relay that has none.
+    NoLog,
+    /// A line that is none of these.
     Unknown,
     /// The metrics.
     Metrics,
@@ -66,8 +70,20 @@ fn asked_of_line(line: &[u8]) -> Asked
         Asked::Stats
     } else if line == b"stop".as_slice() {
         Asked::Stop
+    } else if line == b"reopen".as_slice() {
+        Asked::Reopen
     } else {
         Asked::Unknown
+    }
+}
+
+/// What is asked of a relay that has a log, or none.
+pub fn asked_where(has_log: bool, asked: Asked) -> Asked
+    ensures { result ≡ asked_where has_log asked }
+{
+    match asked {
+        Asked::Reopen if !has_log => Asked::NoLog,
+        _ => asked,
     }
 }
 

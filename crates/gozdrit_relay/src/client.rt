@@ -3,7 +3,7 @@ ghost use Rattle.std.specs.Prelude.{◌≡◌};
 ghost use Rattle.gozdrit_relay.specs.Client.{stage_after};
 
 use crate::answers::{State, answer_of};
-use crate::asking::{Asked, Come, LONGEST, hear_head, hear_line};
+use crate::asking::{Asked, Come, LONGEST, asked_where, hear_head, hear_line};
 use mio::net::{TcpStream, UnixStream};
 use mio::{Interest, Registry, Token};
 use std::alloc::Global;
@@ -165,9 +165,9 @@ impl Client {
         self.stage
     }
 
-    /// Whether it asked that the run ends. That holds whether or not it is told.
-    pub fn has_run_end(&self) -> bool {
-        matches!(self.asked, Some(Asked::Stop))
+    /// What it asked for, once that was whole. It holds whether or not it is told.
+    pub fn asked(&self) -> Option<Asked> {
+        self.asked
     }
 
     /// Reads its request, and has the answer ready once that is whole.
@@ -176,6 +176,7 @@ impl Client {
             Come::More => Stage::Asks,
             Come::Gone => Stage::Over,
             Come::Asks(asked) => {
+                let asked = asked_where(state.has_log, asked);
                 self.asked = Some(asked);
                 if let Ok(answer) = answer_of(self.alloc, asked, &self.octets, state) {
                     self.answer = answer;

@@ -1,5 +1,6 @@
 //! Who asks a relay how it does, or has it stop, while it runs.
 use crate::answers::State;
+use crate::asking::Asked;
 use crate::client::{Client, Stage, Stream};
 use crate::seats::{end_of, first_end, is_over, seat_for};
 use mio::net::{TcpListener, UnixListener};
@@ -21,6 +22,15 @@ const CONTROL: Token = Token(2);
 const METRICS: Token = Token(3);
 
 const FIRST: usize = 4;
+
+/// What clients ask for that is done elsewhere.
+#[derive(Clone, Copy, Debug, PartialEq, Eq)]
+pub struct Wishes {
+    /// That the run ends.
+    pub ends: bool,
+    /// That the log is opened anew.
+    pub reopens: bool,
+}
 
 /// The sockets where clients come to.
 #[derive(Drop)]
@@ -97,23 +107,30 @@ impl Clients {
         }
     }
 
-    /// Does what there is to do at the moment `now`. It answers whether somebody asks that the run ends.
-    pub fn serve(&mut self, registry: &Registry, now: u64, state: State<'_>) -> bool {
+    /// Does what there is to do at the moment `now`, and tells what of it the relay has to.
+    pub fn serve(&mut self, registry: &Registry, now: u64, state: State<'_>) -> Wishes {
+        let mut wishes = Wishes {
+            ends: false,
+            reopens: false,
+        };
         if !self.is_woken && !is_over(self.next, now) {
-            return false;
+            return wishes;
         }
         self.let_in(registry, now);
-        let mut ends = false;
         for at in 0..SEATS {
             if self.is_over(at, now) {
                 self.leave(at);
-            } else if self.attend(at, state) {
-                ends = true;
+            } else {
+                match self.attend(at, state) {
+                    Some(Asked::Stop) => wishes.ends = true,
+                    Some(Asked::Reopen) => wishes.reopens = true,
+                    _ => {}
+                }
             }
         }
         self.is_woken = self.at_control || self.at_metrics;
         self.next = first_end(&self.until);
-        ends
+        wishes
     }
 
     fn is_over(&self, at: usize, now: u64) -> bool {
@@ -141,24 +158,24 @@ impl Clients {
         }
     }
 
-    /// Goes on with a client of whom something may have come. It answers whether it asks that the run ends.
-    fn attend(&mut self, at: usize, state: State<'_>) -> bool {
+    /// Goes on with a client of whom something may have come. What it asks for, where that is whole since.
+    fn attend(&mut self, at: usize, state: State<'_>) -> Option<Asked> {
         let (Some(woken), Some(Some(client))) = (self.woken.get_mut(at), self.clients.get_mut(at))
         else {
-            return false;
+            return None;
         };
         if !*woken {
-            return false;
+            return None;
         }
         *woken = false;
+        let before = client.asked();
         let stage = client.go_on(state);
-        if client.has_run_end() {
-            return true;
-        }
-        if stage == Stage::Over {
+        let asked = client.asked();
+        // Who has the run end is told by that, whatever became of the connection.
+        if stage == Stage::Over && asked != Some(Asked::Stop) {
             self.leave(at);
         }
-        false
+        if before.is_none() { asked } else { None }
     }
 
     /// Lets those in who wait at the doors.

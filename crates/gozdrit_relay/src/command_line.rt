@@ -2,6 +2,7 @@
 ghost use Rattle.std.specs.Prelude.{◌≤◌, ◌<◌, IfOk, IfSome};
 
 use crate::fault::Fault;
+use crate::journal;
 use crate::load::MOST_KEPT;
 use crate::options::command;
 use crate::units::Form;
@@ -32,6 +33,7 @@ pub struct Options<'a> {
     pub seconds: Option<u64>,
     pub stats: Option<u64>,
     pub log: Option<&'a str>,
+    pub log_form: journal::Form,
     /// Where the control socket is, and that of the metrics.
     pub control: Option<&'a str>,
     pub metrics: Option<&'a str>,
@@ -178,6 +180,7 @@ fn common<'a>(matches: &ArgMatches<'a>) -> Result<Options<'a>, Fault<'a>> {
         seconds: value(matches, "seconds", Form::Seconds(1, LONGEST))?,
         stats: value(matches, "stats", Form::Seconds(1, LONGEST))?,
         log: matches.get_str("log"),
+        log_form: log_form(matches)?,
         control: matches.get_str("control"),
         metrics: matches.get_str("metrics"),
         loss: value(matches, "loss", Form::Share(0, 1000))?
@@ -240,6 +243,16 @@ fn kilobits(rate: u64) -> Rate {
     match rate {
         0 => Rate::Free,
         _ => Rate::Kilobits(rate),
+    }
+}
+
+/// What the log has lines of.
+fn log_form<'a>(matches: &ArgMatches<'a>) -> Result<journal::Form, Fault<'a>> {
+    match matches.get_str("log-form") {
+        None => Ok(journal::Form::Events),
+        Some(text) if text == "events" => Ok(journal::Form::Events),
+        Some(text) if text == "packets" => Ok(journal::Form::Packets),
+        Some(text) => Err(Fault::Value("log-form", text, Form::Log)),
     }
 }
 

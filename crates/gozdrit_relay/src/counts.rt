@@ -172,6 +172,18 @@ impl Counts {
         };
     }
 
+    /// Whether anything was counted since but the stream as it flows: what was sent on, taken and played.
+    pub fn tell_more_than_flow(&self, before: &Counts) -> bool {
+        let still = Counts {
+            sent: before.sent,
+            taken: before.taken,
+            played: before.played,
+            time: before.time,
+            ..*self
+        };
+        still != *before
+    }
+
     /// What was asked for so far and not retransmitted.
     pub fn unmet(&self) -> Unmet {
         Unmet {

@@ -16,7 +16,7 @@ use crate::known::Known;
 use crate::learners::{ReceiveLearner, SendLearner};
 use crate::load::Store;
 use crate::machine::{Learner, Machine};
-use crate::sockets::{keep, Kept};
+use crate::sockets::{Kept, keep};
 use endpoint::ResendRule;
 use mio::net::UdpSocket;
 use relays::{Bounds, Peers, Rate, ReceiveRelay, Relay, SendRelay, run};
@@ -242,7 +242,7 @@ fn go<'a, R: Relay + Drop, L: Learner<R> + Drop>(
         bounds(options).until,
     );
     let outcome = run(&mut host, &mut machine);
-    host.write_counts();
+    host.end();
     if let Some(path) = options.control {
         let _ = fs::remove_file(rt, path);
     }
@@ -276,12 +276,12 @@ fn journal<'a>(
     rt: &HostRuntime,
     options: &Options<'a>,
     shows_repair: bool,
-) -> Result<Option<Journal>, Fault<'a>> {
+) -> Result<Option<Journal<'a>>, Fault<'a>> {
     let Some(path) = options.log else {
         return Ok(None);
     };
-    match fs::create(rt, path) {
-        Ok(file) => Ok(Some(Journal::new(file, Vec::new(rt.alloc()), shows_repair))),
+    match Journal::open(rt, path, options.log_form, shows_repair) {
+        Ok(journal) => Ok(Some(journal)),
         Err(_) => Err(Fault::Open(path)),
     }
 }

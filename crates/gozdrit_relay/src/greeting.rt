@@ -130,6 +130,31 @@ pub fn push_full(line: &mut Vec<u8>) -> Result<(), OutOfMemory> {
     )
 }
 
+/// The line of a log that can't be opened anew, with what the system says of it.
+pub fn push_unopened(
+    rt: &HostRuntime,
+    line: &mut Vec<u8>,
+    error: &io::Error,
+) -> Result<(), OutOfMemory> {
+    let told = format!(in rt.alloc();
+        "the log can't be opened anew, and goes on where it is: {error}\n"
+    )?;
+    line.extend_from_slice(told.as_bytes())?;
+    Ok(())
+}
+
+/// The line of those before that standard error did not take.
+pub fn push_unsaid(line: &mut Vec<u8>, count: u64) -> Result<(), OutOfMemory> {
+    push_line(
+        line,
+        &[
+            Word::Text(b"standard error took none of"),
+            Word::Decimal(count),
+            Word::Text(b"lines before the last one"),
+        ],
+    )
+}
+
 /// The line of a far side that is heard at another address.
 pub fn push_moved(
     rt: &HostRuntime,

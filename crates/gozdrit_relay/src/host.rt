@@ -7,7 +7,7 @@ use crate::counts::Counts;
 use crate::draws::Draws;
 use crate::journal::Journal;
 use crate::load::{Load, Store};
-use crate::seats::sooner;
+use crate::seats::{is_over, sooner};
 use crate::seldom::Seldom;
 use crate::turns::Turns;
 use crate::unmet::UnmetTold;
@@ -31,6 +31,11 @@ const FAR: Token = Token(1);
 
 /// How many events the system tells at once.
 const EVENTS: usize = 8;
+
+/// How often the counts are looked at for the log, in milliseconds, and how long the log is without them at most.
+const SECOND: u64 = 1000;
+
+const MINUTE: u64 = 60_000;
 
 /// How long who asks how the relay does waits at most while datagrams come without a pause, in milliseconds.
 const UNHEARD: u64 = 100;
@@ -63,7 +68,7 @@ pub struct Host<'a> {
     pub counts: Counts,
     /// What was told of retransmissions that were asked for in vain.
     unmet: UnmetTold,
-    pub journal: Option<Journal>,
+    pub journal: Option<Journal<'a>>,
     /// From where the last datagram came, and what of such came from elsewhere.
     from: Option<SocketAddr>,
     strays: Seldom,
@@ -79,6 +84,14 @@ pub struct Host<'a> {
     moment: u64,
     /// A line of counts each so many milliseconds, and the moment of the next one.
     stats: Option<(u64, u64)>,
+    /// The moment at which the counts are looked at for the log, where it has lines of them, and what it was told of them last, and when.
+    logs_at: Option<u64>,
+    logged: Counts,
+    logged_at: u64,
+    /// The sooner one of both moments.
+    tells_at: Option<u64>,
+    /// How many lines could not be written without waiting since one was.
+    unsaid: u64,
     is_sender: bool,
     load: Load,
     /// Whether the SSRC of the retransmissions is known from the beginning.
@@ -97,7 +110,7 @@ impl<'a> Host<'a> {
         rt: &'a HostRuntime,
         sockets: Sockets,
         draws: Draws,
-        journal: Option<Journal>,
+        journal: Option<Journal<'a>>,
         stats: Option<u64>,
         store: Store,
         shows_repair: bool,
@@ -112,6 +125,14 @@ impl<'a> Host<'a> {
         poll.registry()
             .register(&mut near, NEAR, Interest::READABLE)?;
         poll.registry().register(&mut far, FAR, Interest::READABLE)?;
+        let stats = stats.map(|seconds| {
+            let apart = seconds.saturating_mul(1000);
+            (apart, apart)
+        });
+        let logs_at = match &journal {
+            Some(journal) if journal.has_counts() => Some(SECOND),
+            _ => None,
+        };
         let clients = if doors.control.is_some() || doors.metrics.is_some() {
             Some(Clients::new(rt.alloc(), poll.registry(), doors)?)
         } else {
@@ -139,13 +160,12 @@ impl<'a> Host<'a> {
             foreign: Seldom::NONE,
             failed: Seldom::NONE,
             moment: 0,
-            stats: match stats {
-                Some(seconds) => {
-                    let apart = seconds.saturating_mul(1000);
-                    Some((apart, apart))
-                }
-                None => None,
-            },
+            stats,
+            logs_at,
+            logged: Counts::NONE,
+            logged_at: 0,
+            tells_at: sooner(stats.map(|stats| stats.1), logs_at),
+            unsaid: 0,
             is_sender: store.is_history(),
             load: Load::new(store),
             shows_repair,
@@ -256,8 +276,13 @@ impl<'a> Host<'a> {
         let state = State {
             counts: &self.counts,
             is_sender: self.is_sender,
+            has_log: self.journal.is_some(),
         };
-        if clients.serve(self.poll.registry(), now, state) {
+        let wishes = clients.serve(self.poll.registry(), now, state);
+        if wishes.reopens {
+            self.reopen_log(now);
+        }
+        if wishes.ends {
             self.is_stopped = true;
             return Err(OutsideFault);
         }
@@ -276,9 +301,11 @@ impl<'a> Host<'a> {
 
     /// The moment until which is slept: no later than that of the next line of counts, nor than clients have it.
     fn next_of(&self, until: Option<u64>) -> Option<u64> {
-        let line = self.stats.map(|stats| stats.1);
-        let clients = self.clients.as_ref().and_then(Clients::next_moment);
-        sooner(sooner(until, line), clients)
+        let next = sooner(until, self.tells_at);
+        match &self.clients {
+            Some(clients) => sooner(next, clients.next_moment()),
+            None => next,
+        }
     }
 }
 
@@ -310,7 +337,9 @@ impl Outside for Host<'_> {
         }
         let now = self.now()?;
         self.moment = now;
-        self.tell_counts(now);
+        if is_over(self.tells_at, now) {
+            self.tell_counts(now);
+        }
         self.tell_unmet(now);
         self.from = came.map(|came| came.1);
         Ok(Meeting { now, came })

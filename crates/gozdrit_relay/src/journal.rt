@@ -1,18 +1,33 @@
 //! The log of a relay: a line for each event, in the words of the simulator's log behind the moment at which it happened.
 ghost use Rattle.std.specs.Prelude.{◌≤◌};
 
-use endpoint::{Heard, Kind, Told};
+use crate::counts::Counts;
+use crate::unwaited::takes_a_line;
+use endpoint::{Heard, Kind, Restart, Told};
 use lines::{Word, push_line};
 use receiver::ReceiveFault;
 use relays::Note;
 use rtpwire::{RtpView, Session};
-use std::fs::File;
+use std::alloc::Global;
+use std::fs::{File, OpenOptions};
+use std::io;
 use std::io::Write;
-use stores::OutOfMemory;
 
-/// A log in a file. Each line is written whole, by one call. One that can't be is lost, and the next one begins anew.
+/// What a log has lines of.
+#[derive(Clone, Copy, Debug, PartialEq, Eq)]
+pub enum Form {
+    /// Of sessions and of what is lost for good, and of the counts.
+    Events,
+    /// Of each packet, with its octets.
+    Packets,
+}
+
+/// A log in a file, behind what that has already. Each line is written whole, by one call, and only where that does not wait. One that can't be is
+/// lost, and the next one begins anew.
 #[derive(Drop)]
-pub struct Journal {
+pub struct Journal<'a> {
+    path: &'a str,
+    form: Form,
     file: File,
     line: Vec<u8>,
     /// Whether the SSRC of the retransmissions is known from the beginning.
@@ -23,16 +38,45 @@ pub struct Journal {
     is_torn: bool,
 }
 
-impl Journal {
-    /// A log without lines, with room for the one that is written. `shows_repair` is whether a session's retransmissions are told by SSRC.
-    pub fn new(file: File, line: Vec<u8>, shows_repair: bool) -> Journal {
-        Journal {
-            file,
-            line,
+impl<'a> Journal<'a> {
+    /// A log at a path, at the moment 0. `shows_repair` is whether a session's retransmissions are told by SSRC.
+    pub fn open(
+        rt: &HostRuntime,
+        path: &'a str,
+        form: Form,
+        shows_repair: bool,
+    ) -> io::Result<Journal<'a>> {
+        let mut journal = Journal {
+            path,
+            form,
+            file: opened(rt, path)?,
+            line: Vec::new(rt.alloc()),
             shows_repair,
             lost: 0,
             is_torn: false,
+        };
+        journal.begin_file(0);
+        Ok(journal)
+    }
+
+    /// Goes on in the file that has its path now, as behind a rotation. Where there can be none it stays in the one that it has.
+    pub fn reopen(&mut self, rt: &HostRuntime, now: u64) -> io::Result<()> {
+        self.file = opened(rt, self.path)?;
+        self.is_torn = false;
+        self.begin_file(now);
+        Ok(())
+    }
+
+    /// The first line of a log of events, by which what reads one of packets knows that it is none.
+    fn begin_file(&mut self, now: u64) {
+        if self.form == Form::Events {
+            self.write(&[Word::Decimal(now), Word::Text(b"events")]);
         }
+    }
+
+    /// Whether it has lines of the counts.
+    pub fn has_counts(&self) -> bool {
+        self.form == Form::Events
     }
 
     /// How many lines could not be written.
@@ -42,6 +86,52 @@ impl Journal {
 
     /// Writes what a relay did at a moment, with the octets that left or came, and the number of the datagram that left.
     pub fn note(&mut self, now: u64, note: &Note, octets: &[u8], index: u64) {
+        match self.form {
+            Form::Events => self.note_event(now, note),
+            Form::Packets => self.note_packet(now, note, octets, index),
+        }
+    }
+
+    /// Writes what is an event.
+    fn note_event(&mut self, now: u64, note: &Note) {
+        match note {
+            Note::Began(session, first, _) => self.begin(now, session, *first),
+            Note::Moved(_, answer, _) => {
+                self.write(&[Word::Decimal(now), Word::Text(b"moved")]);
+                self.hear_event(now, answer);
+            }
+            Note::Heard(answer, _) => self.hear_event(now, answer),
+            Note::Gap(place) => self.count(now, b"gap", place.value()),
+            Note::Crowded(packets) => self.count(now, b"crowded", *packets),
+            _ => {}
+        }
+    }
+
+    /// Writes what an answer lost, and a restart.
+    fn hear_event(&mut self, now: u64, answer: &Result<Heard, ReceiveFault>) {
+        match answer {
+            Ok(Heard::Media(taken) | Heard::Repair(taken)) => {
+                self.leave_behind(now, b"overrun", taken.overrun)
+            }
+            Ok(Heard::Restarted(restart)) => self.restart(now, restart),
+            _ => {}
+        }
+    }
+
+    /// Writes the counts.
+    pub fn write_counts(&mut self, alloc: Global, now: u64, counts: &Counts, is_sender: bool) {
+        let mut figures = Vec::new(alloc);
+        if counts.push(alloc, &mut figures, is_sender).is_err() {
+            return;
+        }
+        let Some((_, text)) = figures.split_last() else {
+            return;
+        };
+        self.write(&[Word::Decimal(now), Word::Text(b"counts"), Word::Text(text)]);
+    }
+
+    /// Writes all that it did.
+    fn note_packet(&mut self, now: u64, note: &Note, octets: &[u8], index: u64) {
         match note {
             Note::Sent(place) => self.write(&[
                 Word::Decimal(now),
@@ -87,7 +177,9 @@ impl Journal {
 
     /// The datagram of the line before was dropped for a trial.
     pub fn lose(&mut self, now: u64, index: u64) {
-        self.count(now, b"lost", index);
+        if self.form == Form::Packets {
+            self.count(now, b"lost", index);
+        }
     }
 
     fn hear(&mut self, now: u64, answer: &Result<Heard, ReceiveFault>, kind: Kind) {
@@ -103,19 +195,22 @@ impl Journal {
                 self.leave_behind(now, b"overrun", taken.overrun);
             }
             Ok(Heard::HeldBack(_)) => self.write(&[Word::Decimal(now), Word::Text(b"held")]),
-            Ok(Heard::Restarted(restart)) => {
-                self.count(now, b"restarted", restart.taken.place.value());
-                self.leave_behind(now, b"overrun", restart.taken.overrun);
-                self.leave_behind(now, b"abandoned", restart.abandoned);
-                self.leave_behind(now, b"skipped", u64::from(restart.skipped));
-            }
+            Ok(Heard::Restarted(restart)) => self.restart(now, restart),
             Ok(Heard::Control) => {}
             Err(fault) => self.count(now, refused_as(kind), u64::from(fault.number())),
         }
     }
 
+    /// The stream was restarted, and what that left behind.
+    fn restart(&mut self, now: u64, restart: &Restart) {
+        self.count(now, b"restarted", restart.taken.place.value());
+        self.leave_behind(now, b"overrun", restart.taken.overrun);
+        self.leave_behind(now, b"abandoned", restart.abandoned);
+        self.leave_behind(now, b"skipped", u64::from(restart.skipped));
+    }
+
     /// So many places were left behind or passed over by the packet of the line before, if any were.
-    fn leave_behind<'a>(&mut self, now: u64, how: &'a [u8], places: u64) {
+    fn leave_behind<'x>(&mut self, now: u64, how: &'x [u8], places: u64) {
         if places > 0 {
             self.count(now, how, places);
         }
@@ -148,7 +243,7 @@ impl Journal {
         ]);
     }
 
-    fn count<'a>(&mut self, now: u64, kind: &'a [u8], number: u64) {
+    fn count<'x>(&mut self, now: u64, kind: &'x [u8], number: u64) {
         self.write(&[Word::Decimal(now), Word::Text(kind), Word::Decimal(number)]);
     }
 
@@ -156,11 +251,23 @@ impl Journal {
         self.line.clear();
         let is_apart = !self.is_torn || self.line.push(b'\n').is_ok();
         let is_whole = is_apart && push_line(&mut self.line, words).is_ok();
-        self.is_torn = !is_whole || self.file.write_all(&self.line).is_err();
-        if self.is_torn {
-            self.lost = self.lost.saturating_add(1);
+        if is_whole && takes_a_line(&self.file) {
+            self.is_torn = self.file.write_all(&self.line).is_err();
+            if !self.is_torn {
+                return;
+            }
         }
+        self.lost = self.lost.saturating_add(1);
     }
+}
+
+/// A file to which lines are added. It is opened for reading, too, since a FIFO would else be waited for until somebody reads it.
+fn opened(rt: &HostRuntime, path: &str) -> io::Result<File> {
+    OpenOptions::new()
+        .read(true)
+        .append(true)
+        .create(true)
+        .open(rt, path)
 }
 
 /// How many octets of an SSRC are shown: none where it is not known.

@@ -37,6 +37,7 @@ mod too_long;
 mod turns;
 mod units;
 mod unmet;
+mod unwaited;
 
 use command_line::choose;
 use entry::relay;

@@ -117,7 +117,7 @@ fn ctl<'a>(alloc: Global) -> Result<Command<'a>, AllocError> {
             alloc,
             "request",
             "REQUEST",
-            "stats: all counts, as JSON; stop: the run ends, with the last line of counts",
+            "stats: all counts, as JSON; reopen: the log is opened anew; stop: the run ends, with the last line of counts",
         ))
 }
 
@@ -194,7 +194,18 @@ fn of_run<'a>(alloc: Global, command: Command<'a>) -> Result<Command<'a>, AllocE
             "SECONDS",
             "A line of counts each so many seconds; 1 where standard error is a terminal, else 60",
         ))?
-        .arg(option(alloc, "log", "FILE", "A line for each event"))?
+        .arg(option(
+            alloc,
+            "log",
+            "FILE",
+            "A line for each event, behind what the file has",
+        ))?
+        .arg(option(
+            alloc,
+            "log-form",
+            "FORM",
+            "events: sessions, what is lost for good, and counts; packets: each packet with its octets; events by default",
+        ))?
         .arg(option(
             alloc,
             "control",

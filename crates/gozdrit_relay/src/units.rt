@@ -22,6 +22,8 @@ pub enum Form {
     Rate(u64),
     /// An SSRC.
     Ssrc,
+    /// What a log has lines of.
+    Log,
 }
 
 /// A number in tens of digits, with the unit that stands behind it: how much one of that is. What has no unit is in the form's own.
@@ -48,7 +50,7 @@ fn measured(text: &str, units: &[(&'static str, u64)], least: u64, most: u64) ->
 }
 
 impl Form {
-    /// The number that a text of this form is, in the form's own unit. Of a rate it is that in kilobits a second, and an SSRC is none.
+    /// The number that a text of this form is, in the form's own unit. Of a rate it is that in kilobits a second, and an SSRC and a word are none.
     pub fn read(self, text: &str) -> Option<u64> {
         match self {
             Form::Number(least, most) => measured(text, &[], least, most),
@@ -67,7 +69,7 @@ impl Form {
                 most,
             ),
             Form::Rate(_) => measured(text, &[("k", 1), ("M", 1000)], 0, u64::MAX),
-            Form::Ssrc => None,
+            Form::Ssrc | Form::Log => None,
         }
     }
 }
@@ -113,6 +115,7 @@ impl fmt::Display for Form {
                 "kilobits a second, as 2000, 2000k or 2M, or a share from 1% to {most}%"
             ),
             Form::Ssrc => f.write_str("an SSRC, by one to eight hexadecimal digits"),
+            Form::Log => f.write_str("events or packets"),
         }
     }
 }

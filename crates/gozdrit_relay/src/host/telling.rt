@@ -1,18 +1,35 @@
 //! What is told of a run: its counts, its sessions, and what goes wrong, line by line.
-use super::Host;
+use super::{Host, MINUTE, SECOND};
 use crate::foreign::told_apart;
 use crate::greeting::{
     push_failed, push_foreign, push_full, push_moved, push_session, push_strays, push_too_long,
+    push_unopened, push_unsaid,
 };
 use crate::hindrance::hindered_by;
+use crate::seats::{is_over, sooner};
 use crate::too_long::is_too_long;
+use crate::unwaited::takes_a_line;
 use relays::{Note, Turn};
 use std::io;
 use std::io::Write;
 use std::net::SocketAddr;
 
 impl<'a> Host<'a> {
-    /// Writes the line of counts where its moment has come.
+    /// Writes the line that was made to standard error, where that does not wait. How many were not is told behind the next one that is.
+    fn say(&mut self) {
+        let mut to = self.rt.stderr();
+        if !takes_a_line(&to) {
+            self.unsaid = self.unsaid.saturating_add(1);
+            return;
+        }
+        if self.unsaid > 0 && push_unsaid(&mut self.line, self.unsaid).is_ok() {
+            self.unsaid = 0;
+        }
+        let _ = to.write_all(&self.line);
+    }
+
+    /// Writes the lines of counts whose moment has come: that of standard error, and that of the log.
+    #[inline(never)]
     pub(super) fn tell_counts(&mut self, now: u64) {
         if let Some((apart, next)) = self.stats {
             if now >= next {
@@ -20,16 +37,54 @@ impl<'a> Host<'a> {
                 self.write_counts();
             }
         }
+        if is_over(self.logs_at, now) {
+            self.logs_at = Some(now.saturating_add(SECOND));
+            let is_minute = now.saturating_sub(self.logged_at) >= MINUTE;
+            if is_minute || self.counts.tell_more_than_flow(&self.logged) {
+                self.log_counts(now);
+            }
+        }
+        self.tells_at = sooner(self.stats.map(|stats| stats.1), self.logs_at);
     }
 
     /// Writes the line of counts.
-    pub fn write_counts(&mut self) {
+    fn write_counts(&mut self) {
         self.line.clear();
         let pushed = self
             .counts
             .push(self.rt.alloc(), &mut self.line, self.is_sender);
         if pushed.is_ok() {
-            let _ = self.rt.stderr().write_all(&self.line);
+            self.say();
+        }
+    }
+
+    /// Writes the counts to the log.
+    fn log_counts(&mut self, now: u64) {
+        self.logged = self.counts;
+        self.logged_at = now;
+        if let Some(journal) = &mut self.journal {
+            journal.write_counts(self.rt.alloc(), now, &self.counts, self.is_sender);
+        }
+    }
+
+    /// Writes the last counts of a run.
+    pub fn end(&mut self) {
+        if self.logs_at.is_some() {
+            self.log_counts(self.moment);
+        }
+        self.write_counts();
+    }
+
+    /// Has the log go on in the file that has its name now. Where that can't be it stays in the one that it has, and that is told.
+    pub(super) fn reopen_log(&mut self, now: u64) {
+        let Some(journal) = &mut self.journal else {
+            return;
+        };
+        if let Err(error) = journal.reopen(self.rt, now) {
+            self.line.clear();
+            if push_unopened(self.rt, &mut self.line, &error).is_ok() {
+                self.say();
+            }
         }
     }
 
@@ -43,7 +98,7 @@ impl<'a> Host<'a> {
         };
         self.line.clear();
         if unmet.push(&mut self.line).is_ok() {
-            let _ = self.rt.stderr().write_all(&self.line);
+            self.say();
         }
     }
 
@@ -63,7 +118,7 @@ impl<'a> Host<'a> {
             _ => return,
         };
         if pushed.is_ok() {
-            let _ = self.rt.stderr().write_all(&self.line);
+            self.say();
         }
     }
 
@@ -81,7 +136,7 @@ impl<'a> Host<'a> {
         if lost == 0 && journal.lost() > 0 {
             self.line.clear();
             if push_full(&mut self.line).is_ok() {
-                let _ = self.rt.stderr().write_all(&self.line);
+                self.say();
             }
         }
     }
@@ -99,7 +154,7 @@ impl<'a> Host<'a> {
         };
         self.line.clear();
         if push_strays(self.rt, &mut self.line, count, from).is_ok() {
-            let _ = self.rt.stderr().write_all(&self.line);
+            self.say();
         }
     }
 
@@ -141,7 +196,7 @@ impl<'a> Host<'a> {
         };
         self.line.clear();
         if push_too_long(&mut self.line, count).is_ok() {
-            let _ = self.rt.stderr().write_all(&self.line);
+            self.say();
         }
     }
 
@@ -156,7 +211,7 @@ impl<'a> Host<'a> {
         };
         self.line.clear();
         if push_foreign(&mut self.line, count, what).is_ok() {
-            let _ = self.rt.stderr().write_all(&self.line);
+            self.say();
         }
     }
 
@@ -168,7 +223,7 @@ impl<'a> Host<'a> {
         };
         self.line.clear();
         if push_failed(self.rt, &mut self.line, count, to, error).is_ok() {
-            let _ = self.rt.stderr().write_all(&self.line);
+            self.say();
         }
     }
 
@@ -179,7 +234,7 @@ impl<'a> Host<'a> {
         };
         self.line.clear();
         if shortage.push(&mut self.line).is_ok() {
-            let _ = self.rt.stderr().write_all(&self.line);
+            self.say();
         }
     }
 }
