@@ -23,7 +23,7 @@ use Rattle.timing.specs.declared.arrivals.Arrivals.{Arrivals}
 use Rattle.timing.specs.declared.round_trip.Probe.{Probe}
 use Rattle.timing.specs.declared.round_trip.RoundTrip.{RoundTrip}
 use Rattle.timing.specs.Path.{found_needless, new_path, path_repaired, path_seen, path_taken}
-use Rattle.timing.specs.RoundTrip.{doubted, forgotten, heard_again, passed_at, probed}
+use Rattle.timing.specs.RoundTrip.{doubted, forgotten, given_up_at, heard_again, passed_at, probed}
 use Rattle.timing.specs.Arrivals.{came_at, lead_at, none_came, restarted_at}
 use Rattle.timing.specs.Capped.{capped}
 
@@ -138,9 +138,14 @@ trip_asked (Some highest) s nack now t = trip_after t.probe s highest nack now t
 abbrev pub meter_asked : Span → (nack : List ℕ) → (now : ℕ) → PathMeter → PathMeter
 meter_asked s nack now m = record m { path = record m.path { trip = trip_asked (highest_of s) s nack now m.path.trip } }
 
--- a place is played or given up
+-- a place is played
 abbrev pub meter_passed : (place : ℕ) → PathMeter → PathMeter
 meter_passed place m = record m { path = record m.path { trip = passed_at m.path.trip place } }
+
+-- a place is given up, which may be a measurement
+abbrev pub meter_given_up : (place now : ℕ) → PathMeter → PathMeter
+meter_given_up place now m =
+    record { path = record m.path { trip = (given_up_at m.path.trip place now).1 }; is_new = m.is_new || (given_up_at m.path.trip place now).0 }
 
 -- all places are others, and none is measured any more
 abbrev pub meter_restarted : PathMeter → PathMeter

@@ -12,6 +12,8 @@ use Rattle.receiver.specs.declared.fault.ReceiveFault.TheVariants as refused
 use Rattle.receiver.specs.Asks.{asked_into}
 use Rattle.endpoint.specs.declared.heard.Heard.{Heard}
 use Rattle.endpoint.specs.declared.heard.Heard.TheVariants as heard
+use Rattle.endpoint.specs.declared.passed.Passed.{Passed}
+use Rattle.endpoint.specs.declared.passed.Passed.TheVariants as passed
 use Rattle.endpoint.specs.declared.receive_counts.ReceiveCounts.{ReceiveCounts}
 use Rattle.endpoint.specs.Counts.{count_in_64, more}
 
@@ -28,11 +30,21 @@ count_heard (Err (refused.Put Late)) c = record c { late = more c.late 1 }
 count_heard (Err (refused.Place Far)) c = record c { far = more c.far 1 }
 count_heard (Err fault) c = record c { refused = more c.refused 1 }
 
+-- the place that a play passes, and whether it is given up
+abbrev pub passed_by : Played → Passed
+passed_by (Packet place content) = passed.Packet place
+passed_by (Gap place) = passed.Gap place
+passed_by Wait = passed.Nothing
+
+-- what a play passed
+abbrev pub count_passed : Passed → ReceiveCounts → ReceiveCounts
+count_passed (passed.Packet place) c = record c { played = more c.played 1 }
+count_passed (passed.Gap place) c = record c { gaps = more c.gaps 1 }
+count_passed passed.Nothing c = c
+
 -- what a play gave
 abbrev pub count_played : Played → ReceiveCounts → ReceiveCounts
-count_played (Packet place content) c = record c { played = more c.played 1 }
-count_played (Gap place) c = record c { gaps = more c.gaps 1 }
-count_played Wait c = c
+count_played played c = count_passed (passed_by played) c
 
 -- an ask for so many places
 abbrev pub count_ask : (places : ℕ) → ReceiveCounts → ReceiveCounts

@@ -8,13 +8,14 @@ ghost use Rattle.receiver.specs.Window.{PlaysAny};
 ghost use Rattle.endpoint.specs.Asked.{RemembersAsk, RemembersAskInto, kept_after, none_asked};
 ghost use Rattle.endpoint.specs.Kinds.{IsKind, count_kind, no_kinds};
 ghost use Rattle.endpoint.specs.Receiving.{ends_of, fresh, HearsDatagram, no_run};
-ghost use Rattle.endpoint.specs.ReceiveCounts.{count_heard, count_played, CountsAsk, CountsAskInto, no_counts};
+ghost use Rattle.endpoint.specs.ReceiveCounts.{count_heard, count_passed, count_played, CountsAsk, CountsAskInto, no_counts};
 ghost use Rattle.endpoint.specs.Seen.{none_seen, seen_after};
 
 use crate::asked_places::AskedPlaces;
 use crate::heard::Heard;
 use crate::kind::{Kind, kind_of};
 use crate::kind_counts::KindCounts;
+use crate::passed::Passed;
 use crate::probation::Probation;
 use crate::receiving::ReceivingEndpoint;
 use receiver::{HasStarted, Played, ReceiveFault, ReceiverConfig};
@@ -110,6 +111,17 @@ impl<W: Window> AskingEndpoint<W> {
         ensures rest { self.new ≡ record self.old { endpoint = record self.old.endpoint { core = self.new.endpoint.core; counts = self.new.endpoint.counts } } }
     {
         self.endpoint.pass_within(patience, now);
+    }
+
+    /// [`ReceivingEndpoint::pass_known`].
+    pub fn pass_known(&mut self, passed: Passed, patience: u64, now: u64)
+        ensures passes { self.new.endpoint.core ≡ receiver_passed (play_of patience now self.old.endpoint.core.span) self.old.endpoint.core }
+        ensures plays { PlaysAny patience (state_of self.old.endpoint.core) now (play_of patience now self.old.endpoint.core.span) (state_of self.new.endpoint.core) }
+        ensures stays { Stays self.old.endpoint.core self.new.endpoint.core }
+        ensures counts { self.new.endpoint.counts ≡ count_passed passed self.old.endpoint.counts }
+        ensures rest { self.new ≡ record self.old { endpoint = record self.old.endpoint { core = self.new.endpoint.core; counts = self.new.endpoint.counts } } }
+    {
+        self.endpoint.pass_known(passed, patience, now);
     }
 
     /// [`ReceivingEndpoint::ask_most`]. The places that the NACK names are remembered.

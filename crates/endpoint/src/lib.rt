@@ -17,6 +17,7 @@ mod kind_counts;
 mod laws;
 mod moments;
 mod padding;
+mod passed;
 mod path_meter;
 mod probation;
 mod receive_counts;
@@ -46,6 +47,7 @@ pub use laws::{
 };
 pub use moments::Moments;
 pub use padding::without_padding;
+pub use passed::Passed;
 pub use path_meter::PathMeter;
 pub use probation::Probation;
 pub use receive_counts::ReceiveCounts;

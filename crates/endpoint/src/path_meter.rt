@@ -1,7 +1,7 @@
 //! How a path is measured by what a receiving endpoint hears of it, and asks there.
-ghost use Rattle.std.specs.Prelude.{◌≡◌, false, true};
+ghost use Rattle.std.specs.Prelude.{◌≡◌, ◌||◌, false, true};
 ghost use Rattle.stores.specs.ByPlace.{slot_at};
-ghost use Rattle.endpoint.specs.Measuring.{again_by, asks_of, left_at, measured_by, meter_asked, meter_heard, meter_passed, meter_restarted, new_meter, refused_by, seen_by, times_set, trip_after, trip_probed};
+ghost use Rattle.endpoint.specs.Measuring.{again_by, asks_of, left_at, measured_by, meter_asked, meter_given_up, meter_heard, meter_passed, meter_restarted, new_meter, refused_by, seen_by, times_set, trip_after, trip_probed};
 ghost use Rattle.timing.specs.Path.{times_over};
 
 use crate::asked_places::asked_at;
@@ -46,7 +46,7 @@ impl PathMeter {
         ensures { self.new ≡ meter_heard answer.now standing.now now self.old }
     {
         let is_more = measure(&mut self.path, answer, standing, now);
-        self.is_new = self.is_new || is_more;
+        self.learn(is_more);
     }
 
     /// The endpoint made this NACK, and its receiver stands so since. The round-trip time is measured by the first place that the NACK
@@ -59,11 +59,26 @@ impl PathMeter {
         }
     }
 
-    /// A place was played or given up.
+    /// A place was played.
     pub fn pass(&mut self, place: Place)
         ensures { self.new ≡ meter_passed place self.old }
     {
         self.path.trip.pass(place);
+    }
+
+    /// A place was given up: so an answer takes longer than that was waited for, where none came to two others before.
+    pub fn give_up(&mut self, place: Place, now: u64)
+        ensures { self.new ≡ meter_given_up place now self.old }
+    {
+        let is_more = self.path.trip.give_up(place, now);
+        self.learn(is_more);
+    }
+
+    /// What was measured is more than was known, where it says so.
+    fn learn(&mut self, is_more: bool)
+        ensures { self.new ≡ record self.old { is_new = self.old.is_new || is_more } }
+    {
+        self.is_new = self.is_new || is_more;
     }
 
     /// The endpoint was made one that took nothing: what was measured of the path stays, and what was of the stream goes.

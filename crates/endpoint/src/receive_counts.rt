@@ -1,12 +1,12 @@
 //! What a receiving endpoint counts.
 ghost use Rattle.std.specs.Prelude.{◌≡◌};
-ghost use Rattle.receiver.specs.Peeking.{played_of};
 ghost use Rattle.endpoint.specs.Counts.{more};
-ghost use Rattle.endpoint.specs.ReceiveCounts.{count_heard, count_played, count_ask};
+ghost use Rattle.endpoint.specs.ReceiveCounts.{count_heard, count_passed, count_ask};
 
 use crate::heard::Heard;
-use places::{Place, PlaceFault};
-use receiver::{Peeked, Played, ReceiveFault};
+use crate::passed::Passed;
+use places::PlaceFault;
+use receiver::ReceiveFault;
 use stores::PutFault;
 
 /// How often a receiving endpoint answered what, since it was made. A restart of the stream starts no count anew. Each count
@@ -116,32 +116,14 @@ impl ReceiveCounts {
         }
     }
 
-    /// Counts what a play gave.
-    pub(crate) fn play(&mut self, played: &Played)
-        ensures { self.new ≡ count_played played.now self.old }
+    /// Counts what a play passed.
+    pub(crate) fn pass(&mut self, passed: Passed)
+        ensures { self.new ≡ count_passed passed self.old }
     {
-        match played {
-            Played::Packet(..) => add(&mut self.played, 1),
-            Played::Gap(_) => add(&mut self.gaps, 1),
-            Played::Wait => {}
-        }
-    }
-
-    /// Counts what a play gave that was lent. (It answers the place, which nobody needs, since the toolchain's check of borrows
-    /// has to meet the type of a place in this function.)
-    pub(crate) fn pass(&mut self, peeked: Peeked<'_>) -> Option<Place>
-        ensures { self.new ≡ count_played (played_of peeked.entry) self.old }
-    {
-        match peeked {
-            Peeked::Packet(place, _) => {
-                add(&mut self.played, 1);
-                Some(place)
-            }
-            Peeked::Gap(place) => {
-                add(&mut self.gaps, 1);
-                Some(place)
-            }
-            Peeked::Wait => None,
+        match passed {
+            Passed::Packet(_) => add(&mut self.played, 1),
+            Passed::Gap(_) => add(&mut self.gaps, 1),
+            Passed::Nothing => {}
         }
     }
 

@@ -5,7 +5,7 @@ ghost use Rattle.receiver.specs.Peeking.{play_of, receiver_passed};
 ghost use Rattle.receiver.specs.Receiver.{Stays, begun, restarted, state_of, with_times};
 ghost use Rattle.receiver.specs.Window.{PlaysAny};
 ghost use Rattle.endpoint.specs.Receiving.{ends_of, fresh, HearsDatagram, HearsPacket, no_run};
-ghost use Rattle.endpoint.specs.ReceiveCounts.{count_heard, count_played, CountsAsk, CountsAskInto, no_counts};
+ghost use Rattle.endpoint.specs.ReceiveCounts.{count_heard, count_passed, count_played, CountsAsk, CountsAskInto, no_counts};
 ghost use Rattle.endpoint.specs.Seen.{none_seen, seen_after};
 
 use crate::asking::places_in;
@@ -14,6 +14,7 @@ use crate::heard::Heard;
 use crate::holding::{Run, hear_wanted, wanted_at};
 use crate::judging::media_number;
 use crate::padding::without_padding;
+use crate::passed::Passed;
 use crate::probation::Probation;
 use crate::receive_counts::ReceiveCounts;
 use crate::seen_packets::{SEEN, SeenPackets, is_repeat};
@@ -150,7 +151,7 @@ impl<W: Window> ReceivingEndpoint<W> {
         ensures rest { self.new ≡ record self.old { core = self.new.core; counts = self.new.counts } }
     {
         let played = self.core.play(now);
-        self.counts.play(&played);
+        self.counts.pass(Passed::by(&played));
         played
     }
 
@@ -174,7 +175,19 @@ impl<W: Window> ReceivingEndpoint<W> {
         ensures counts { self.new.counts ≡ count_played (play_of patience now self.old.core.span) self.old.counts }
         ensures rest { self.new ≡ record self.old { core = self.new.core; counts = self.new.counts } }
     {
-        let _ = self.counts.pass(self.core.peek_within(patience, now));
+        let passed = Passed::lent(self.core.peek_within(patience, now));
+        self.pass_known(passed, patience, now);
+    }
+
+    /// [`pass_within`](ReceivingEndpoint::pass_within), for whoever was lent what it passes: that is counted as the caller says.
+    pub fn pass_known(&mut self, passed: Passed, patience: u64, now: u64)
+        ensures passes { self.new.core ≡ receiver_passed (play_of patience now self.old.core.span) self.old.core }
+        ensures plays { PlaysAny patience (state_of self.old.core) now (play_of patience now self.old.core.span) (state_of self.new.core) }
+        ensures stays { Stays self.old.core self.new.core }
+        ensures counts { self.new.counts ≡ count_passed passed self.old.counts }
+        ensures rest { self.new ≡ record self.old { core = self.new.core; counts = self.new.counts } }
+    {
+        self.counts.pass(passed);
         self.core.pass_within(patience, now);
     }
 

@@ -14,13 +14,15 @@ use Rattle.receiver.specs.Window.{PlaysAny}
 use Rattle.stores.specs.Span.{highest_of}
 use Rattle.endpoint.specs.declared.heard.Heard.{Heard}
 use Rattle.endpoint.specs.declared.kind.Kind.{Kind}
+use Rattle.endpoint.specs.declared.passed.Passed.{Passed}
+use Rattle.endpoint.specs.declared.passed.Passed.TheVariants as passed
 use Rattle.endpoint.specs.declared.path_meter.PathMeter.{PathMeter}
 use Rattle.endpoint.specs.declared.standing.Standing.{Standing}
 use Rattle.endpoint.specs.Asked.{RemembersAskInto, kept_after}
 use Rattle.endpoint.specs.Kinds.{IsKind, count_kind}
-use Rattle.endpoint.specs.Measuring.{IsStanding, left_at, meter_asked, meter_heard, meter_passed, times_set}
+use Rattle.endpoint.specs.Measuring.{IsStanding, left_at, meter_asked, meter_given_up, meter_heard, meter_passed, times_set}
 use Rattle.endpoint.specs.Receiving.{HearsDatagram, ends_of}
-use Rattle.endpoint.specs.ReceiveCounts.{count_heard, count_played, CountsAskInto}
+use Rattle.endpoint.specs.ReceiveCounts.{count_heard, count_played, passed_by, CountsAskInto}
 use Rattle.endpoint.specs.Seen.{seen_after}
 use Rattle.timing.specs.Path.{times_over}
 use Rattle.timing.specs.declared.feedback_budget.FeedbackBudget.{FeedbackBudget}
@@ -76,16 +78,11 @@ pub record HearsAs (before : Receiver) (octets : List ℕ) (now : ℕ) (answer :
   pub budget : mid.budget ≡ budget_with (length octets) before.budget
   pub measures : Measures before.follows before octets now answer mid after
 
--- a place that is played or given up is measured no longer
-abbrev pub meter_after : (place : Option ℕ) → PathMeter → PathMeter
-meter_after None m = m
-meter_after (Some place) m = meter_passed place m
-
--- the place that a play passes
-abbrev pub place_of : Played → Option ℕ
-place_of (Packet place content) = Some place
-place_of (Gap place) = Some place
-place_of Wait = None
+-- a place that is played is measured no longer, and one that is given up may be a measurement
+abbrev pub meter_after : Passed → (now : ℕ) → PathMeter → PathMeter
+meter_after passed.Nothing now m = m
+meter_after (passed.Packet place) now m = meter_passed place m
+meter_after (passed.Gap place) now m = meter_given_up place now m
 
 -- How long the next place to play is waited for since it was noticed to be missing: the patience; and where it is given up by when its
 -- packet was sent, less of it, as far as a silence tells.
@@ -96,12 +93,12 @@ patience_of r = if r.by_sent then left_at r.meter.path.arrivals (core_of r).conf
 abbrev pub next_play : Receiver → (now : ℕ) → Played
 next_play r now = play_of (patience_of r) now (core_of r).span
 
--- a play, by which this place is measured no longer
-pub record PassesAs (before : Receiver) (place : Option ℕ) (now : ℕ) (after : Receiver) : Type 0 where
+-- a play
+pub record PassesAs (before : Receiver) (now : ℕ) (after : Receiver) : Type 0 where
   pub passes : core_of after ≡ receiver_passed (next_play before now) (core_of before)
   pub plays : PlaysAny (patience_of before) (state_of (core_of before)) now (next_play before now) (state_of (core_of after))
   pub counts : after.endpoint.endpoint.counts ≡ count_played (next_play before now) before.endpoint.endpoint.counts
-  pub rest : after ≡ record before { endpoint = record before.endpoint { endpoint = record before.endpoint.endpoint { core = core_of after; counts = after.endpoint.endpoint.counts } }; meter = meter_after place before.meter }
+  pub rest : after ≡ record before { endpoint = record before.endpoint { endpoint = record before.endpoint.endpoint { core = core_of after; counts = after.endpoint.endpoint.counts } }; meter = meter_after (passed_by (next_play before now)) now before.meter }
 
 -- an ask is measured by its NACK
 abbrev pub meter_of_ask : (follows : Bool) → Receiving → (out : List ℕ) → Result (Option ℕ) TooShort → (now : ℕ) → PathMeter → PathMeter

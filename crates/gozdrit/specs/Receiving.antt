@@ -19,7 +19,7 @@ use Rattle.timing.specs.FeedbackBudget.{nothing_earned}
 use Rattle.timing.specs.declared.feedback_budget.FeedbackBudget.{FeedbackBudget}
 use Rattle.gozdrit.specs.Budget.{budget_anew}
 use Rattle.gozdrit.specs.Ends.{Receiver}
-use Rattle.gozdrit.specs.Following.{AsksNext, HearsAs, PassesAs, core_of, next_play, place_of, with_ends}
+use Rattle.gozdrit.specs.Following.{AsksNext, HearsAs, PassesAs, core_of, next_play, with_ends}
 use Rattle.gozdrit.specs.Codes.{ok, no_end, is_held, out_of_memory, no_room, has_started, bad_limit, bad_size}
 use Rattle.gozdrit.specs.declared.sizes.TheConstants.{PLAYED, RECEIVED, RECEIVER_CONFIG}
 use Rattle.gozdrit.specs.Sizes.{SaysKnown}
@@ -85,7 +85,7 @@ pub record AnswersPlay (old : Option Receiver) (now : ℕ) (played : PlayedPacke
   pub small : IsSome old → played.size < PLAYED → code ≡ bad_size
   pub short : (before : Receiver) → old ≡ Some before → PLAYED ≤ played.size → (HasRoom (next_play before now) payload → ⊥) → code ≡ no_room
   pub plays : (before : Receiver) → old ≡ Some before → PLAYED ≤ played.size → HasRoom (next_play before now) payload
-      → (code ≡ ok) × IsSomeAnd new (PassesAs before (place_of (next_play before now)) now) × TellsPlayed (next_play before now) played payload played' payload'
+      → (code ≡ ok) × IsSomeAnd new (PassesAs before now) × TellsPlayed (next_play before now) played payload played' payload'
   pub refused : code ≢ ok → (new ≡ old) × (played' ≡ played) × (payload' ≡ payload)
 
 -- `gozdrit_nack`

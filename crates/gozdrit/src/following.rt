@@ -3,19 +3,19 @@ ghost use Rattle.std.specs.Prelude.{◌≡◌, ◌↔◌, ◌^◌, ℕ, ◌<◌,
 ghost use Rattle.std.specs.Option.{option_map};
 ghost use Rattle.arrayvec.specs.ArrayVec.{ArrayVec};
 ghost use Rattle.endpoint.specs.Measuring.{meter_heard};
+ghost use Rattle.endpoint.specs.ReceiveCounts.{passed_by};
 ghost use Rattle.receiver.specs.Receiver.{state_of};
 ghost use Rattle.receiver.specs.Peeking.{is_ready};
 ghost use Rattle.receiver.specs.Waking.{IsQuiet};
 ghost use Rattle.stores.specs.Asking.{has_come};
 ghost use Rattle.stores.specs.Lent.{slot_of};
 ghost use Rattle.stores.specs.Span.{front_of};
-ghost use Rattle.gozdrit.specs.Following.{AsksAgain, AsksAs, AsksEarned, AsksNext, HearsAs, HearsOwn, PassesAs, core_of, leaves_twice, left_behind, patience_of, timed_where};
+ghost use Rattle.gozdrit.specs.Following.{AsksAgain, AsksAs, AsksEarned, AsksNext, HearsAs, HearsOwn, PassesAs, core_of, leaves_twice, left_behind, next_play, patience_of, timed_where};
 ghost use Rattle.gozdrit.specs.Budget.{budget_with, room_in};
 
 use crate::again::{Again, MAX_NACK, copy_of, write_copy};
 use crate::budget::{MIN_NACK, earn, fewer_in, is_earned, room, spend};
-use endpoint::{AskingEndpoint, Heard, PathMeter, Standing};
-use places::Place;
+use endpoint::{AskingEndpoint, Heard, Passed, PathMeter, Standing};
 use receiver::ReceiveFault;
 use rtpwire::TooShort;
 use stores::{RingWindow, SlotRef, Window};
@@ -201,15 +201,18 @@ impl MeteredReceiver {
         }
     }
 
-    /// `AskingEndpoint::pass_within`, with the patience that is left for the next place, and of this place if it is one.
-    pub(crate) fn pass(&mut self, patience: u64, place: Option<Place>, now: u64)
-        requires { patience ≡ patience_of self.old }
-        ensures { PassesAs self.old place now self.new }
+    /// `AskingEndpoint::pass_known`, with the patience that is left for the next place.
+    pub(crate) fn pass(&mut self, passed: Passed, patience: u64, now: u64)
+        requires patience { patience ≡ patience_of self.old }
+        requires passed { passed ≡ passed_by (next_play self.old now) }
+        ensures { PassesAs self.old now self.new }
     {
-        self.endpoint.pass_within(patience, now);
-        if let Some(place) = place {
-            self.meter.pass(place);
+        match &passed {
+            Passed::Packet(place) => self.meter.pass(*place),
+            Passed::Gap(place) => self.meter.give_up(*place, now),
+            Passed::Nothing => {}
         }
+        self.endpoint.pass_known(passed, patience, now);
     }
 }
 

@@ -2,12 +2,13 @@
 ghost use Rattle.std.specs.Prelude.{◌≡◌, ◌≢◌, ◌≤◌, length};
 ghost use Rattle.receiver.specs.declared.answer.Played.TheVariants.{Packet};
 ghost use Rattle.gozdrit.specs.Codes.{ok, no_room};
-ghost use Rattle.gozdrit.specs.Following.{PassesAs, next_play, place_of};
+ghost use Rattle.gozdrit.specs.Following.{PassesAs, next_play};
 ghost use Rattle.gozdrit.specs.Told.{HasRoom, TellsPlayed};
 
 use crate::answers::PlayedPacket;
 use crate::code::{NO_ROOM, OK};
 use crate::following::MeteredReceiver;
+use endpoint::Passed;
 use places::Place;
 use receiver::Peeked;
 use rtpwire::{Content, fill_front};
@@ -20,7 +21,7 @@ pub(crate) fn play_to(
     payload: &mut [u8],
 ) -> i32
     ensures plays { HasRoom (next_play receiver.old now) payload.old
-        → (result ≡ ok) × PassesAs receiver.old (place_of (next_play receiver.old now)) now receiver.new × TellsPlayed (next_play receiver.old now) played.old payload.old played.new payload.new }
+        → (result ≡ ok) × PassesAs receiver.old now receiver.new × TellsPlayed (next_play receiver.old now) played.old payload.old played.new payload.new }
     ensures short { (HasRoom (next_play receiver.old now) payload.old → ⊥) → result ≡ no_room }
     ensures refused { result ≢ ok → (receiver.new ≡ receiver.old) × (played.new ≡ played.old) × (payload.new ≡ payload.old) }
 {
@@ -29,22 +30,22 @@ pub(crate) fn play_to(
     let passed = match core.peek_within(patience, now) {
         Peeked::Wait => {
             played.kind = 0;
-            None
+            Passed::Nothing
         }
         Peeked::Packet(place, content) => {
             if payload.len() < content.payload.len() {
                 return NO_ROOM;
             }
             tell_packet(place, content, played, payload);
-            Some(place)
+            Passed::Packet(place)
         }
         Peeked::Gap(place) => {
             played.kind = 2;
             played.sequence = place.value();
-            Some(place)
+            Passed::Gap(place)
         }
     };
-    receiver.pass(patience, passed, now);
+    receiver.pass(passed, patience, now);
     OK
 }
 

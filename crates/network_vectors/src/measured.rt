@@ -37,6 +37,8 @@ enum Step {
     Passes,
     /// A play of this place is told.
     Tells(u16),
+    /// It is told that this place was given up.
+    GivesUp(u16),
     /// Both restart.
     Restarts,
     /// These times are set, and followed anew.
@@ -100,6 +102,7 @@ impl Does<(u64, Step)> for Measured {
             Repair(seq) => self.hears(repair(seq, 0).as_slice(), now),
             Passes => self.endpoint.pass(now),
             Tells(seq) => self.meter.pass(places::Place::first(seq)),
+            GivesUp(seq) => self.meter.give_up(places::Place::first(seq), now),
             Restarts => self.restarts(),
             Follows(within) => self.meter.follow(&mut self.endpoint, within, now),
             Asks => return self.asks(now),
@@ -172,9 +175,9 @@ fn a_second_answer(rt: HostRuntime) -> Result<(), Fail> {
         (109, Knows(0, false)),
         (110, Repair(2)),
         (110, Knows(65, true)),
-        // It takes 65 + 32 + 5: no second one has its answer in time.
+        // It takes 65 + 32 + 5, and 65 + 5 with no queue on the way: each of two asks has half of the 200.
         (110, Follows(200)),
-        (110, Times(200, 0, 200)),
+        (110, Times(200, 0, 100)),
     ];
     assert_eq!(rt; wrong_step(rt.alloc(), STEPS)?, None);
     Ok(())
@@ -246,6 +249,39 @@ fn a_place_that_was_passed(rt: HostRuntime) -> Result<(), Fail> {
         (25, Tells(2)),
         (65, Repair(2)),
         (65, Knows(0, false)),
+    ];
+    assert_eq!(rt; wrong_step(rt.alloc(), STEPS)?, None);
+    Ok(())
+}
+
+#[test]
+fn places_that_are_given_up(rt: HostRuntime) -> Result<(), Fail> {
+    const STEPS: &[(u64, Step)] = &[
+        (0, Media(1)),
+        (5, Media(3)),
+        (25, Asks),
+        // Another place than the one that is measured; and what comes behind that is no answer to it.
+        (205, GivesUp(1)),
+        (205, GivesUp(2)),
+        (205, Repair(2)),
+        (205, Knows(0, false)),
+        (210, Media(5)),
+        (230, Asks),
+        (410, GivesUp(4)),
+        (410, Repair(4)),
+        (410, Knows(0, false)),
+        (410, Media(7)),
+        (430, Asks),
+        // It was waited for 180, and so were two before: an answer takes 180 + 90 + 5. Two asks have half of 200 each.
+        (610, GivesUp(6)),
+        (610, Knows(180, true)),
+        (610, Follows(200)),
+        (610, Times(200, 0, 100)),
+        // Nothing is new of the next one.
+        (610, Media(9)),
+        (630, Asks),
+        (830, GivesUp(8)),
+        (830, Knows(180, false)),
     ];
     assert_eq!(rt; wrong_step(rt.alloc(), STEPS)?, None);
     Ok(())

@@ -1,9 +1,11 @@
 -- Where a packet is to be retransmitted next, one is marked; and where none is retransmitted, all that was marked is passed over.
-use Rattle.std.proofs.Common.{◌≡◌, ℕ, false, List, Option, None, Ok, subst, sym}
+use Rattle.std.proofs.Common.{◌≡◌, ◌≢◌, ◌+◌, ◌<◌, ◌≤◌, ◌==◌, ℕ, Bool, true, false, nat_lt, List, Option, Some, None, Ok, ap, refl, subst, sym, ◌∙◌, arith}
+use Rattle.std.proofs.lemmas.Bool.Decides.{nat_tests}
+use Rattle.rtpwire.specs.declared.content.Content.{Content}
 use Rattle.rtpwire.specs.Session.{Streams}
 use Rattle.stores.specs.declared.entry.HistoryEntry.{HistoryEntry}
 use Rattle.stores.specs.PastByPlace.{is_marked}
-use Rattle.sender.specs.History.{SenderState, NoneMarked}
+use Rattle.sender.specs.History.{SenderState, NoneMarked, Sends}
 use Rattle.sender.specs.Passing.{IsNext}
 use Rattle.sender.specs.Repairing.{RepairsInto}
 use Rattle.endpoint.specs.declared.resend_counts.ResendCounts.{ResendCounts}
@@ -23,3 +25,15 @@ passes_all rule cells s now old passed out answer out' new passed' none retransm
       subst (λ (state : SenderState). PassesWhatMayNot rule cells now old passed state passed') (sym repairs.0.1) retransmits.passes,
       subst NoneMarked (sym repairs.0.1) repairs.0.0,
     )
+
+-- What is sent is not marked, and what stays is as it was.
+pub sends_mark_none : (room : ℕ) (old : SenderState) (content : Content) (new : SenderState) → Sends room old content new → NoneMarked old → NoneMarked new
+sends_mark_none room old content new sends none q = own (q == old.next) refl
+  where
+    kept : (b : Bool) → nat_lt (q + room) new.next ≡ b → q ≢ old.next → is_marked (new.entries q) ≡ false
+    kept true is other = ap is_marked (sends.gone q (grind (arith, nat_tests, is)))
+    kept false is other = ap is_marked (sends.others q other (grind (arith, nat_tests, is))) ∙ none q
+
+    own : (b : Bool) → (q == old.next) ≡ b → is_marked (new.entries q) ≡ false
+    own true is = let same : q ≡ old.next = grind (arith, nat_tests, is) in ap (λ (p : ℕ). is_marked (new.entries p)) same ∙ ap is_marked sends.sent
+    own false is = kept (nat_lt (q + room) new.next) refl (λ same. absurd (grind (arith, nat_tests, is, same)))

@@ -26,7 +26,7 @@ use Rattle.endpoint.specs.declared.standing.Standing.{Standing}
 use Rattle.endpoint.specs.Asked.{RemembersAsk, kept_after, none_asked}
 use Rattle.endpoint.specs.Counts.{more}
 use Rattle.endpoint.specs.Kinds.{IsKind, count_kind, no_kinds}
-use Rattle.endpoint.specs.Measuring.{IsStanding, left_at, meter_asked, meter_heard, meter_passed, new_meter, times_set}
+use Rattle.endpoint.specs.Measuring.{IsStanding, left_at, meter_asked, meter_given_up, meter_heard, meter_passed, new_meter, times_set}
 use Rattle.endpoint.specs.ReceiveCounts.{count_heard, count_played, CountsAsk, no_counts}
 use Rattle.endpoint.specs.Seen.{none_seen, seen_after}
 use Rattle.endpoint.specs.declared.seen_packets.SeenPacket.{SeenPacket}
@@ -172,19 +172,19 @@ abbrev pub Hears : ReceiveSide → Side → (from : SocketAddr) → (octets : Li
 Hears old Far from octets now turn out new = HearsFar old from octets now turn.note turn.leaves new
 Hears old Near from octets now turn out new = (turn ≡ record { note = note.Stray; leaves = None }) × (new ≡ old)
 
--- a play passes a place, and no retransmission of it is measured any more
-abbrev pub passes : ReceiveSide → Played → (place now : ℕ) → ReceiveSide
-passes old played place now =
-    record old { core = receiver_passed played old.core; counts = count_played played old.counts; meter = meter_passed place old.meter; last = Some now }
+-- a play passes a place
+abbrev pub passes : ReceiveSide → Played → (now : ℕ) → ReceiveSide
+passes old played now =
+    record old { core = receiver_passed played old.core; counts = count_played played old.counts; last = Some now }
 
 -- What is played goes to the player: a packet with what it carried, under the media's type, the player's SSRC and the next number;
--- and nothing where a place is given up.
+-- and nothing where a place is given up. No retransmission of a place that was passed is measured any more, and none that never came is forgotten.
 abbrev pub PlaysOut : Played → ReceiveSide → (now : ℕ) → Note → Option Departure → (out : List ℕ) → ReceiveSide → Type 0
 PlaysOut (Packet place content) old now (note.Played p) (Some d) out new =
     (p ≡ place) × GoesTo d Near old.player
     × RtpSpells (packet_of content 0 (numbered old.numbering place) old.core.config.session.media_type old.numbering.ssrc) (octets_of d out)
-    × (new ≡ record (passes old (Packet place content) place now) { numbering = numbered_after old.numbering place })
-PlaysOut (Gap place) old now (note.Gap p) None out new = (p ≡ place) × (new ≡ passes old (Gap place) place now)
+    × (new ≡ record (passes old (Packet place content) now) { meter = meter_passed place old.meter; numbering = numbered_after old.numbering place })
+PlaysOut (Gap place) old now (note.Gap p) None out new = (p ≡ place) × (new ≡ record (passes old (Gap place) now) { meter = meter_given_up place now old.meter })
 PlaysOut played old now n leaves out new = ⊥
 
 -- How long the next place is waited for since it was noticed to be missing: by when its packet was sent, as far as a silence tells it,

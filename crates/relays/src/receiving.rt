@@ -8,6 +8,7 @@ ghost use Rattle.rtpwire.specs.declared.limits.TheConstants.{MAX_DATAGRAM};
 ghost use Rattle.rtpwire.specs.Rtp.{RtpSpells};
 ghost use Rattle.rtpwire.specs.Content.{packet_of};
 ghost use Rattle.receiver.specs.Receiver.{begun, state_of};
+ghost use Rattle.endpoint.specs.ReceiveCounts.{passed_by};
 ghost use Rattle.stores.specs.Asking.{has_come};
 ghost use Rattle.timing.specs.FeedbackBudget.{nothing_earned};
 ghost use Rattle.relays.specs.Passing.{IsWithin};
@@ -25,7 +26,9 @@ use crate::numbering::Numbering;
 use crate::outside::Side;
 use crate::relay::{Departure, Note, Relay, Turn, silent};
 use crate::writing::write;
-use endpoint::{AskingEndpoint, Heard, Kind, KindCounts, PathMeter, ReceiveCounts, Standing};
+use endpoint::{
+    AskingEndpoint, Heard, Kind, KindCounts, Passed, PathMeter, ReceiveCounts, Standing,
+};
 use places::Place;
 use receiver::{HasStarted, Peeked, ReceiveFault, Receiver, ReceiverConfig};
 use rtpwire::{Datagram, Session};
@@ -156,6 +159,16 @@ impl<W: Window> ReceiveRelay<W> {
         self.meter
             .patience_left(core)
             .min(wait(&self.hold, latency, core.window()))
+    }
+
+    /// The same where the next place is missing, and else nothing, as what has come is not waited for.
+    fn patience_here(&self) -> u64
+        ensures { (now : ℕ) → play_of result now self.now.core.span ≡ play_of (patience_left self.now) now self.now.core.span }
+    {
+        match self.core().window().front() {
+            Some(SlotRef::Missing { .. }) => self.patience_left(),
+            _ => 0,
+        }
     }
 
     /// From when on something is to be played: the next place is given up then if it is missing, and leaves if it is held.
@@ -312,11 +325,12 @@ impl<W: Window> ReceiveRelay<W> {
         ensures within { IfSome result IsWithin }
         ensures room { length out.new ≡ MAX_DATAGRAM }
     {
-        let left = self.patience_left();
+        let left = self.patience_here();
         match self.endpoint.endpoint().core().peek_within(left, now) {
             Peeked::Wait => None,
             Peeked::Gap(place) => {
-                self.pass(left, place, now);
+                self.pass(Passed::Gap(place), left, now);
+                self.meter.give_up(place, now);
                 Some(silent(Note::Gap(place)))
             }
             Peeked::Packet(place, content) => {
@@ -333,7 +347,8 @@ impl<W: Window> ReceiveRelay<W> {
                     self.numbering.ssrc(),
                     out,
                 );
-                self.pass(left, place, now);
+                self.pass(Passed::Packet(place), left, now);
+                self.meter.pass(place);
                 self.numbering.play(place);
                 Some(Turn {
                     note: Note::Played(place),
@@ -347,12 +362,12 @@ impl<W: Window> ReceiveRelay<W> {
         }
     }
 
-    /// Passes the next place, with this patience.
-    fn pass(&mut self, patience: u64, place: Place, now: u64)
-        ensures { self.new ≡ passes self.old (play_of patience now self.old.core.span) place now }
+    /// Passes what a play with this patience does.
+    fn pass(&mut self, passed: Passed, patience: u64, now: u64)
+        requires { passed ≡ passed_by (play_of patience now self.old.core.span) }
+        ensures { self.new ≡ passes self.old (play_of patience now self.old.core.span) now }
     {
-        self.endpoint.pass_within(patience, now);
-        self.meter.pass(place);
+        self.endpoint.pass_known(passed, patience, now);
         self.last = Some(now);
     }
 }

@@ -150,7 +150,6 @@ impl<H: History> SendRelay<H> {
         self.backlog.measure(len);
         self.meter.send(now);
         self.tail = true;
-        self.is_pending = true;
         Turn {
             note: Note::Sent(place),
             leaves: Some(Departure {

@@ -6,3 +6,5 @@ pub mod Resends
 pub mod Spread
 pub mod Sightings
 pub mod Twice
+pub mod TwoAsks
+pub mod Unanswered

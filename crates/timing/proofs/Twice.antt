@@ -3,6 +3,7 @@ use Rattle.std.proofs.Common.{◌≡◌, ◌<◌, ◌≤◌, ◌+◌, ◌-◌, �
 use Rattle.std.proofs.lemmas.Bool.Decides.{nat_tests}
 use Rattle.timing.specs.Capped.{capped}
 use Rattle.timing.specs.AskTimes.{answer_of}
+use Rattle.timing.specs.Lately.{seen_at}
 use Rattle.timing.specs.RoundTrip.{doubted, heard_again, heard_at, heard_of, measured, passed_over, probe_doubted, probe_with, probed, raised_with, smoothed_with, time_since}
 use Rattle.timing.specs.declared.round_trip.Probe.{Probe}
 use Rattle.timing.specs.declared.round_trip.RoundTrip.{RoundTrip}
@@ -20,7 +21,7 @@ no_shorter (Some s) r short = by (nat_le r (s.time / 8)) refl
 -- the trip with its first answer heard, which is passed over
 module _ (t : RoundTrip) (place asked again came twice : ℕ) where
   abbrev waited : RoundTrip
-  waited = record t { probe = Some (record { place = place; asked = asked; again = Some again }); repaired = Some (record { place = place; asked = asked; again = Some again }) }
+  waited = record t { probe = Some (record { place = place; asked = asked; again = Some again }); repaired = Some (record { place = place; asked = asked; again = Some again }); unanswered = 0 }
 
   asked_twice : t.probe ≡ None → doubted (probed t place asked) again ≡ record t { probe = Some (record { place = place; asked = asked; again = Some again }) }
   asked_twice none = ap (λ (p : Option Probe). record t { probe = probe_doubted (probe_with p place asked) again }) none
@@ -35,11 +36,11 @@ module _ (t : RoundTrip) (place asked again came twice : ℕ) where
 
   again_at : (from r : ℕ) → from ≤ twice
       → let first : RoundTrip = record waited { probe = None; answered = Some (record { place = place; time = r; from = from }); doubts = t.doubts + 1 } in
-      heard_again first place twice ≡ (true, record first { answered = None; smoothed = Some (raised_with t.smoothed r); doubts = 0 })
+      heard_again first place twice ≡ (true, record first { answered = None; smoothed = Some (raised_with t.smoothed r); doubts = 0; idle = seen_at t.idle (60000 - r) twice })
   again_at from r before =
       let first : RoundTrip = record waited { probe = None; answered = Some (record { place = place; time = r; from = from }); doubts = t.doubts + 1 } in
       let both : (place == place && nat_le from twice) ≡ true = grind (arith, nat_tests, before) in
-      ap (λ b. if b then (true, record first { answered = None; smoothed = Some (raised_with t.smoothed r); doubts = 0 }) else (false, first)) both
+      ap (λ b. if b then (true, record first { answered = None; smoothed = Some (raised_with t.smoothed r); doubts = 0; idle = seen_at t.idle (60000 - r) twice }) else (false, first)) both
 
 pub found : (t : RoundTrip) (place asked again came twice : ℕ)
     → t.probe ≡ None → t.doubts < 8 → asked ≤ came → came ≤ asked + 60000 → came + (again - asked) / 2 ≤ twice → twice < 2 ^ 64

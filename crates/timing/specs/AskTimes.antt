@@ -9,9 +9,17 @@ use Rattle.timing.specs.declared.round_trip.Smoothed.{Smoothed}
 abbrev pub answer_of : Smoothed → ℕ
 answer_of s = capped (capped (s.time / 8 + s.variation / 4) + 5)
 
--- the same where no queue is on the way: the least that one took of late, and what packets overtake each other by
+-- how long it takes where no queue is on the way: the least that one took of late, what packets overtake each other by, and five
+abbrev pub idle_answer : (least reordering : ℕ) → ℕ
+idle_answer least reordering = capped (capped (least + reordering) + 5)
+
+-- the shorter of both
 abbrev pub spacing_of : Smoothed → (least reordering : ℕ) → ℕ
-spacing_of s least reordering = min (answer_of s) (capped (capped (least + reordering) + 5))
+spacing_of s least reordering = min (answer_of s) (idle_answer least reordering)
+
+-- No more than half of the patience, so that two asks have their answers in time, unless an answer takes longer where no queue is on the way.
+abbrev pub twice_of : Smoothed → (idle patience : ℕ) → ℕ
+twice_of s idle patience = min (answer_of s) (max idle (patience / 2))
 
 -- Asks that are `spacing` apart or more, of which the first has so much time that its answer is in time: how far apart they are, so
 -- that as many as fit are spread over that room. Where no second one fits, it comes when the place is given up.

@@ -2,7 +2,7 @@
 use Rattle.std.specs.Prelude.{ℕ, Bool, true, false, ◌+◌, ◌-◌, ◌/◌, ◌==◌, ◌&&◌, nat_lt, nat_le, max, min, Option, Some, None, if◌then◌else◌}
 use Rattle.timing.specs.Arrivals.{none_came}
 use Rattle.timing.specs.Capped.{capped}
-use Rattle.timing.specs.AskTimes.{answer_of, ask_times, spacing_of}
+use Rattle.timing.specs.AskTimes.{ask_times, idle_answer, spacing_of, twice_of}
 use Rattle.timing.specs.Lately.{seen_none, seen_at, greatest_at}
 use Rattle.timing.specs.Losses.{asks_for, both, needless_at, none_lost, repaired_at, taken_at, turned_at}
 use Rattle.timing.specs.RoundTrip.{heard_at, heard_original, least_of, measured_none, queued_in}
@@ -74,10 +74,16 @@ abbrev pub fitting_for : (asks : ℕ) → Smoothed → (answer patience reorderi
 fitting_for asks s answer patience reordering =
     ask_times answer patience (if waits_for_all asks answer patience reordering then reordering else half_of s reordering) (asks_first asks answer patience)
 
--- Where hardly any packet comes late, asks lie as far apart as an answer takes mostly, and so a queue that fills lays them farther apart. Where
--- many do, they lie as close as the least that one took of late allows, and a queue takes its part of the patience.
+-- how long an answer takes where no queue is on the way; 0 where none of late is known
+abbrev pub idle_where : (least reordering : ℕ) → ℕ
+idle_where least reordering = if least == 60000 then 0 else idle_answer least reordering
+
+-- Where hardly any packet comes late, asks lie as far apart as an answer takes mostly, and so a queue that fills lays them farther apart; but
+-- two have their answers in time, where they have them over a path without a queue. Where many do, they lie as close as the least that one took of
+-- late allows, and a queue takes its part of the patience.
 abbrev pub times_known : (asks : Option ℕ) → Smoothed → RoundTrip → (patience reordering now : ℕ) → AskTimes
-times_known None s t patience reordering now = ask_times (answer_of s) patience (half_of s reordering) 1
+times_known None s t patience reordering now =
+    ask_times (twice_of s (idle_where (least_of t now) reordering) patience) patience (half_of s reordering) 1
 times_known (Some asks) s t patience reordering now =
     fitting_for asks s (spacing_of s (least_of t now) reordering) (patience - queued_in t now) reordering
 

@@ -10,7 +10,7 @@ use Rattle.timing.specs.declared.round_trip.Smoothed.{Smoothed}
 
 -- nothing was measured
 abbrev pub measured_none : RoundTrip
-measured_none = record { probe = None; answered = None; repaired = None; smoothed = None; doubts = 0; idle = seen_none; once = 0; twice = 0; both = false }
+measured_none = record { probe = None; answered = None; repaired = None; smoothed = None; doubts = 0; unanswered = 0; idle = seen_none; once = 0; twice = 0; both = false }
 
 -- the first place that is asked for while none is measured is measured
 abbrev pub probe_with : Option Probe → (place now : ℕ) → Option Probe
@@ -66,7 +66,7 @@ heard_of (Some again) t place asked now = if nat_le (t.doubts + 1) 8 then passed
 
 abbrev pub heard_with : Option Probe → RoundTrip → (place now : ℕ) → Bool × RoundTrip
 heard_with None t place now = (false, t)
-heard_with (Some p) t place now = if p.place == place then heard_of p.again (record t { repaired = Some p }) place p.asked now else (false, t)
+heard_with (Some p) t place now = if p.place == place then heard_of p.again (record t { repaired = Some p; unanswered = 0 }) place p.asked now else (false, t)
 
 abbrev pub heard_at : RoundTrip → (place now : ℕ) → Bool × RoundTrip
 heard_at t place now = heard_with t.probe t place now
@@ -76,12 +76,12 @@ abbrev pub raised_with : Option Smoothed → (r : ℕ) → Smoothed
 raised_with None r = smoothed_with None r
 raised_with (Some s) r = if nat_le r (s.time / 8) then smoothed_with (Some s) r else smoothed_with None r
 
--- One more answer of what was in doubt: both asks were answered, and what came first answered the first one.
+-- One more answer of what was in doubt: both asks were answered, and what came first answered the first one. It is without doubt, then.
 abbrev pub answered_again : Option Answered → RoundTrip → (place now : ℕ) → Bool × RoundTrip
 answered_again None t place now = (false, t)
 answered_again (Some a) t place now =
     if a.place == place && nat_le a.from now
-    then (true, record t { answered = None; smoothed = Some (raised_with t.smoothed a.time); doubts = 0 })
+    then (true, record t { answered = None; smoothed = Some (raised_with t.smoothed a.time); doubts = 0; idle = seen_at t.idle (60000 - a.time) now })
     else (false, t)
 
 -- Of those that were asked for once so many were answered once more that both copies of a NACK are answered: more than half and eight.
@@ -126,14 +126,41 @@ probe_without (Some p) place = if p.place == place then None else Some p
 abbrev pub passed_at : RoundTrip → (place : ℕ) → RoundTrip
 passed_at t place = record t { probe = probe_without t.probe place }
 
--- the smoothed time
-abbrev pub time_of : Option Smoothed → Option ℕ
-time_of None = None
-time_of (Some s) = Some (s.time / 8)
+-- A measurement that is longer than the time so far begins it anew, and any other says nothing.
+abbrev pub is_longer : Option Smoothed → (r : ℕ) → Bool
+is_longer None r = true
+is_longer (Some s) r = nat_lt (s.time / 8) r
+
+abbrev pub longer_with : Option Smoothed → (r : ℕ) → Option Smoothed
+longer_with s r = if is_longer s r then Some (smoothed_with None r) else s
 
 -- the least of late of what was without doubt; a minute where none was
 abbrev pub least_of : RoundTrip → (now : ℕ) → ℕ
 least_of t now = 60000 - greatest_at t.idle now
+
+-- Where no answer came to three in a row that were measured, answers take as long as the third was waited for, or longer (RFC 6298,
+-- section 5.5, doubles the timer at each).
+abbrev pub unanswered_of : RoundTrip → (waited : ℕ) → Bool × RoundTrip
+unanswered_of t waited =
+    if nat_le (t.unanswered + 1) 2
+    then (false, record t { unanswered = t.unanswered + 1 })
+    else (is_longer t.smoothed waited, record t { unanswered = 0; smoothed = longer_with t.smoothed waited })
+
+-- A place that was measured is given up, and no answer came. Where another one came of late without doubt, that says nothing.
+abbrev pub given_up_of : RoundTrip → (waited now : ℕ) → Bool × RoundTrip
+given_up_of t waited now = if least_of t now == 60000 then unanswered_of t waited else (false, t)
+
+abbrev pub given_up_with : Option Probe → RoundTrip → (place now : ℕ) → Bool × RoundTrip
+given_up_with None t place now = (false, t)
+given_up_with (Some p) t place now = if p.place == place then given_up_of (record t { probe = None }) (time_since p.asked now) now else (false, t)
+
+abbrev pub given_up_at : RoundTrip → (place now : ℕ) → Bool × RoundTrip
+given_up_at t place now = given_up_with t.probe t place now
+
+-- the smoothed time
+abbrev pub time_of : Option Smoothed → Option ℕ
+time_of None = None
+time_of (Some s) = Some (s.time / 8)
 
 -- what the smoothed time has beyond twice that waits in a queue
 abbrev pub queued_with : (time : Option ℕ) → (least : ℕ) → ℕ

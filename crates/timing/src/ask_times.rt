@@ -1,6 +1,6 @@
 //! When missing places are asked for, so that as many asks as can be answered in time are made.
 ghost use Rattle.std.specs.Prelude.{◌≡◌, ◌<◌};
-ghost use Rattle.timing.specs.AskTimes.{ask_times, answer_of, spacing_of};
+ghost use Rattle.timing.specs.AskTimes.{ask_times, answer_of, idle_answer, spacing_of, twice_of};
 
 use crate::round_trip::Smoothed;
 
@@ -58,7 +58,23 @@ impl Smoothed {
         ensures value { result ≡ spacing_of self.now least reordering }
         ensures some_time { 0 < result }
     {
-        self.answer()
-            .min(least.saturating_add(reordering).saturating_add(5))
+        self.answer().min(idle_answer(least, reordering))
     }
+
+    /// The same where two asks are to have their answers in time: no more than half of the patience, unless an answer takes longer, `idle`, with no
+    /// queue on the way. What a full queue dropped is asked for again so, when that may have emptied, and the far side, which knows what it
+    /// sent and when, passes over what is asked for too soon.
+    pub fn twice(&self, idle: u64, patience: u64) -> u64
+        ensures { result ≡ twice_of self.now idle patience }
+    {
+        self.answer().min(idle.max(patience / 2))
+    }
+}
+
+/// How long an answer takes where no queue is on the way, by the least that one took of late, and by what packets overtake each other by.
+pub(crate) fn idle_answer(least: u64, reordering: u64) -> u64
+    ensures value { result ≡ idle_answer least reordering }
+    ensures some_time { 0 < result }
+{
+    least.saturating_add(reordering).saturating_add(5)
 }

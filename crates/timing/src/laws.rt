@@ -2,17 +2,19 @@
 ghost use Rattle.std.specs.Prelude.{◌≡◌, ◌<◌, ◌≤◌, ◌+◌, ◌-◌, ◌*◌, ◌/◌, ◌^◌, ◌∷◌, [], ◌⊎◌, ℕ, List, length, min, Option, Some, None, false, true, IsSomeAnd};
 ghost use Rattle.timing.specs.declared.feedback_budget.FeedbackBudget.{FeedbackBudget};
 ghost use Rattle.timing.specs.declared.losses.Tally.{Tally};
+ghost use Rattle.timing.specs.declared.round_trip.Probe.{Probe};
 ghost use Rattle.timing.specs.declared.round_trip.RoundTrip.{RoundTrip};
+ghost use Rattle.timing.specs.declared.round_trip.Smoothed.{Smoothed};
 ghost use Rattle.timing.specs.declared.playout.Playout.{Playout};
 ghost use Rattle.timing.specs.declared.resend_interval.ResendInterval.{ResendInterval};
 ghost use Rattle.timing.specs.declared.silence.Silence.{Silence};
-ghost use Rattle.timing.specs.AskTimes.{ask_times, answer_of};
+ghost use Rattle.timing.specs.AskTimes.{ask_times, answer_of, twice_of};
 ghost use Rattle.timing.specs.FeedbackBudget.{Passed, HadRoom, budget_after, many_came, many_left, nothing_earned, octets_came, octets_left, worth_came};
 ghost use Rattle.timing.specs.Lately.{greatest_at};
 ghost use Rattle.timing.specs.Losses.{asks_for, asks_where, lost_of};
 ghost use Rattle.timing.specs.Playout.{AllOdd, heard_all, heard_at, is_beyond, ms_of, release_at, ticks_of};
 ghost use Rattle.timing.specs.ResendInterval.{answers_heard, heard_after, interval_at, least_at, resent_many, TakeAtLeast};
-ghost use Rattle.timing.specs.RoundTrip.{doubted, heard_again, heard_at as taken_at, probed};
+ghost use Rattle.timing.specs.RoundTrip.{doubted, given_up_at, heard_again, heard_at as taken_at, least_of, probed};
 ghost use Rattle.timing.specs.Silence.{lead_of};
 ghost use Rattle.timing.specs.Sightings.{Sighting, seen_of, IsInOrder, AreWithin, AreLatelyWithin};
 
@@ -49,6 +51,33 @@ pub fn answers_that_come_twice_are_measured()
         let first = taken_at waited place came in
         let second = heard_again first.1 place twice in
         (first.0 ≡ false) × (second.0 ≡ true) × IsSomeAnd second.1.smoothed (λ s. came ≤ asked + answer_of s) }
+{}
+
+/// Of asks over a path on which a queue seems to take more time than there is for two.
+#[tactic(auto, using(crate::proofs::TwoAsks::fit, crate::proofs::TwoAsks::no_longer, crate::proofs::TwoAsks::usual, crate::proofs::TwoAsks::idle_at_least))]
+pub fn places_are_asked_for_twice()
+    // The second ask has its answer in time, where an answer takes so long with no queue on the way that two have.
+    ensures twice { (s : Smoothed) (idle patience : ℕ) → 2 ≤ patience → patience < 2 ^ 64 → 2 * idle ≤ patience
+        → (ask_times (twice_of s idle patience) patience 0 1).retry + twice_of s idle patience ≤ patience }
+    // An answer is taken for no longer than it seems to take, and for no shorter where that is in time twice,
+    ensures no_longer { (s : Smoothed) (idle patience : ℕ) → twice_of s idle patience ≤ answer_of s }
+    ensures usual { (s : Smoothed) (idle patience : ℕ) → 2 * answer_of s ≤ patience → twice_of s idle patience ≡ answer_of s }
+    // nor for shorter than it takes with no queue on the way.
+    ensures least { (s : Smoothed) (idle patience : ℕ) → idle ≤ answer_of s → idle ≤ twice_of s idle patience }
+{}
+
+/// Of places that are measured, and given up without an answer.
+#[tactic(auto, using(crate::proofs::Unanswered::says_nothing, crate::proofs::Unanswered::say_nothing, crate::proofs::Unanswered::says))]
+pub fn answers_that_never_come_are_measured()
+    // They say nothing where an answer came of late without doubt.
+    ensures known { (t : RoundTrip) (p : Probe) (now : ℕ) → t.probe ≡ Some p → least_of t now < 60000
+        → given_up_at t p.place now ≡ (false, record t { probe = None }) }
+    // Else two in a row say nothing,
+    ensures two { (t : RoundTrip) (p : Probe) (now : ℕ) → t.probe ≡ Some p → 60000 ≤ least_of t now → t.unanswered < 2
+        → given_up_at t p.place now ≡ (false, record t { probe = None; unanswered = t.unanswered + 1 }) }
+    // and the third says that an answer takes as long as that was waited for, or longer, mostly.
+    ensures third { (t : RoundTrip) (p : Probe) (now : ℕ) → t.probe ≡ Some p → 60000 ≤ least_of t now → t.unanswered ≡ 2
+        → let after = given_up_at t p.place now in (after.1.unanswered ≡ 0) × IsSomeAnd after.1.smoothed (λ s. min (now - p.asked) 60000 ≤ answer_of s) }
 {}
 
 /// Of how many asks go before waiting for what may be late, by what of so many packets was lost.

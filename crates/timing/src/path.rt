@@ -1,12 +1,12 @@
 //! What was measured of a path.
 ghost use Rattle.std.specs.Prelude.{◌≡◌, IfSome, ◌<◌};
-ghost use Rattle.timing.specs.Path.{asks_at, first_times, found_needless, new_path, path_repaired, path_seen, path_taken, reordered, times_known, times_over, waited_for};
+ghost use Rattle.timing.specs.Path.{asks_at, first_times, found_needless, new_path, path_repaired, path_seen, path_taken, idle_where, reordered, times_known, times_over, waited_for};
 
 use crate::arrivals::Arrivals;
-use crate::ask_times::AskTimes;
+use crate::ask_times::{AskTimes, idle_answer};
 use crate::lately::Lately;
 use crate::losses::Losses;
-use crate::round_trip::{RoundTrip, Smoothed};
+use crate::round_trip::{LONGEST, RoundTrip, Smoothed};
 use places::Place;
 
 /// From one ask to the next until the round-trip time was measured, in milliseconds.
@@ -94,14 +94,15 @@ impl Path {
     }
 
     /// The same where a round-trip time was measured. Where hardly any packet comes late, asks lie as far apart as an answer takes mostly, and a
-    /// queue that fills lays them farther apart.
+    /// queue that fills lays them farther apart; but two have their answers in time, where they have them over a path without a queue.
     fn times_known(&self, smoothed: &Smoothed, patience: u64, reordering: u64, now: u64) -> AskTimes
         ensures value { result ≡ times_known (asks_at self.now.losses now) smoothed.now self.now.trip patience reordering now }
         ensures some_time { 0 < result.retry }
     {
         let half = reordering.min(smoothed.time / 16);
         let Some(asks) = self.losses.asks(now) else {
-            return AskTimes::fitting(smoothed.answer(), patience, half, 1);
+            let idle = idle(self.trip.least(now), reordering);
+            return AskTimes::fitting(smoothed.twice(idle, patience), patience, half, 1);
         };
         let answer = smoothed.spacing(self.trip.least(now), reordering);
         let left = patience.saturating_sub(self.trip.queued(now));
@@ -128,6 +129,17 @@ fn first_times(patience: u64, reordering: u64) -> Option<AskTimes>
         delay: reordering.min(patience / 2),
         retry: FIRST_RETRY,
     })
+}
+
+/// How long an answer takes where no queue is on the way; 0 where none of late is known.
+fn idle(least: u64, reordering: u64) -> u64
+    ensures { result ≡ idle_where least reordering }
+{
+    if least == LONGEST {
+        0
+    } else {
+        idle_answer(least, reordering)
+    }
 }
 
 /// How long reordering is waited for that was seen to be so far: by a quarter longer, since the next packet may come a little later.

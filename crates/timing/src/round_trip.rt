@@ -2,16 +2,20 @@
 ghost use Rattle.std.specs.Prelude.{◌≡◌};
 ghost use Rattle.std.specs.Option.{option_map};
 ghost use Rattle.timing.specs.Lately.{seen_at};
-ghost use Rattle.timing.specs.RoundTrip.{smoothed_with, raised_with, probed, doubted, heard_at, heard_again, heard_original, copied_at, passed_at, forgotten, measured_none, time_of, least_of, queued_in, sure_at};
+ghost use Rattle.timing.specs.RoundTrip.{smoothed_with, raised_with, probed, doubted, heard_at, heard_again, heard_original, copied_at, given_up_at, is_longer, longer_with, passed_at, forgotten, measured_none, time_of, least_of, queued_in, sure_at, unanswered_of};
 
 use crate::lately::Lately;
 use places::Place;
 
 /// The longest time that is measured, in milliseconds: a minute.
-const LONGEST: u64 = 60000;
+pub(crate) const LONGEST: u64 = 60000;
 
 /// So many measurements in doubt are passed over in a row. The next one counts.
 const DOUBTS: u64 = 8;
+
+/// So many places that were measured, and were given up without an answer, say nothing in a row. The next one counts. (Where three of ten packets are
+/// lost each way, and each place is asked for once, three in a row have no answer in one of eight times; where one of ten is, in one of 150.)
+const UNANSWERED: u64 = 2;
 
 /// So many answers may come once more beside each second one. (A far side that answers one of two copies answers the other one, too, where a network
 /// lays them far apart: 45 of 100 with 40 milliseconds of jitter, which are more than half and two of the first some for every second such path,
@@ -56,6 +60,10 @@ pub struct Answered {
 /// was made before its answer could have come (as RFC 3708 and RFC 8985, section 6.2, have it of a retransmission that was spurious). That
 /// is how a queue is seen that fills on the way. It counts at once, as a first measurement does, where it is longer than what was known.
 ///
+/// **No answer at all**, for three places in a row that were given up meanwhile, says that one takes as long as the third was waited for, or
+/// longer: else a time that is longer than what is waited for was never found, and each place was asked for as if it were short. RFC 6298, section 5.5,
+/// backs its timer off at each that is lost. Where an answer came of late without doubt they do come in time, and what has none is lost.
+///
 /// The least of late of what was without doubt is what an answer takes where no queue is on its way. What the smoothed time has beyond twice that
 /// is a queue: jitter seldom has so much. Times are in milliseconds.
 #[derive(Clone, Copy, Debug, PartialEq, Eq)]
@@ -69,6 +77,8 @@ pub struct RoundTrip {
     smoothed: Option<Smoothed>,
     /// How many measurements in doubt were passed over since one counted.
     doubts: u64,
+    /// How many places that were measured were given up without an answer since one came.
+    unanswered: u64,
     /// By how much the least of late of those without doubt is below a minute.
     idle: Lately,
     /// How many were without doubt; and how many of their retransmissions came once more.
@@ -89,6 +99,7 @@ impl RoundTrip {
             repaired: None,
             smoothed: None,
             doubts: 0,
+            unanswered: 0,
             idle: Lately::new(),
             once: 0,
             twice: 0,
@@ -145,6 +156,7 @@ impl RoundTrip {
         }
         self.probe = None;
         self.repaired = Some(probe);
+        self.unanswered = 0;
         let time = now.saturating_sub(probe.asked).min(LONGEST);
         match probe.again {
             Some(again) => {
@@ -188,6 +200,7 @@ impl RoundTrip {
         self.answered = None;
         self.smoothed = Some(raised_with(self.smoothed, answered.time));
         self.doubts = 0;
+        self.idle.see(LONGEST.saturating_sub(answered.time), now);
         true
     }
 
@@ -229,6 +242,7 @@ impl RoundTrip {
         *self = RoundTrip {
             smoothed: self.smoothed,
             doubts: self.doubts,
+            unanswered: self.unanswered,
             idle: self.idle,
             once: self.once,
             twice: self.twice,
@@ -237,7 +251,7 @@ impl RoundTrip {
         };
     }
 
-    /// A place was played or given up, so nothing that is asked for is waited for there.
+    /// A place was played, or is missing no longer, so nothing that is asked for is waited for there.
     pub fn pass(&mut self, place: Place)
         ensures { self.new ≡ passed_at self.old place }
     {
@@ -246,6 +260,36 @@ impl RoundTrip {
                 self.probe = None;
             }
         }
+    }
+
+    /// A place was given up at the moment `now`. It answers whether that was a measurement: whether none was without doubt of late, and it is the
+    /// third in a row of those that were measured to which no answer came, and was waited for longer than an answer was known to take.
+    pub fn give_up(&mut self, place: Place, now: u64) -> bool
+        ensures { (result, self.new) ≡ given_up_at self.old place now }
+    {
+        let Some(probe) = self.probe else {
+            return false;
+        };
+        if place != probe.place {
+            return false;
+        }
+        self.probe = None;
+        let waited = now.saturating_sub(probe.asked).min(LONGEST);
+        self.least(now) == LONGEST && self.lack_answer(waited)
+    }
+
+    /// The place that was measured was waited for so long, and no answer came.
+    fn lack_answer(&mut self, waited: u64) -> bool
+        ensures { (result, self.new) ≡ unanswered_of self.old waited }
+    {
+        if self.unanswered < UNANSWERED {
+            self.unanswered += 1;
+            return false;
+        }
+        self.unanswered = 0;
+        let is_more = is_longer(&self.smoothed, waited);
+        self.smoothed = longer_with(self.smoothed, waited);
+        is_more
     }
 
     /// The smoothed time, in milliseconds, where it was measured.
@@ -304,6 +348,27 @@ fn smoothed_with(smoothed: Option<Smoothed>, time: u64) -> Smoothed
                 old.time / 8,
             )),
         },
+    }
+}
+
+/// Whether a measurement is longer than the time so far.
+fn is_longer(smoothed: &Option<Smoothed>, time: u64) -> bool
+    ensures { result ≡ is_longer smoothed.now time }
+{
+    match smoothed {
+        Some(old) => old.time / 8 < time,
+        None => true,
+    }
+}
+
+/// What is smoothed, after one that begins it anew where it is longer, and else says nothing.
+fn longer_with(smoothed: Option<Smoothed>, time: u64) -> Option<Smoothed>
+    ensures { result ≡ longer_with smoothed time }
+{
+    if is_longer(&smoothed, time) {
+        Some(smoothed_with(None, time))
+    } else {
+        smoothed
     }
 }
 

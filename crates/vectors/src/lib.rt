@@ -15,6 +15,8 @@ mod framing;
 #[cfg(test)]
 mod nearness;
 #[cfg(test)]
+mod queues;
+#[cfg(test)]
 mod resends;
 #[cfg(test)]
 mod retransmission;

@@ -325,9 +325,9 @@ fn queues_are_told_from_the_way(_rt: HostRuntime) -> Result<(), Fail> {
         path.trip.ask(Place::first(seq), asked);
         let _ = path.trip.hear(Place::first(seq), came);
     }
-    // 110 on the mean, with a variation of 155, and 40 at least. An answer takes 270.
+    // 110 on the mean, with a variation of 155, and 40 at least. An answer takes 270, which asks lie apart at least where two have so much time.
     let told = path.trip.time() == Some(110) && path.trip.least(1600) == 40;
-    let whole = over(&path, 200, 1600) == (0, 270);
+    let whole = over(&path, 2000, 1600) == (0, 288) && over(&path, 200, 1600) == (0, 100);
     // Where packets come late, 30 of the patience lie in a queue, and asks lie 45 apart.
     let _ = path.see(0, 1600);
     let queued = path.trip.queued(1600) == 30 && over(&path, 200, 1600) == (0, 62);

@@ -41,6 +41,10 @@ static const struct row ROWS[] = {
     {"a link of 1.1, a queue of 400, .5 s out, latency 1000", {.delay = 25, .kilobits = 2200, .queue = 400, .out = 10000, .out_for = 500}, {2000, 40, 1000, 0}, .2, 1},
     {"a link of 1.3, 5 % in bursts of 20, latency 500", {.loss = .05, .burst = 20, .delay = 25, .kilobits = 2600, .queue = 150}, {2000, 40, 500, 0}, .75, 3},
     {"a link of 1.1, the same", {.loss = .05, .burst = 20, .delay = 25, .kilobits = 2200, .queue = 150}, {2000, 40, 500, 0}, 1.4, 4},
+    {"a link of 2, a quarter of that for half a second of each two", {.delay = 25, .kilobits = 4000, .queue = 150, .slow = .25}, {2000, 40, 200, 0}, 17.5, 1.5},
+    {"the same, latency 500", {.delay = 25, .kilobits = 4000, .queue = 150, .slow = .25}, {2000, 40, 500, 0}, .5, 1},
+    {"the same, latency 1000", {.delay = 25, .kilobits = 4000, .queue = 150, .slow = .25}, {2000, 40, 1000, 0}, .02, 1},
+    {"a link of 1.3, half of that as often", {.delay = 25, .kilobits = 2600, .queue = 150, .slow = .5}, {2000, 40, 200, 0}, 19, 1.5},
 };
 
 /* The means of so many seeds. */
