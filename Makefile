@@ -97,7 +97,7 @@ $(BUILD)/symbols: $(INCLUDE)/gozdrit.h VERSION
 $(BUILD)/$(SHARED): $(BUILD)/gozdrit.o $(BUILD)/symbols
 	$(CC) -shared -Wl,-soname,$(SONAME) -Wl,--version-script=$(BUILD)/symbols -Wl,-z,defs -o $@ $<
 
-install: lib
+install: lib programs
 	install -d $(DESTDIR)$(HEADERS) $(DESTDIR)$(PKGCONFIG) $(DESTDIR)$(MAN)/man1 $(DESTDIR)$(MAN)/man3 $(DESTDIR)$(DOC)/docs/pictures
 	install -m 644 $(INCLUDE)/gozdrit.h $(INCLUDE)/gozdrit_limits.h $(DESTDIR)$(HEADERS)
 	install -m 644 $(BUILD)/libgozdrit.a $(DESTDIR)$(LIBDIR)
@@ -110,16 +110,19 @@ install: lib
 	install -m 644 README.md CHANGELOG.md CONTRIBUTING.md SECURITY.md LICENSE LICENSE-APACHE LICENSE-MIT $(DESTDIR)$(DOC)
 	install -m 644 docs/*.md $(DESTDIR)$(DOC)/docs
 	install -m 644 docs/pictures/*.png $(DESTDIR)$(DOC)/docs/pictures
-	[ ! -x $(PROGRAM) ] || install -D -m 755 $(PROGRAM) $(DESTDIR)$(BINDIR)/rtxtool
-	[ ! -x $(RELAY) ] || install -D -m 755 $(RELAY) $(DESTDIR)$(BINDIR)/gozdrit-relay
 	[ ! -x $(RELAY) ] || [ -z "$(PREFIX)" ] || $(MAKE) -s --no-print-directory -f $(firstword $(MAKEFILE_LIST)) units PREFIX=$(PREFIX) DESTDIR=$(DESTDIR)
 	@echo "installed below $(DESTDIR)$(PREFIX); next: cc ... \$$(pkg-config --cflags --libs gozdrit), and ldconfig where the loader knows $(LIBDIR)"
 
-# A unit names the program where it is installed.
+# Those that were built.
+programs:
+	[ ! -x $(PROGRAM) ] || install -D -m 755 $(PROGRAM) $(DESTDIR)$(BINDIR)/rtxtool
+	[ ! -x $(RELAY) ] || install -D -m 755 $(RELAY) $(DESTDIR)$(BINDIR)/gozdrit-relay
+
+# A unit names the program where it is installed; what else stands in packaging/ is there to begin with.
 units:
 	install -d $(DESTDIR)$(UNITS) $(DESTDIR)$(DOC)/examples
 	sed 's|@BINDIR@|$(BINDIR)|' packaging/gozdrit-relay@.service.in >$(DESTDIR)$(UNITS)/gozdrit-relay@.service
-	install -m 644 packaging/send.conf packaging/receive.conf $(DESTDIR)$(DOC)/examples
+	install -m 644 $(filter-out %.in,$(wildcard packaging/*)) $(DESTDIR)$(DOC)/examples
 
 # Its parts stand below no prefix, since nobody knows where a user unpacks them.
 dist: lib $(RELAY) $(PROGRAM)
@@ -135,4 +138,4 @@ uninstall:
 	rm -f $(addprefix $(DESTDIR)$(BINDIR)/,rtxtool gozdrit-relay) $(DESTDIR)$(UNITS)/gozdrit-relay@.service
 	rm -rf $(DESTDIR)$(DOC)
 
-.PHONY: demo lib relay rtxtool install units dist uninstall help
+.PHONY: demo lib relay rtxtool install programs units dist uninstall help
