@@ -44,7 +44,7 @@ def skips(what, *tools):
 def runs(checks, name, *words, **more):
     """What a command prints that has to succeed."""
     one = subprocess.run(list(map(str, words)), capture_output=True, text=True, timeout=120, **more)
-    checks.same(one.returncode, 0, f"{name}: {(one.stdout + one.stderr)[-400:]}")
+    checks.count(one.returncode == 0, f"{name}: status {one.returncode}: {one.stdout}{one.stderr}")
     return one.stdout
 
 
