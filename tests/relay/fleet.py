@@ -137,8 +137,8 @@ def image(checks, stage):
     checks.count(needs <= HAS | {"libgcc_s.so.1"} if tried else needs <= HAS, f"the base lacks what the program is linked with: {needs}")
     if skips("the container", "buildah"):
         return
-    if os.geteuid() != 0:
-        print("skipped: the container: it wants root")
+    if os.geteuid() != 0 or subprocess.run(["unshare", "-m", "true"], stderr=subprocess.DEVNULL, check=False).returncode:
+        print("skipped: the container wants the rights of root")
         return
     base, shared, work = (stage.room / one for one in ("base", "shared", "work"))
     for one in set(re.findall(r"/\S+", runs(checks, "ldd", "ldd", stage.program))):
