@@ -112,6 +112,8 @@ def kubernetes(checks, stage):
     relay = Relay(stage, *map(here, [*entry[1:], *box["args"]]), log=False)
     ports = {(one["protocol"], port(one["hostPort"]), one["hostPort"] == one["containerPort"]) for one in box["ports"]}
     checks.same(ports, {("UDP", relay.at[1], True), ("TCP", metrics_of(relay)[1], True)}, "the ports")
+    # What sockets of another network drop is in no count of node_exporter's; and where two pods want the same ports one waits for ever.
+    checks.same((pod["hostNetwork"], spec["replicas"], spec["strategy"]["type"]), (True, 1, "Recreate"), "whose the ports are")
     checks.same(notes["prometheus.io/scrape"], "true", "whether it is scraped")
     checks.count("gozdrit_receive_played_total" in told(get("127.0.0.1", port(int(notes["prometheus.io/port"])), notes["prometheus.io/path"])), "the annotations")
     probe, last = box["livenessProbe"]["exec"]["command"], box["lifecycle"]["preStop"]["exec"]["command"]
