@@ -66,8 +66,9 @@ pub struct Host<'a> {
     /// Whether the last one was dropped for a trial.
     is_lost: bool,
     pub counts: Counts,
-    /// What was told of retransmissions that were asked for in vain.
+    /// What was told of retransmissions that were asked for in vain, and whether there may be more of them.
     unmet: UnmetTold,
+    is_unmet: bool,
     pub journal: Option<Journal<'a>>,
     /// From where the last datagram came, and what of such came from elsewhere.
     from: Option<SocketAddr>,
@@ -152,6 +153,7 @@ impl<'a> Host<'a> {
             is_lost: false,
             counts: Counts::NONE,
             unmet: UnmetTold::NOTHING,
+            is_unmet: false,
             journal,
             from: None,
             strays: Seldom::NONE,
@@ -340,7 +342,9 @@ impl Outside for Host<'_> {
         if is_over(self.tells_at, now) {
             self.tell_counts(now);
         }
-        self.tell_unmet(now);
+        if self.is_unmet {
+            self.tell_unmet(now);
+        }
         self.from = came.map(|came| came.1);
         Ok(Meeting { now, came })
     }
@@ -371,8 +375,10 @@ impl Outside for Host<'_> {
         self.tell_far(&turn.note);
         self.tell_strays(&turn.note, now);
         self.tell_too_long(&turn.note, octets, now);
-        if matches!(turn.note, Note::Unsent) {
-            self.tell_foreign(octets, now);
+        match turn.note {
+            Note::Unsent => self.tell_foreign(octets, now),
+            Note::Told(_) | Note::PassedOver(_) | Note::Crowded(_) => self.is_unmet = true,
+            _ => {}
         }
         self.tell_shortage(&turn.note, now);
     }

@@ -1,5 +1,5 @@
 //! What feedback asked for and was not retransmitted, and why: told seldom.
-ghost use Rattle.std.specs.Prelude.{◌≡◌, ◌<◌, ◌≤◌, None, Some};
+ghost use Rattle.std.specs.Prelude.{◌≡◌, ◌↔◌, ◌<◌, ◌≤◌, None, Some, true};
 ghost use Rattle.gozdrit_relay.specs.Unmet.{told_at, unmet_since};
 
 use lines::{Word, push_line};
@@ -80,6 +80,13 @@ impl UnmetTold {
         told: Unmet::NONE,
         next: 0,
     };
+
+    /// Whether all of so much was told.
+    pub fn has_told(&self, unmet: &Unmet) -> bool
+        ensures { result ≡ true ↔ (unmet.now ≡ self.now.told) }
+    {
+        *unmet == self.told
+    }
 
     /// So much there is at the moment `now`. How much of that is to be told now, since it was not before.
     pub fn look(&mut self, unmet: &Unmet, now: u64) -> Option<Unmet>

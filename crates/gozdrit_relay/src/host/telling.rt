@@ -88,18 +88,17 @@ impl<'a> Host<'a> {
         }
     }
 
-    /// Writes the line of what was not retransmitted, at most each ten seconds.
+    /// Writes the line of what was not retransmitted, at most each ten seconds. By itself, as it is looked at only behind what may be more of it.
+    #[inline(never)]
     pub(super) fn tell_unmet(&mut self, now: u64) {
-        if !self.is_sender {
-            return;
+        let unmet = self.counts.unmet();
+        if let Some(more) = self.unmet.look(&unmet, now) {
+            self.line.clear();
+            if more.push(&mut self.line).is_ok() {
+                self.say();
+            }
         }
-        let Some(unmet) = self.unmet.look(&self.counts.unmet(), now) else {
-            return;
-        };
-        self.line.clear();
-        if unmet.push(&mut self.line).is_ok() {
-            self.say();
-        }
+        self.is_unmet = !self.unmet.has_told(&unmet);
     }
 
     /// Writes the line of a session that was learnt, or of a far side at another address.
