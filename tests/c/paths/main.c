@@ -24,6 +24,9 @@ static const struct row ROWS[] = {
     {"10 % lost", {.loss = .1, .delay = 25}, {2000, 40, 200, 0}, .05, .2},
     {"20 %", {.loss = .2, .delay = 25}, {2000, 40, 200, 0}, .26, .2},
     {"30 %", {.loss = .3, .delay = 25}, {2000, 40, 200, 0}, 1.5, .3},
+    {"40 %", {.loss = .4, .delay = 25}, {2000, 40, 200, 0}, 5.15, .3},
+    {"50 %", {.loss = .5, .delay = 25}, {2000, 40, 200, 0}, 16, .4},
+    {"50 %, latency 500", {.loss = .5, .delay = 25}, {2000, 40, 500, 0}, 7.8, .4},
     {"10 %, round trip 20, latency 120", {.loss = .1, .delay = 10}, {2000, 40, 120, 0}, .03, .2},
     {"10 %, round trip 150, latency 600", {.loss = .1, .delay = 75}, {2000, 40, 600, 0}, .06, .3},
     {"5 %, up to 10 ms of jitter", {.loss = .05, .delay = 18, .jitter = 10}, {2000, 40, 200, 0}, .03, 1},
@@ -65,7 +68,7 @@ static void print(const char *name, const struct outcome *came) {
            100 * came->retransmitted, 100 * came->in_vain);
 }
 
-/* Whether a row is kept, where NACKs are earned by what comes or not: of a stream none is held back. */
+/* Whether a row is kept, where NACKs are earned by what comes or not: none is held back but where half of all is lost. */
 static int is_kept(const struct row *row, uint8_t earned) {
     struct stream stream = row->stream;
     stream.earned = earned;
