@@ -60,9 +60,9 @@ class Flood(threading.Thread):
 
 
 def played(player, contents):
-    """How many of these a player has, and how much else."""
+    """How many of these a player has, and how much else. (A retransmission, as of the last packet behind a silence, is of another type.)"""
     wanted = {one.payload for one in contents}
-    came = [one.content.payload for one in player.packets() if one]
+    came = [one.content.payload for one in player.packets() if one and one.kind != 97]
     return len([one for one in came if one in wanted]), len([one for one in came if one not in wanted])
 
 
