@@ -1,0 +1,7 @@
+//! SRTP (RFC 3711) as pure readers and writers: packets and keys in the caller's octets. No call takes memory.
+#![tactic(auto)]
+
+mod hmac;
+mod octets;
+
+pub use hmac::HmacSha1;
