@@ -1,2 +1,4 @@
 pub mod Octets
 pub mod Hmac
+pub mod Field
+pub mod Aes

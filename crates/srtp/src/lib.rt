@@ -1,7 +1,10 @@
 //! SRTP (RFC 3711) as pure readers and writers: packets and keys in the caller's octets. No call takes memory.
 #![tactic(auto)]
 
+mod aes;
+mod field;
 mod hmac;
 mod octets;
 
+pub use aes::Aes128;
 pub use hmac::HmacSha1;
