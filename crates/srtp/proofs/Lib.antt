@@ -1,2 +1,3 @@
 pub mod Xor
 pub mod Filled
+pub mod Keystream

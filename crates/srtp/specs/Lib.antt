@@ -2,3 +2,5 @@ pub mod Octets
 pub mod Hmac
 pub mod Field
 pub mod Aes
+pub mod Counter
+pub mod Derivation

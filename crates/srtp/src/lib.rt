@@ -2,9 +2,12 @@
 #![tactic(auto)]
 
 mod aes;
+mod counter;
+mod derivation;
 mod field;
 mod hmac;
 mod octets;
 
 pub use aes::Aes128;
+pub use counter::SALT;
 pub use hmac::HmacSha1;

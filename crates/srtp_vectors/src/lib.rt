@@ -1,0 +1,7 @@
+//! Test vectors of SRTP and of what it stands on, through the public calls of `srtp`. There is no code in it.
+#![tactic(auto)]
+
+#[cfg(test)]
+mod aes;
+#[cfg(test)]
+mod hmac;
