@@ -3,11 +3,12 @@
 
 mod aes;
 mod counter;
-mod derivation;
 mod field;
 mod hmac;
+mod keys;
 mod octets;
 
 pub use aes::Aes128;
 pub use counter::SALT;
 pub use hmac::HmacSha1;
+pub use keys::{MasterKey, Profile, SessionKeys};
