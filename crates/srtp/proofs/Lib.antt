@@ -1,3 +1,4 @@
 pub mod Xor
 pub mod Filled
 pub mod Keystream
+pub mod Taken

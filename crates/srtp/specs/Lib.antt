@@ -4,3 +4,5 @@ pub mod Field
 pub mod Aes
 pub mod Counter
 pub mod Derivation
+pub mod Index
+pub mod Replay

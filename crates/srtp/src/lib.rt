@@ -5,10 +5,14 @@ mod aes;
 mod counter;
 mod field;
 mod hmac;
+mod index;
 mod keys;
 mod octets;
+mod replay;
 
 pub use aes::Aes128;
 pub use counter::SALT;
 pub use hmac::HmacSha1;
+pub use index::{guess_index, guesses_are_places};
 pub use keys::{MasterKey, Profile, SessionKeys};
+pub use replay::{Replay, ReplayFault};
