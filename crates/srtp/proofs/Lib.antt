@@ -2,3 +2,4 @@ pub mod Xor
 pub mod Filled
 pub mod Keystream
 pub mod Taken
+pub mod SameOctets

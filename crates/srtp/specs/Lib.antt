@@ -6,3 +6,6 @@ pub mod Counter
 pub mod Derivation
 pub mod Index
 pub mod Replay
+pub mod Fault
+pub mod Header
+pub mod Seal

@@ -3,16 +3,21 @@
 
 mod aes;
 mod counter;
+mod fault;
 mod field;
+mod header;
 mod hmac;
 mod index;
 mod keys;
 mod octets;
 mod replay;
+mod seal;
 
 pub use aes::Aes128;
 pub use counter::SALT;
+pub use fault::SrtpFault;
 pub use hmac::HmacSha1;
 pub use index::{guess_index, guesses_are_places};
 pub use keys::{MasterKey, Profile, SessionKeys};
 pub use replay::{Replay, ReplayFault};
+pub use seal::TAG;
