@@ -3,3 +3,4 @@ pub mod Filled
 pub mod Keystream
 pub mod Taken
 pub mod SameOctets
+pub mod Guesses

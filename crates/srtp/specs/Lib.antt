@@ -9,3 +9,4 @@ pub mod Replay
 pub mod Fault
 pub mod Header
 pub mod Seal
+pub mod Stream

@@ -12,6 +12,7 @@ mod keys;
 mod octets;
 mod replay;
 mod seal;
+mod stream;
 
 pub use aes::Aes128;
 pub use counter::SALT;
@@ -21,3 +22,4 @@ pub use index::{guess_index, guesses_are_places};
 pub use keys::{MasterKey, Profile, SessionKeys};
 pub use replay::{Replay, ReplayFault};
 pub use seal::TAG;
+pub use stream::Stream;

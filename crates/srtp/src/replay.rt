@@ -20,6 +20,7 @@ pub struct Replay<const N: usize> {
     next: u64,
     places: [u64; N],
     ghost enough: { 64 ≤ N },
+    ghost within: { next ≤ 2 ^ 48 },
 }
 
 impl<const N: usize> Replay<N> {
@@ -61,7 +62,8 @@ impl<const N: usize> Replay<N> {
 
     /// One more than the highest index that was taken, or 0.
     pub fn next(&self) -> u64
-        ensures { result ≡ self.now.next }
+        ensures next { result ≡ self.now.next }
+        ensures within { result ≤ 2 ^ 48 }
     {
         self.next
     }

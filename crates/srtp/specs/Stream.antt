@@ -1,0 +1,82 @@
+-- What protects the packets of one SSRC, and what it refuses (RFC 3711, sections 3.2.1 and 3.3).
+use Rattle.std.specs.Prelude.{◌≡◌, ℕ, ◌+◌, ◌-◌, ◌*◌, ◌^◌, ◌==◌, not, nat_lt, List, ◌∷◌, ◌++◌, length, take, drop, Option, None, if◌then◌else◌}
+use Rattle.std.specs.Option.{option_map}
+use Rattle.srtp.specs.Derivation.{Keys, AreKeys}
+use Rattle.srtp.specs.Fault.{of_replay, or_else, fault_if}
+use Rattle.srtp.specs.Header.{header_len, header_fault, sequence_of, ssrc_of}
+use Rattle.srtp.specs.Index.{guessed_index}
+use Rattle.srtp.specs.Replay.{next_of, replay_fault, Remembers}
+use Rattle.srtp.specs.Seal.{enciphered, tag_of, rollover_octets, same_octets}
+use Rattle.srtp.specs.declared.fault.SrtpFault.{SrtpFault}
+use Rattle.srtp.specs.declared.fault.SrtpFault.TheVariants.{WrongSource, KeyEnd, TooOld, WrongTag}
+use Rattle.srtp.specs.declared.stream.Stream.{Stream}
+
+-- the cryptographic context of an SSRC, with the rollover counter of the first packet, how many places the replay list has, and
+-- the indices that were taken, newest first
+pub record Context : Type 0 where
+  pub keys : Keys
+  pub ssrc : ℕ
+  pub rollover : ℕ
+  pub len : ℕ
+  pub taken : List ℕ
+
+-- the context once a packet with this index is taken
+abbrev pub with_taken : Context → ℕ → Context
+with_taken context index = record context { taken = index ∷ context.taken }
+
+-- the index of a packet with this number: of the first one by the rollover counter that was given, and then as it is guessed
+unfoldable pub index_of : (rollover : ℕ) (taken : List ℕ) → ℕ → ℕ
+index_of rollover taken seq =
+    if next_of taken == 0 then 65536 * rollover + seq else guessed_index (next_of taken - 1) seq
+
+-- A guess is modulo 2^48. One that has gone round lies half of that away from the highest index or more: behind the last index
+-- the key has come to its end, and before the first one a packet is too old.
+unfoldable pub guess_fault : List ℕ → ℕ → Option SrtpFault
+guess_fault taken index =
+    if next_of taken == 0
+    then None
+    else or_else (fault_if (nat_lt (index + 2 ^ 47) (next_of taken)) KeyEnd) (fault_if (nat_lt (next_of taken + 2 ^ 47) index) TooOld)
+
+-- the index of these octets
+abbrev pub index_in : Context → List ℕ → ℕ
+index_in context octets = index_of context.rollover context.taken (sequence_of octets)
+
+-- the first check that fails of a packet without its tag
+unfoldable pub packet_fault : Context → List ℕ → Option SrtpFault
+packet_fault context octets =
+    or_else (header_fault octets)
+    (or_else (fault_if (not (ssrc_of octets == context.ssrc)) WrongSource)
+    (or_else (guess_fault context.taken (index_in context octets))
+    (option_map of_replay (replay_fault context.len context.taken (index_in context octets)))))
+
+-- a packet with this index, encrypted or decrypted
+abbrev pub turned : Context → ℕ → List ℕ → List ℕ
+turned context index octets = enciphered context.keys (header_len octets) (ssrc_of octets) index octets
+
+-- a packet as it is protected, with its tag
+abbrev pub protected : Context → ℕ → List ℕ → List ℕ
+protected context index octets =
+    let body = turned context index octets in
+    body ++ tag_of context.keys body (rollover_octets index)
+
+-- a protected packet without its tag of 10 octets, and that tag
+abbrev pub body_of : List ℕ → List ℕ
+body_of packet = take (length packet - 10) packet
+
+abbrev pub tag_in : List ℕ → List ℕ
+tag_in packet = drop (length packet - 10) packet
+
+-- the first check that a protected packet fails: those of a packet, and then that of its tag
+unfoldable pub unprotect_fault : Context → List ℕ → Option SrtpFault
+unprotect_fault context packet =
+    let index = index_in context (body_of packet) in
+    or_else (packet_fault context (body_of packet))
+    (fault_if (not (same_octets (tag_of context.keys (body_of packet) (rollover_octets index)) (tag_in packet))) WrongTag)
+
+-- the stream, whose replay list has so many places, has this context
+pub record IsStream (len : ℕ) (stream : Stream len) (context : Context) : Type 0 where
+  pub len_is : context.len ≡ len
+  pub keys : AreKeys stream.keys context.keys
+  pub ssrc : stream.ssrc ≡ context.ssrc
+  pub rollover : stream.rollover ≡ context.rollover
+  pub taken : Remembers context.len stream.replay.next stream.replay.places context.taken
