@@ -4,3 +4,4 @@ pub mod Keystream
 pub mod Taken
 pub mod SameOctets
 pub mod Guesses
+pub mod Checks

@@ -1,0 +1,44 @@
+-- The checks of a packet, one after another.
+use Rattle.std.proofs.Common.{◌≡◌, ℕ, ◌==◌, List, Option, Some, None, refl, sym, ap, subst, ◌∙◌}
+use Rattle.std.specs.Option.{option_map}
+use Rattle.std.proofs.lemmas.Bool.{eq-eqb, ne_eqb}
+use Rattle.srtp.specs.Fault.{of_replay, or_else, fault_if}
+use Rattle.srtp.specs.Header.{header_fault, sequence_of, ssrc_of}
+use Rattle.srtp.specs.Replay.{replay_fault, Remembers}
+use Rattle.srtp.specs.Stream.{Context, IsStream, index_of, index_in, guess_fault, packet_fault}
+use Rattle.srtp.specs.declared.stream.Stream.{Stream}
+use Rattle.srtp.specs.declared.fault.SrtpFault.{SrtpFault}
+use Rattle.srtp.specs.declared.fault.SrtpFault.TheVariants.{WrongSource}
+use Rattle.srtp.specs.declared.replay.ReplayFault.{ReplayFault}
+
+pub by_header : (context : Context) (octets : List ℕ) (fault : SrtpFault) → Some fault ≡ header_fault octets → Some fault ≡ packet_fault context octets
+unfolding packet_fault
+by_header context octets fault e = rw (← e) refl
+
+pub by_source : (context : Context) (octets : List ℕ) → None ≡ header_fault octets → (ssrc_of octets ≡ context.ssrc → ⊥)
+    → Some WrongSource ≡ packet_fault context octets
+unfolding packet_fault
+by_source context octets e other = rw (← e, ne_eqb (ssrc_of octets) context.ssrc other) refl
+
+pub by_guess : (context : Context) (octets : List ℕ) (fault : SrtpFault) → None ≡ header_fault octets → ssrc_of octets ≡ context.ssrc
+    → Some fault ≡ guess_fault context.taken (index_in context octets) → Some fault ≡ packet_fault context octets
+unfolding packet_fault
+by_guess context octets fault e same guess = rw (← e, eq-eqb (ssrc_of octets) context.ssrc same, ← guess) refl
+
+pub by_replay : (context : Context) (octets : List ℕ) (answer : Option ReplayFault) → None ≡ header_fault octets → ssrc_of octets ≡ context.ssrc
+    → None ≡ guess_fault context.taken (index_in context octets) → answer ≡ replay_fault context.len context.taken (index_in context octets)
+    → option_map of_replay answer ≡ packet_fault context octets
+unfolding packet_fault
+by_replay context octets answer e same guess replay = rw (← e, eq-eqb (ssrc_of octets) context.ssrc same, ← guess, replay) refl
+
+-- what a stream knows, and an answer of its list, in its context's words
+pub remembered : (len : ℕ) (stream : Stream len) (context : Context) → IsStream len stream context
+    → Remembers len stream.replay.next stream.replay.places context.taken
+remembered len stream context held =
+    subst (λ n. Remembers n stream.replay.next stream.replay.places context.taken) held.len_is held.taken
+
+pub answered : (len index : ℕ) (context : Context) (octets : List ℕ) (seq : ℕ) (answer : Option ReplayFault) → context.len ≡ len → seq ≡ sequence_of octets
+    → index ≡ index_of context.rollover context.taken seq → answer ≡ replay_fault len context.taken index
+    → answer ≡ replay_fault context.len context.taken (index_in context octets)
+answered len index context octets seq answer same number is e =
+    e ∙ (λ i. replay_fault (sym same i) context.taken ((is ∙ ap (index_of context.rollover context.taken) number) i))
