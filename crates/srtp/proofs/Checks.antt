@@ -1,14 +1,15 @@
 -- The checks of a packet, one after another.
-use Rattle.std.proofs.Common.{◌≡◌, ℕ, ◌==◌, List, Option, Some, None, refl, sym, ap, subst, ◌∙◌}
+use Rattle.std.proofs.Common.{◌≡◌, ℕ, not, Bool, List, Option, Some, None, refl, sym, ap, subst, ◌∙◌}
 use Rattle.std.specs.Option.{option_map}
 use Rattle.std.proofs.lemmas.Bool.{eq-eqb, ne_eqb}
 use Rattle.srtp.specs.Fault.{of_replay, or_else, fault_if}
 use Rattle.srtp.specs.Header.{header_fault, sequence_of, ssrc_of}
 use Rattle.srtp.specs.Replay.{replay_fault, Remembers}
-use Rattle.srtp.specs.Stream.{Context, IsStream, index_of, index_in, guess_fault, packet_fault}
+use Rattle.srtp.specs.Seal.{tag_of, rollover_octets, same_octets}
+use Rattle.srtp.specs.Stream.{Context, IsStream, index_of, index_in, guess_fault, packet_fault, body_of, tag_in, unprotect_fault}
 use Rattle.srtp.specs.declared.stream.Stream.{Stream}
 use Rattle.srtp.specs.declared.fault.SrtpFault.{SrtpFault}
-use Rattle.srtp.specs.declared.fault.SrtpFault.TheVariants.{WrongSource}
+use Rattle.srtp.specs.declared.fault.SrtpFault.TheVariants.{WrongSource, WrongTag}
 use Rattle.srtp.specs.declared.replay.ReplayFault.{ReplayFault}
 
 pub by_header : (context : Context) (octets : List ℕ) (fault : SrtpFault) → Some fault ≡ header_fault octets → Some fault ≡ packet_fault context octets
@@ -42,3 +43,23 @@ pub answered : (len index : ℕ) (context : Context) (octets : List ℕ) (seq : 
     → answer ≡ replay_fault context.len context.taken (index_in context octets)
 answered len index context octets seq answer same number is e =
     e ∙ (λ i. replay_fault (sym same i) context.taken ((is ∙ ap (index_of context.rollover context.taken) number) i))
+
+pub by_packet : (context : Context) (packet body : List ℕ) (fault : SrtpFault) → body ≡ body_of packet → Some fault ≡ packet_fault context body
+    → Some fault ≡ unprotect_fault context packet
+unfolding unprotect_fault
+by_packet context packet body fault b e =
+    let first : packet_fault context (body_of packet) ≡ Some fault = sym (e ∙ ap (packet_fault context) b) in
+    rw first refl
+
+pub by_tag : (context : Context) (packet body tag expected behind : List ℕ) (index : ℕ) (same : Bool) → body ≡ body_of packet → tag ≡ tag_in packet
+    → None ≡ packet_fault context body → index ≡ index_in context body → behind ≡ rollover_octets index
+    → expected ≡ tag_of context.keys body behind → same ≡ same_octets expected tag → fault_if (not same) WrongTag ≡ unprotect_fault context packet
+unfolding unprotect_fault
+by_tag context packet body tag expected behind index same b t none at rollover made is =
+    let passed : None ≡ packet_fault context (body_of packet) = none ∙ ap (packet_fault context) b in
+    let counter : behind ≡ rollover_octets (index_in context (body_of packet)) = rollover ∙ ap rollover_octets (at ∙ ap (index_in context) b) in
+    let right : expected ≡ tag_of context.keys (body_of packet) (rollover_octets (index_in context (body_of packet))) =
+    made ∙ (λ i. tag_of context.keys (b i) (counter i)) in
+    let told : same ≡ same_octets (tag_of context.keys (body_of packet) (rollover_octets (index_in context (body_of packet)))) (tag_in packet) =
+    is ∙ (λ i. same_octets (right i) (t i)) in
+    λ i. or_else (passed i) (fault_if (not (told i)) WrongTag)

@@ -32,7 +32,7 @@ struct Spot {
 }
 
 impl<const N: usize> Stream<N> {
-    ghost use Rattle.srtp.specs.Stream.{Context, IsStream, index_of, guess_fault, index_in, packet_fault, with_taken, protected, body_of};
+    ghost use Rattle.srtp.specs.Stream.{Context, IsStream, index_of, guess_fault, index_in, packet_fault, with_taken, turned, protected, body_of, tag_in, unprotect_fault};
     ghost use Rattle.srtp.specs.Header.{header_len};
 
     /// The stream of an SSRC before its first packet, which is to have this rollover counter: 0 where a session begins.
@@ -110,6 +110,33 @@ impl<const N: usize> Stream<N> {
         tag.copy_from_slice(&tag_of(&self.keys, body, &rollover_octets(spot.index)));
         self.replay.take(spot.index);
         Ok(())
+    }
+
+    /// Takes the protection off a packet in place, and returns how many octets it has without its tag, which stays behind it.
+    ///
+    /// The checks, in this order: [`SrtpFault::Short`] under 22 octets, `Version`, `Header`, `WrongSource`, `KeyEnd`, `TooOld`,
+    /// `TakenBefore`, and `WrongTag`. A packet that is refused changes nothing: neither its octets nor the rollover counter nor the
+    /// replay list (section 3.3).
+    pub fn unprotect(&mut self, packet: &mut [u8]) -> Result<usize, SrtpFault>
+        requires { length packet.old ≤ 2 ^ 20 }
+        ensures ok { (context : Context) → IsStream N self.old context → let index = index_in context (body_of packet.old) in
+            OnOk result ((packet.new ≡ turned context index (body_of packet.old) ++ tag_in packet.old)
+            × IsStream N self.new (with_taken context index)) }
+        ensures len { IfOk result (λ len. len + 10 ≡ length packet.old) }
+        // Each refusal is the first check that fails.
+        ensures fault { (context : Context) → IsStream N self.old context → result_err result ≡ unprotect_fault context packet.old }
+        ensures err { OnErr result ((self.new ≡ self.old) × (packet.new ≡ packet.old)) }
+    {
+        let len = packet.len().saturating_sub(TAG);
+        let (body, tag) = packet.split_at_mut(len);
+        let spot = self.spot(body)?;
+        let expected = tag_of(&self.keys, body, &rollover_octets(spot.index));
+        if !same_tag(&expected, tag) {
+            return Err(SrtpFault::WrongTag);
+        }
+        encipher(&self.keys, spot.clear, ssrc_of(body), spot.index, body);
+        self.replay.take(spot.index);
+        Ok(len)
     }
 }
 

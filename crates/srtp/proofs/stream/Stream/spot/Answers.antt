@@ -1,7 +1,6 @@
-use Rattle.std.proofs.Common.{◌≡◌, ◌∙◌, sym, ap, Some, None}
+use Rattle.std.proofs.Common.{◌≡◌, ◌∙◌, sym, Some, None}
 use Rattle.std.proofs.lemmas.Result.{err_from_is_err_and}
 use Rattle.srtp.specs.Header.{ssrc_of}
-use Rattle.srtp.specs.Fault.{of_replay}
 use Rattle.srtp.proofs.Checks.{by_header, by_source, by_guess, by_replay, remembered, answered}
 use Rattle.srtp.proofs.stream.Stream.spot.Goals as goal
 
