@@ -5,3 +5,4 @@ pub mod Taken
 pub mod SameOctets
 pub mod Guesses
 pub mod Checks
+pub mod RtcpChecks

@@ -10,3 +10,4 @@ pub mod Fault
 pub mod Header
 pub mod Seal
 pub mod Stream
+pub mod Rtcp

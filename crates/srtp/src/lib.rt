@@ -11,6 +11,7 @@ mod index;
 mod keys;
 mod octets;
 mod replay;
+mod rtcp;
 mod seal;
 mod stream;
 
@@ -21,5 +22,6 @@ pub use hmac::HmacSha1;
 pub use index::{guess_index, guesses_are_places};
 pub use keys::{MasterKey, Profile, SessionKeys};
 pub use replay::{Replay, ReplayFault};
+pub use rtcp::{RTCP_GROWTH, RtcpReceiver, RtcpSender};
 pub use seal::TAG;
 pub use stream::Stream;
