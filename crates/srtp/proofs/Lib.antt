@@ -6,3 +6,4 @@ pub mod SameOctets
 pub mod Guesses
 pub mod Checks
 pub mod RtcpChecks
+pub mod Opened

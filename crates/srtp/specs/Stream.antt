@@ -73,6 +73,11 @@ unprotect_fault context packet =
     or_else (packet_fault context (body_of packet))
     (fault_if (not (same_octets (tag_of context.keys (body_of packet) (rollover_octets index)) (tag_in packet))) WrongTag)
 
+-- what was sent is taken as this packet
+pub record IsOpened (receiving : Context) (packet sent : List ℕ) : Type 0 where
+  pub taken : unprotect_fault receiving sent ≡ None
+  pub same : turned receiving (index_in receiving (body_of sent)) (body_of sent) ≡ packet
+
 -- the stream, whose replay list has so many places, has this context
 pub record IsStream (len : ℕ) (stream : Stream len) (context : Context) : Type 0 where
   pub len_is : context.len ≡ len

@@ -1,11 +1,7 @@
 //! FIPS 197: the example of appendix B, and that of appendix C.1.
-use hex::FromHex;
+use crate::octets::block;
 use srtp::Aes128;
 use std::test::Fail;
-
-fn block(text: &str) -> Result<[u8; 16], Fail> {
-    Ok(<[u8; 16] as FromHex>::from_hex(text).ok().ok_or("a block is 16 octets in hex")?)
-}
 
 #[test]
 fn blocks(rt: HostRuntime) -> Result<(), Fail> {
@@ -21,7 +17,10 @@ fn blocks(rt: HostRuntime) -> Result<(), Fail> {
             "69c4e0d86a7b0430d8cdb78070b4c55a",
         ),
     ] {
-        assert_eq!(rt; Aes128::new(&block(key)?).encrypt(&block(plain)?), block(secret)?);
+        assert_eq!(rt;
+            Aes128::new(&block(key)?).encrypt(&block(plain)?),
+            block(secret)?
+        );
     }
     Ok(())
 }

@@ -4,4 +4,14 @@
 #[cfg(test)]
 mod aes;
 #[cfg(test)]
+mod derivation;
+#[cfg(test)]
 mod hmac;
+#[cfg(test)]
+mod indices;
+#[cfg(test)]
+mod octets;
+#[cfg(test)]
+mod packets;
+#[cfg(test)]
+mod replay;
