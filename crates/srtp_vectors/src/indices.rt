@@ -1,6 +1,14 @@
 //! RFC 3711, section 3.3.1: the index of a packet, at the edges of the guess.
 use srtp::{guess_index, guesses_are_places};
 
+fn guessed(highest: u64, seq: u16) -> Option<u64> {
+    if highest < 1 << 48 {
+        Some(guess_index(highest, seq))
+    } else {
+        None
+    }
+}
+
 #[test]
 fn guesses(rt: HostRuntime) {
     for (highest, seq, index) in [
@@ -23,8 +31,8 @@ fn guesses(rt: HostRuntime) {
         (281474976710655, 0, 0),
     ] {
         assert_eq!(rt;
-            guess_index(highest, seq),
-            index,
+            guessed(highest, seq),
+            Some(index),
             "from {highest} the number {seq}"
         );
     }

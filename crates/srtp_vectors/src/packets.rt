@@ -1,5 +1,8 @@
 //! Packets as libsrtp protects them, by its own examples, and packets that are refused.
+ghost use Rattle.std.specs.Prelude.{◌≤◌, length};
+
 use crate::derivation::master;
+use hex::FromHex;
 use srtp::{Profile, RtcpReceiver, RtcpSender, SessionKeys, SrtpFault, Stream};
 use std::test::Fail;
 
@@ -9,47 +12,72 @@ fn stream(profile: Profile) -> Result<Stream<128>, Fail> {
     Ok(Stream::new(SessionKeys::of_rtp(profile, &master()?), SSRC, 0))
 }
 
+fn plain_rtp() -> Result<[u8; 28], Fail> {
+    let text = "800f1234decafbadcafebabeabababababababababababababababab";
+    Ok(
+        <[u8; 28] as FromHex>::from_hex(text)
+            .ok()
+            .ok_or("28 octets in hex")?,
+    )
+}
+
+fn plain_rtcp() -> Result<[u8; 24], Fail> {
+    let text = "81c8000bcafebabeabababababababababababababababab";
+    Ok(
+        <[u8; 24] as FromHex>::from_hex(text)
+            .ok()
+            .ok_or("24 octets in hex")?,
+    )
+}
+
+fn secret(text: &str) -> Result<[u8; 38], Fail> {
+    Ok(
+        <[u8; 38] as FromHex>::from_hex(text)
+            .ok()
+            .ok_or("38 octets in hex")?,
+    )
+}
+
+/// Octets at the front of a packet, with room behind them.
+fn with_room(octets: &[u8]) -> [u8; 38]
+    requires { length octets.now ≤ 38 }
+{
+    let mut packet = [0; 38];
+    packet[..octets.len()].copy_from_slice(octets);
+    packet
+}
+
 #[test]
 fn rtp(rt: HostRuntime) -> Result<(), Fail> {
-    let plain = hex::decode(
-        rt.alloc(),
-        "800f1234decafbadcafebabeabababababababababababababababab",
-    )?;
-    let secret = hex::decode(
-        rt.alloc(),
+    let plain = plain_rtp()?;
+    let secret = secret(
         "800f1234decafbadcafebabe4e55dc4ce79978d88ca4d215949d2402b78d6acc99ea179b8dbb",
     )?;
-    let mut packet = [0; 38];
-    packet[..28].copy_from_slice(&plain[..28]);
+    let mut packet = with_room(&plain);
     let mut sender = stream(Profile::Aes128CmHmacSha1)?;
     assert_eq!(rt; sender.protect(&mut packet), Ok(()));
-    assert_eq!(rt; packet.as_slice(), secret.as_slice());
+    assert_eq!(rt; packet, secret);
     let mut receiver = stream(Profile::Aes128CmHmacSha1)?;
     assert_eq!(rt; receiver.unprotect(&mut packet), Ok(28));
-    assert_eq!(rt; &packet[..28], plain.as_slice());
+    assert!(rt; packet.starts_with(&plain));
     Ok(())
 }
 
 #[test]
 fn rtcp(rt: HostRuntime) -> Result<(), Fail> {
-    let plain = hex::decode(
-        rt.alloc(),
-        "81c8000bcafebabeabababababababababababababababab",
-    )?;
-    let secret = hex::decode(
-        rt.alloc(),
+    let plain = plain_rtcp()?;
+    let secret = secret(
         "81c8000bcafebabe7128035be487b9bdbef89041f977a5a880000001993e08cd54d6c1230798",
     )?;
-    let mut packet = [0; 38];
-    packet[..24].copy_from_slice(&plain[..24]);
+    let mut packet = with_room(&plain);
     let keys = SessionKeys::of_rtcp(Profile::Aes128CmHmacSha1, &master()?);
     let mut sender = RtcpSender::new(keys, SSRC, 1);
     assert_eq!(rt; sender.protect(&mut packet), Ok(()));
-    assert_eq!(rt; packet.as_slice(), secret.as_slice());
+    assert_eq!(rt; packet, secret);
     let keys = SessionKeys::of_rtcp(Profile::Aes128CmHmacSha1, &master()?);
     let mut receiver = RtcpReceiver::<64>::new(keys, SSRC);
     assert_eq!(rt; receiver.unprotect(&mut packet), Ok(24));
-    assert_eq!(rt; &packet[..24], plain.as_slice());
+    assert!(rt; packet.starts_with(&plain));
     Ok(())
 }
 
