@@ -7,3 +7,5 @@ pub mod Guesses
 pub mod Checks
 pub mod RtcpChecks
 pub mod Opened
+pub mod Inverses
+pub mod RtcpOpened

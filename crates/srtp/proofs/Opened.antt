@@ -78,10 +78,10 @@ enciphered_twice keys clear ssrc index octets fits = told keys.encrypts
 
 -- ---- the header of octets that begin alike
 
-agree : (n : ℕ) (xs ys : List ℕ) → take n xs ≡ take n ys → (i : ℕ) → i < n → slice_index xs i ≡ slice_index ys i
+pub agree : (n : ℕ) (xs ys : List ℕ) → take n xs ≡ take n ys → (i : ℕ) → i < n → slice_index xs i ≡ slice_index ys i
 agree n xs ys same i lt = sym (get_or-take n xs i 0 lt) ∙ ap (λ (zs : List ℕ). slice_index zs i) same ∙ get_or-take n ys i 0 lt
 
-number_from : (n : ℕ) (xs ys : List ℕ) → take n xs ≡ take n ys → (k w i : ℕ) → k + i + w ≤ n → big_from i w (drop k xs) ≡ big_from i w (drop k ys)
+pub number_from : (n : ℕ) (xs ys : List ℕ) → take n xs ≡ take n ys → (k w i : ℕ) → k + i + w ≤ n → big_from i w (drop k xs) ≡ big_from i w (drop k ys)
 number_from n xs ys same k zero i fits = refl
 number_from n xs ys same k (suc w) i fits =
     let here : slice_index (drop k xs) i ≡ slice_index (drop k ys) i =

@@ -1,6 +1,6 @@
 -- How packets of RTCP are protected (RFC 3711, section 3.4): what is behind the first eight octets is encrypted; then come the bit E
 -- and the index, in 32 bits, and a tag that is made of all before it.
-use Rattle.std.specs.Prelude.{◌≡◌, ℕ, Bool, true, false, ◌+◌, ◌-◌, ◌*◌, ◌/◌, ◌%◌, ◌^◌, ◌==◌, not, nat_lt, List, ◌++◌, length, take, drop, Option}
+use Rattle.std.specs.Prelude.{◌≡◌, ℕ, Bool, true, false, ◌+◌, ◌-◌, ◌*◌, ◌/◌, ◌%◌, ◌^◌, ◌==◌, not, nat_lt, List, ◌++◌, length, take, drop, Option, None}
 use Rattle.std.specs.Option.{option_map}
 use Rattle.byteorder.specs.Endian.{big_number, big_bytes}
 use Rattle.srtp.specs.Derivation.{Keys, AreKeys}
@@ -89,6 +89,11 @@ receiving_fault receiving packet =
     or_else (rtcp_fault receiving.ssrc (before_trailer front))
     (or_else (trailer_fault receiving (trailer_in front))
     (fault_if (not (same_octets (tag_of receiving.keys (before_trailer front) (trailer_in front)) (tag_in packet))) WrongTag))
+
+-- what was sent is taken as this packet
+pub record IsRtcpOpened (receiving : Receiving) (packet sent : List ℕ) : Type 0 where
+  pub taken : receiving_fault receiving sent ≡ None
+  pub same : rtcp_turned receiving.keys (index_said (trailer_in (body_of sent))) (before_trailer (body_of sent)) ≡ packet
 
 pub record IsReceiving (len : ℕ) (receiver : RtcpReceiver len) (receiving : Receiving) : Type 0 where
   pub len_is : receiving.len ≡ len

@@ -22,7 +22,7 @@ pub use fault::SrtpFault;
 pub use hmac::HmacSha1;
 pub use index::{guess_index, guesses_are_places};
 pub use keys::{MasterKey, Profile, SessionKeys};
-pub use laws::{packets_are_opened, replays_are_refused};
+pub use laws::{inverses_are, packets_are_opened, replays_are_refused};
 pub use replay::{Replay, ReplayFault};
 pub use rtcp::{RTCP_GROWTH, RtcpReceiver, RtcpSender};
 pub use seal::TAG;
