@@ -1,4 +1,6 @@
-//! AES-128 encryption (FIPS 197, section 5).
+//! AES-128 encryption (FIPS 197, section 5), in its plain form: the S-box is computed octet by octet, with no branch and no index
+//! that depends on a secret. A block takes some 10 microseconds so, and what is encrypted of a packet of 1316 octets, 83 blocks,
+//! some 900: enough for key derivation and for little streams.
 ghost use Rattle.std.specs.Prelude.{◌≡◌, ◌<◌, ◌+◌, ℕ, List};
 ghost use Rattle.srtp.specs.Octets.{xor_octets};
 ghost use Rattle.srtp.specs.Field.{times_power};
@@ -51,6 +53,7 @@ impl Aes128 {
 }
 
 /// An octet of the S-box (section 5.1.1).
+#[inline(always)]
 fn sub_byte(b: u8) -> u8
     ensures { result ≡ sub_byte b }
 {

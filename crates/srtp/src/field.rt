@@ -3,6 +3,7 @@ ghost use Rattle.std.specs.Prelude.{◌≡◌, ◌<◌};
 ghost use Rattle.srtp.specs.Field.{xtime, product, inverse};
 
 /// The product by x.
+#[inline(always)]
 pub(crate) fn xtime(b: u8) -> u8
     ensures { result ≡ xtime b }
 {
@@ -10,6 +11,7 @@ pub(crate) fn xtime(b: u8) -> u8
 }
 
 /// The product of two octets.
+#[inline(always)]
 fn product(a: u8, b: u8) -> u8
     ensures { result ≡ product a b }
 {
@@ -23,6 +25,7 @@ fn product(a: u8, b: u8) -> u8
 }
 
 /// The inverse of an octet, and 0 of 0: its 254th power.
+#[inline(always)]
 pub(crate) fn inverse(b: u8) -> u8
     ensures { result ≡ inverse b }
 {
