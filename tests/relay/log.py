@@ -12,10 +12,10 @@ import threading
 
 from base import counts_of, ends, on_time, part, soon
 from control import asks, ctl
-from net import App, End, free_port
-from rtp import plain
+from net import App, End, free_port, udp
+from rtp import packet, plain
 
-EVENTS = {"events": 0, "session": 5, "moved": 0, "restarted": 1, "overrun": 1, "abandoned": 1, "skipped": 1, "gap": 1, "crowded": 1}
+EVENTS = {"events": 0, "session": 5, "moved": 0, "restarted": 1, "overrun": 1, "abandoned": 1, "skipped": 1, "gap": 2}
 SIZE = 1031  # F_SETPIPE_SZ of fcntl(2)
 PAGE = 4096
 
@@ -59,8 +59,23 @@ def events(checks, stage):
         checks.count(len(pathlib.Path(paths[side]).read_bytes()) < 40000, f"{side}: {len(lines)} lines")
     last = counts_of(" ".join(words_of(paths["send"])[-1][2:]), "send")
     checks.same(last, sender.counts(), "the last line is that of standard error")
-    gaps = sum(one[1] == "gap" for one in words_of(paths["receive"]))
-    checks.count(gaps > 0, "no place was given up where three of ten are lost and the latency is short")
+    gaps = [(int(one[2]), int(one[3])) for one in words_of(paths["receive"]) if one[1] == "gap"]
+    checks.count(all(one + many < another for (one, many), (another, _) in zip(gaps, gaps[1:])), f"places that are given up: {gaps[:20]}")
+    checks.count(0 < len(gaps) and any(many > 1 for _, many in gaps), "no place was given up where three of ten are lost and the latency is short")
+
+
+def far_ahead(checks, stage):
+    """Packets that lie far ahead have thousands of places given up, and the log a line for those of each."""
+    player, path = End(stage), stage.room / "ahead.log"
+    receiver = stage.receive(player.at, "--log", path, "--latency", 50, "--seconds", 4, log=False)
+    app = stage.keep(udp())
+    for number in (0, 1, 2, 3, *(3 + 3000 * i for i in range(1, 6))):
+        app.sendto(packet(96, number, 7, plain(1)[0]), receiver.at)
+    ends(checks, "far ahead", receiver)
+    lines, counts = words_of(path), receiver.counts()
+    gaps = [int(one[3]) for one in lines if one[1] == "gap"]
+    checks.same((sum(gaps), counts.get("gaps", 0) > 7000), (counts.get("gaps"), True), "far ahead: what is given up, and told")
+    checks.count(len(lines) < 30, f"far ahead: {len(lines)} lines: {lines[:40]}")
 
 
 @on_time(0.2)
@@ -191,4 +206,4 @@ def unread(checks, stage):
 
 
 if __name__ == "__main__":
-    part(events, quiet, forms, rotated, unopened, halted, unread)
+    part(events, far_ahead, quiet, forms, rotated, unopened, halted, unread)

@@ -36,6 +36,8 @@ pub struct Journal<'a> {
     lost: u64,
     /// Whether the last one could not, of which the file may have a part.
     is_torn: bool,
+    /// Places that were given up one behind the other, and not told so far: the first of them, and how many.
+    gaps: Option<(u64, u64)>,
 }
 
 impl<'a> Journal<'a> {
@@ -54,6 +56,7 @@ impl<'a> Journal<'a> {
             shows_repair,
             lost: 0,
             is_torn: false,
+            gaps: None,
         };
         journal.begin_file(0);
         Ok(journal)
@@ -61,7 +64,9 @@ impl<'a> Journal<'a> {
 
     /// Goes on in the file that has its path now, as behind a rotation. Where there can be none it stays in the one that it has.
     pub fn reopen(&mut self, rt: &HostRuntime, now: u64) -> io::Result<()> {
-        self.file = opened(rt, self.path)?;
+        let file = opened(rt, self.path)?;
+        self.tell_gaps(now);
+        self.file = file;
         self.is_torn = false;
         self.begin_file(now);
         Ok(())
@@ -92,17 +97,21 @@ impl<'a> Journal<'a> {
         }
     }
 
-    /// Writes what is an event.
+    /// Writes what is an event. Places that are given up one behind the other are one, which is told once another one comes, or the counts do: who
+    /// sends a packet far ahead has thousands given up. What is passed over is none, since whoever asks has as much of that as he likes.
     fn note_event(&mut self, now: u64, note: &Note) {
         match note {
-            Note::Began(session, first, _) => self.begin(now, session, *first),
+            Note::Began(session, first, _) => {
+                self.tell_gaps(now);
+                self.begin(now, session, *first);
+            }
             Note::Moved(_, answer, _) => {
+                self.tell_gaps(now);
                 self.write(&[Word::Decimal(now), Word::Text(b"moved")]);
                 self.hear_event(now, answer);
             }
             Note::Heard(answer, _) => self.hear_event(now, answer),
-            Note::Gap(place) => self.count(now, b"gap", place.value()),
-            Note::Crowded(packets) => self.count(now, b"crowded", *packets),
+            Note::Gap(place) => self.give_up(now, place.value()),
             _ => {}
         }
     }
@@ -111,15 +120,48 @@ impl<'a> Journal<'a> {
     fn hear_event(&mut self, now: u64, answer: &Result<Heard, ReceiveFault>) {
         match answer {
             Ok(Heard::Media(taken) | Heard::Repair(taken)) => {
-                self.leave_behind(now, b"overrun", taken.overrun)
+                if taken.overrun > 0 {
+                    self.tell_gaps(now);
+                    self.count(now, b"overrun", taken.overrun);
+                }
             }
-            Ok(Heard::Restarted(restart)) => self.restart(now, restart),
+            Ok(Heard::Restarted(restart)) => {
+                self.tell_gaps(now);
+                self.restart(now, restart);
+            }
             _ => {}
+        }
+    }
+
+    /// A place was given up: behind those before, or by itself.
+    fn give_up(&mut self, now: u64, place: u64) {
+        self.gaps = match self.gaps {
+            Some((first, count)) if first.saturating_add(count) == place => {
+                Some((first, count.saturating_add(1)))
+            }
+            _ => {
+                self.tell_gaps(now);
+                Some((place, 1))
+            }
+        };
+    }
+
+    /// Writes the places that were given up, where there are any.
+    fn tell_gaps(&mut self, now: u64) {
+        if let Some((first, count)) = self.gaps {
+            self.gaps = None;
+            self.write(&[
+                Word::Decimal(now),
+                Word::Text(b"gap"),
+                Word::Decimal(first),
+                Word::Decimal(count),
+            ]);
         }
     }
 
     /// Writes the counts.
     pub fn write_counts(&mut self, alloc: Global, now: u64, counts: &Counts, is_sender: bool) {
+        self.tell_gaps(now);
         let mut figures = Vec::new(alloc);
         if counts.push(alloc, &mut figures, is_sender).is_err() {
             return;
