@@ -225,6 +225,31 @@ fn asks_follow_reordering_and_the_round_trip(rt: HostRuntime) -> Result<(), Fail
     Ok(())
 }
 
+/// Three places are given up without an answer, each asked for three times, 50 milliseconds apart. So an answer takes 200 milliseconds at least,
+/// and two asks are made of the fourth, half of the patience apart.
+#[test]
+fn places_that_are_given_up_without_an_answer_are_measured(rt: HostRuntime) -> Result<(), Fail> {
+    const COMES: &[Passing] = &[
+        (1, Far, FAR, Media(10, 1)),
+        (3, Far, FAR, Media(12, 3)),
+        (300, Far, FAR, Media(14, 5)),
+        (600, Far, FAR, Media(16, 7)),
+        (900, Far, FAR, Media(18, 9)),
+    ];
+    const LEAVES: &[(usize, Passing)] = &[
+        (7, (203, Near, PLAYER, Media(12, 3))),
+        (14, (500, Near, PLAYER, Media(14, 5))),
+        (19, (700, Far, FAR, Nack(15))),
+        (21, (800, Near, PLAYER, Media(16, 7))),
+        (23, (900, Far, FAR, Nack(17))),
+        (24, (1000, Far, FAR, Nack(17))),
+        (26, (1100, Near, PLAYER, Media(18, 9))),
+    ];
+    let done = done(rt.alloc(), 9, COMES, LEAVES)?;
+    assert!(rt; done.has_left && done.gone == 27);
+    Ok(())
+}
+
 /// What does not go on with the session is a stranger's, however long the far side is silent.
 #[test]
 fn strangers_stay_strangers(rt: HostRuntime) -> Result<(), Fail> {
