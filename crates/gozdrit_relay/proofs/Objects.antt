@@ -5,7 +5,7 @@ use Rattle.std.specs.Cmp.Lexicographic.{slice_cmp}
 use Rattle.serde_json.specs.Data.{Data, Members, no_members, member, put, object}
 use Rattle.serde_json.specs.Written.{compact_text, has_float, members_have_float}
 use Rattle.gozdrit_relay.specs.declared.figures.Amount.{Amount}
-use Rattle.gozdrit_relay.specs.declared.figures.Amount.TheVariants.{Count, Time}
+use Rattle.gozdrit_relay.specs.declared.figures.Amount.TheVariants.{Count, Time, Size}
 use Rattle.gozdrit_relay.specs.declared.figures.Figure.{Figure}
 use Rattle.gozdrit_relay.specs.Stats.{data_of, object_of, put_all}
 
@@ -13,6 +13,7 @@ no_float_in : (amount : Amount) → has_float (data_of amount) ≡ false
 no_float_in (Count n) = refl
 no_float_in (Time (Some n)) = refl
 no_float_in (Time None) = refl
+no_float_in (Size n) = refl
 
 by_order : (o : Ordering) (a b c : Members) → members_have_float a ≡ false → members_have_float b ≡ false → members_have_float c ≡ false → members_have_float (match_ordering o a b c) ≡ false
 by_order Less a b c ha hb hc = ha

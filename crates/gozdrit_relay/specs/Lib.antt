@@ -9,5 +9,6 @@ pub mod Seats
 pub mod Stats
 pub mod Answers
 pub mod Figures
+pub mod Names
 pub mod Metrics
 pub mod Client

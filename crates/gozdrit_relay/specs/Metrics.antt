@@ -4,7 +4,7 @@ use Rattle.std.specs.Fmt.{decimal}
 use Rattle.std.specs.List.{flat_map}
 use Rattle.lines.specs.Line.{line_of}
 use Rattle.gozdrit_relay.specs.declared.figures.Amount.{Amount}
-use Rattle.gozdrit_relay.specs.declared.figures.Amount.TheVariants.{Count, Time}
+use Rattle.gozdrit_relay.specs.declared.figures.Amount.TheVariants.{Count, Time, Size}
 use Rattle.gozdrit_relay.specs.declared.figures.Figure.{Figure}
 
 -- milliseconds as seconds, with three digits behind the point
@@ -16,11 +16,12 @@ abbrev pub sample_text : (name what kind amount : List ℕ) → List ℕ
 sample_text name what kind amount =
     line_of (codes "# HELP" ∷ name ∷ what ∷ []) ++ line_of (codes "# TYPE" ∷ name ∷ kind ∷ []) ++ line_of (name ∷ amount ∷ [])
 
--- A count is a counter, and a time a gauge in seconds. What is not known is left out.
+-- A count is a counter, a time a gauge in seconds, and a size one in octets. What is not known is left out.
 abbrev pub metric_by : Amount → (name what : List ℕ) → List ℕ
 metric_by (Count count) name what = sample_text (name ++ codes "_total") what (codes "counter") (decimal count)
 metric_by (Time (Some time)) name what = sample_text (name ++ codes "_seconds") what (codes "gauge") (seconds_text time)
 metric_by (Time None) name what = []
+metric_by (Size octets) name what = sample_text (name ++ codes "_bytes") what (codes "gauge") (decimal octets)
 
 abbrev pub metric_text : (prefix : List ℕ) → Figure → List ℕ
 metric_text prefix figure = metric_by figure.amount (prefix ++ figure.name.now) figure.what.now

@@ -3,7 +3,7 @@ use Rattle.std.specs.Prelude.{ℕ, List, [], ◌∷◌, ◌++◌, codes, Some, N
 use Rattle.serde_json.specs.Written.{compact_text}
 use Rattle.serde_json.specs.Data.{Data, Members, null, number, unsigned, object, no_members, put}
 use Rattle.gozdrit_relay.specs.declared.figures.Amount.{Amount}
-use Rattle.gozdrit_relay.specs.declared.figures.Amount.TheVariants.{Count, Time}
+use Rattle.gozdrit_relay.specs.declared.figures.Amount.TheVariants.{Count, Time, Size}
 use Rattle.gozdrit_relay.specs.declared.figures.Figure.{Figure}
 
 -- a number, or null where none is known
@@ -11,6 +11,7 @@ abbrev pub data_of : Amount → Data
 data_of (Count count) = number (unsigned count)
 data_of (Time (Some time)) = number (unsigned time)
 data_of (Time None) = null
+data_of (Size octets) = number (unsigned octets)
 
 -- each figure under its name
 abbrev pub put_all : List Figure → Members → Members

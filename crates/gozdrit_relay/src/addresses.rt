@@ -1,8 +1,9 @@
 //! The addresses that a command line names, and the sockets that are had at them.
 use crate::fault::Fault;
+use crate::names::looked_up;
 use lines::parse_between;
 use mio::net::UdpSocket;
-use std::net::{IpAddr, Ipv4Addr, Ipv6Addr, SocketAddr, ToSocketAddrs};
+use std::net::{IpAddr, Ipv4Addr, Ipv6Addr, SocketAddr};
 
 /// All addresses of a host and a port. A port alone, or behind a star, is at any address of this machine.
 pub fn found<'a>(rt: &HostRuntime, name: &'a str) -> Result<Vec<SocketAddr>, Fault<'a>> {
@@ -10,12 +11,7 @@ pub fn found<'a>(rt: &HostRuntime, name: &'a str) -> Result<Vec<SocketAddr>, Fau
         let any = [any_like(true, port), any_like(false, port)];
         return any.to_vec(rt.alloc()).map_err(|_| Fault::Memory);
     }
-    let Ok(found) = name.to_socket_addrs(rt) else {
-        return Err(Fault::Find(name));
-    };
-    found
-        .collect::<Vec<SocketAddr>>(rt.alloc())
-        .map_err(|_| Fault::Memory)
+    looked_up(rt, name, true)
 }
 
 /// The port of a word that has nothing else, or a star before it.

@@ -1,7 +1,8 @@
 //! The peers that a command line names.
 use crate::fault::Fault;
+use crate::names::looked_up;
 use relays::{Peer, Peers, number_of};
-use std::net::{IpAddr, ToSocketAddrs};
+use std::net::IpAddr;
 
 /// How many bits the number of an address has, and that of an IPv4 one before its own.
 const BITS: u32 = 128;
@@ -31,15 +32,7 @@ fn add<'a>(rt: &HostRuntime, peers: &mut Vec<Peer>, word: &'a str) -> Result<(),
         return push(peers, peer);
     }
     let has_port = word.parse::<IpAddr>().is_err() && word.contains(':');
-    let found = if has_port {
-        word.to_socket_addrs(rt)
-    } else {
-        (word, 0).to_socket_addrs(rt)
-    };
-    let Ok(found) = found else {
-        return Err(Fault::Find(word));
-    };
-    for address in found {
+    for address in &looked_up(rt, word, has_port)? {
         let number = number_of(address.ip());
         let port = if has_port { Some(address.port()) } else { None };
         push(

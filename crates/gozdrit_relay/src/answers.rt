@@ -7,6 +7,7 @@ use crate::asking::Asked;
 use crate::counts::Counts;
 use crate::figures::{Figure, push_figures};
 use crate::metrics::metrics_of;
+use crate::standing::Standing;
 use crate::stats::stats_text;
 use lines::{Word, push_line};
 use std::alloc::Global;
@@ -30,6 +31,7 @@ pub struct State<'a> {
     pub counts: &'a Counts,
     pub is_sender: bool,
     pub has_log: bool,
+    pub standing: Standing<'a>,
 }
 
 /// The answer of a relay to what was asked for by these octets.
@@ -39,13 +41,17 @@ pub fn answer_of(
     octets: &[u8],
     state: State<'_>,
 ) -> Result<Vec<u8>, OutOfMemory> {
-    if state.is_sender {
-        let figures = state.counts.sender_figures();
-        answer(alloc, asked, octets, "gozdrit_send_", &figures)
-    } else {
-        let figures = state.counts.receiver_figures();
-        answer(alloc, asked, octets, "gozdrit_receive_", &figures)
+    let mut figures = state.counts.figures(alloc, state.is_sender)?;
+    // Who has the run end is told its line of counts.
+    if matches!(asked, Asked::Stats | Asked::Metrics) {
+        state.standing.push(&mut figures)?;
     }
+    let prefix = if state.is_sender {
+        "gozdrit_send_"
+    } else {
+        "gozdrit_receive_"
+    };
+    answer(alloc, asked, octets, prefix, &figures)
 }
 
 /// The answer to what was asked for by these octets, with the figures of a run, and what the names of its metrics begin

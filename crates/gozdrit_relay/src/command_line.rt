@@ -42,6 +42,8 @@ pub struct Options<'a> {
     pub seed: u64,
     /// So many octets the system is asked to keep for a socket, each way.
     pub socket_buffer: i32,
+    /// Over how many networks what goes to a group goes.
+    pub ttl: Option<u8>,
 }
 
 /// What a command line asks for.
@@ -194,6 +196,7 @@ fn common<'a>(matches: &ArgMatches<'a>) -> Result<Options<'a>, Fault<'a>> {
         )?
         .unwrap_or(BUFFER)
         .min(MOST_BUFFER) as i32,
+        ttl: number(matches, "ttl", 1, 255)?.map(|ttl| ttl.min(255) as u8),
     })
 }
 

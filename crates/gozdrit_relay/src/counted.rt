@@ -21,15 +21,25 @@ impl Counts {
         line: &mut Vec<u8>,
         is_sender: bool,
     ) -> Result<(), OutOfMemory> {
-        if is_sender {
-            push_figures(alloc, line, &self.sender_figures())
+        push_figures(alloc, line, &self.figures(alloc, is_sender)?)
+    }
+
+    /// The figures of a relay before the network, or of one behind it.
+    pub fn figures<'x>(
+        &self,
+        alloc: Global,
+        is_sender: bool,
+    ) -> Result<Vec<Figure<'x>>, OutOfMemory> {
+        let figures = if is_sender {
+            self.sender_figures().to_vec(alloc)?
         } else {
-            push_figures(alloc, line, &self.receiver_figures())
-        }
+            self.receiver_figures().to_vec(alloc)?
+        };
+        Ok(figures)
     }
 
     /// The figures of a relay before the network.
-    pub fn sender_figures<'x>(&self) -> [Figure<'x>; 19] {
+    fn sender_figures<'x>(&self) -> [Figure<'x>; 19] {
         [
             counted(
                 "sent",
@@ -110,7 +120,7 @@ impl Counts {
     }
 
     /// The figures of a relay behind the network. A session that was learnt behind the first one is a restart, too.
-    pub fn receiver_figures<'x>(&self) -> [Figure<'x>; 21] {
+    fn receiver_figures<'x>(&self) -> [Figure<'x>; 21] {
         let learnt = self.sessions.saturating_sub(1);
         let restarts = self.restarts.saturating_add(learnt);
         [

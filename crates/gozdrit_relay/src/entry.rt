@@ -10,13 +10,15 @@ use crate::ctl::ask;
 use crate::draws::Draws;
 use crate::fault::Fault;
 use crate::greeting::{push_kept, push_metrics, push_sockets};
+use crate::handed::{descriptor, handed};
 use crate::host::{Host, Sockets};
 use crate::journal::Journal;
 use crate::known::Known;
 use crate::learners::{ReceiveLearner, SendLearner};
 use crate::load::Store;
 use crate::machine::{Learner, Machine};
-use crate::sockets::{Kept, keep};
+use crate::notify::tell_ready;
+use crate::sockets::{Kept, keep, kept_for, reach};
 use endpoint::ResendRule;
 use mio::net::UdpSocket;
 use relays::{Bounds, Peers, Rate, ReceiveRelay, Relay, SendRelay, run};
@@ -41,13 +43,19 @@ pub fn relay<'a>(rt: &HostRuntime, choice: &Choice<'a>) -> Result<u8, Fault<'a>>
                 to,
                 listening: near,
                 leaving: far,
+                kept,
                 doors,
             } = opened(rt, options)?;
             let learner = sender(
                 rt, options, *rate, *rule, *follows, *history, *rtx_first, to,
             );
             let store = Store::History(*history as u64);
-            let sockets = Sockets { near, far, doors };
+            let sockets = Sockets {
+                near,
+                far,
+                kept,
+                doors,
+            };
             go::<SendRelay<RingHistory>, SendLearner>(rt, options, learner, peers, sockets, store)
         }
         Choice::Receive {
@@ -61,6 +69,7 @@ pub fn relay<'a>(rt: &HostRuntime, choice: &Choice<'a>) -> Result<u8, Fault<'a>>
                 to,
                 listening: far,
                 leaving: near,
+                kept,
                 doors,
             } = opened(rt, options)?;
             let learner = receiver(rt, options, *latency, *window, *hold, to);
@@ -68,7 +77,12 @@ pub fn relay<'a>(rt: &HostRuntime, choice: &Choice<'a>) -> Result<u8, Fault<'a>>
                 places: *window as u64,
                 latency: *latency,
             };
-            let sockets = Sockets { near, far, doors };
+            let sockets = Sockets {
+                near,
+                far,
+                kept,
+                doors,
+            };
             go::<ReceiveRelay<RingWindow>, ReceiveLearner>(
                 rt, options, learner, peers, sockets, store,
             )
@@ -80,12 +94,14 @@ pub fn relay<'a>(rt: &HostRuntime, choice: &Choice<'a>) -> Result<u8, Fault<'a>>
     }
 }
 
-/// The address that a relay sends to, the socket that it listens at, the one that it sends from, and where its clients come to.
+/// The address that a relay sends to, the socket that it listens at, the one that it sends from, what the system keeps for either, and
+/// where its clients come to.
 #[derive(Drop)]
 struct Sides {
     to: SocketAddr,
     listening: UdpSocket,
     leaving: UdpSocket,
+    kept: Option<Kept>,
     doors: Doors,
 }
 
@@ -155,24 +171,35 @@ fn opened<'a>(rt: &HostRuntime, options: &Options<'a>) -> Result<Sides, Fault<'a
     let Some(to) = toward(rt, &found(rt, options.to)?, &from) else {
         return Err(nowhere(options));
     };
-    let listening = bound(rt, &found(rt, options.listen)?, options.listen)?;
+    let listening = listening(rt, options.listen)?;
     if let Ok(at) = listening.local_addr() {
         if is_loop(at, to) {
             return Err(Fault::Loop(options.listen, options.to));
         }
     }
     let leaving = leaving(rt, &from, to, options.from.unwrap_or(options.to))?;
+    set_reach(options, to, &leaving)?;
     let doors = doors(rt, options)?;
-    let kept = make_room(options.socket_buffer, &listening, &leaving);
+    let kept = make_room(options, &listening, &leaving);
     greet(rt, &listening, to, &leaving);
     greet_metrics(rt, &doors);
     tell_room(rt, options.socket_buffer, kept);
+    tell_ready(rt);
     Ok(Sides {
         to,
         listening,
         leaving,
+        kept,
         doors,
     })
+}
+
+/// The socket that a relay listens at: one that was handed over, or one of its own.
+fn listening<'a>(rt: &HostRuntime, name: &'a str) -> Result<UdpSocket, Fault<'a>> {
+    match descriptor(name) {
+        Some(number) => handed(name, number),
+        None => bound(rt, &found(rt, name)?, name),
+    }
 }
 
 /// Nothing that a relay sends to has the family of what it sends from, or nothing is found there.
@@ -194,11 +221,33 @@ fn are_of_a_session<'a>(options: &Options<'a>) -> Result<(), Fault<'a>> {
     Ok(())
 }
 
-/// Asks the system to keep so many octets for both sockets, each way, and gives how many it keeps for either, where it tells. That is
-/// done before anybody is told that the relay listens: what comes then is kept.
-fn make_room(wanted: i32, listening: &UdpSocket, leaving: &UdpSocket) -> Option<Kept> {
-    let one = keep(listening, wanted)?;
-    let other = keep(leaving, wanted)?;
+/// Sets how far what goes to a group goes, where that is said.
+fn set_reach<'a>(
+    options: &Options<'a>,
+    to: SocketAddr,
+    leaving: &UdpSocket,
+) -> Result<(), Fault<'a>> {
+    let Some(ttl) = options.ttl else {
+        return Ok(());
+    };
+    if !to.is_ipv4() || !to.ip().is_multicast() {
+        return Err(Fault::Group(options.to));
+    }
+    if !reach(leaving, ttl) {
+        return Err(Fault::Outside);
+    }
+    Ok(())
+}
+
+/// Asks the system to keep as many octets for both sockets as are wanted, each way, and gives how many it keeps for either, where it tells.
+/// That is done before anybody is told that the relay listens: what comes then is kept. A socket that was handed over has the room that it
+/// has, which may be more than the system grants to this program.
+fn make_room(options: &Options<'_>, listening: &UdpSocket, leaving: &UdpSocket) -> Option<Kept> {
+    let one = match descriptor(options.listen) {
+        Some(_) => kept_for(listening)?,
+        None => keep(listening, options.socket_buffer)?,
+    };
+    let other = keep(leaving, options.socket_buffer)?;
     Some(one.least(&other))
 }
 

@@ -18,10 +18,14 @@ pub enum Fault<'a> {
     Families(&'a str, &'a str),
     /// What leaves comes back.
     Loop(&'a str, &'a str),
+    /// What is sent to is no group.
+    Group(&'a str),
     /// This is no peer.
     Peer(&'a str),
     /// This address can't be found.
     Find(&'a str),
+    /// This is no socket that was handed over.
+    Handed(&'a str),
     /// A socket can't be had at this address.
     Bind(SocketAddr, ErrorKind),
     /// The control socket can't be had at this path, nor that of the metrics at this address.
@@ -57,6 +61,7 @@ pub fn tell<W: Write>(fault: &Fault<'_>, error: &mut W) -> u8 {
             error,
             "fault value: --listen {listening} is where --to {to} sends"
         ),
+        Fault::Group(to) => writeln!(error, "fault value: --ttl: --to {to} is no group of IPv4"),
         Fault::Session => writeln!(
             error,
             "fault value: the types, or the SSRCs, are those of no session"
@@ -66,6 +71,10 @@ pub fn tell<W: Write>(fault: &Fault<'_>, error: &mut W) -> u8 {
             "fault value: --peer: {word} is no address with a number of bits"
         ),
         Fault::Find(name) => writeln!(error, "can't find {name}"),
+        Fault::Handed(word) => writeln!(
+            error,
+            "can't take --listen {word}: no socket of datagrams was handed over there"
+        ),
         Fault::Bind(at, kind) => writeln!(error, "can't bind {at}: {}", reason(*kind)),
         Fault::Control(path, kind) => {
             writeln!(error, "can't bind --control {path}: {}", reason(*kind))
@@ -84,6 +93,7 @@ pub fn tell<W: Write>(fault: &Fault<'_>, error: &mut W) -> u8 {
         | Fault::Session
         | Fault::Families(..)
         | Fault::Loop(..)
+        | Fault::Group(_)
         | Fault::Peer(_) => 2,
         Fault::Reach(..) => 1,
         Fault::Memory => 4,

@@ -16,6 +16,8 @@ pub enum Amount {
     Count(u64),
     /// So many milliseconds it lasts, where that is known.
     Time(Option<u64>),
+    /// So many octets it has.
+    Size(u64),
 }
 
 /// A figure by its name in the line of counts, and what it is.
@@ -47,7 +49,7 @@ fn word_of<'x>(amount: Amount) -> Word<'x>
     ensures { word_text result ≡ amount_text amount }
 {
     match amount {
-        Amount::Count(count) => Word::Decimal(count),
+        Amount::Count(count) | Amount::Size(count) => Word::Decimal(count),
         Amount::Time(Some(time)) => Word::Decimal(time),
         Amount::Time(None) => Word::Text(b"-"),
     }

@@ -9,6 +9,8 @@ use crate::journal::Journal;
 use crate::load::{Load, Store};
 use crate::seats::{is_over, sooner};
 use crate::seldom::Seldom;
+use crate::sockets::Kept;
+use crate::standing::Standing;
 use crate::turns::Turns;
 use crate::unmet::UnmetTold;
 use mio::net::UdpSocket;
@@ -40,11 +42,12 @@ const MINUTE: u64 = 60_000;
 /// How long who asks how the relay does waits at most while datagrams come without a pause, in milliseconds.
 const UNHEARD: u64 = 100;
 
-/// The sockets of a relay: one a side, and where its clients come to.
+/// The sockets of a relay: one a side, what the system keeps for either, where it tells, and where its clients come to.
 #[derive(Drop)]
 pub struct Sockets {
     pub near: UdpSocket,
     pub far: UdpSocket,
+    pub kept: Option<Kept>,
     pub doors: Doors,
 }
 
@@ -56,6 +59,7 @@ pub struct Host<'a> {
     events: Events<Global>,
     near: UdpSocket,
     far: UdpSocket,
+    kept: Option<Kept>,
     start: Instant,
     turns: Turns,
     /// Room for what comes. It is blanked once.
@@ -94,6 +98,9 @@ pub struct Host<'a> {
     /// How many lines could not be written without waiting since one was.
     unsaid: u64,
     is_sender: bool,
+    latency: Option<u64>,
+    /// The moment at which the session began, where there is one.
+    began: Option<u64>,
     load: Load,
     /// Whether the SSRC of the retransmissions is known from the beginning.
     shows_repair: bool,
@@ -121,6 +128,7 @@ impl<'a> Host<'a> {
         let Sockets {
             mut near,
             mut far,
+            kept,
             doors,
         } = sockets;
         poll.registry()
@@ -145,6 +153,7 @@ impl<'a> Host<'a> {
             events: Events::with_capacity(rt.alloc(), EVENTS)?,
             near,
             far,
+            kept,
             start,
             turns: Turns::BOTH,
             octets: [0; ROOM],
@@ -169,6 +178,8 @@ impl<'a> Host<'a> {
             tells_at: sooner(stats.map(|stats| stats.1), logs_at),
             unsaid: 0,
             is_sender: store.is_history(),
+            latency: store.latency(),
+            began: None,
             load: Load::new(store),
             shows_repair,
             line: Vec::new(rt.alloc()),
@@ -279,6 +290,15 @@ impl<'a> Host<'a> {
             counts: &self.counts,
             is_sender: self.is_sender,
             has_log: self.journal.is_some(),
+            standing: Standing {
+                rt: self.rt,
+                now,
+                began: self.began,
+                latency: self.latency,
+                kept: self.kept,
+                near: &self.near,
+                far: &self.far,
+            },
         };
         let wishes = clients.serve(self.poll.registry(), now, state);
         if wishes.reopens {
@@ -377,6 +397,7 @@ impl Outside for Host<'_> {
         self.tell_too_long(&turn.note, octets, now);
         match turn.note {
             Note::Unsent => self.tell_foreign(octets, now),
+            Note::Began(..) => self.began = Some(now),
             Note::Told(_) | Note::PassedOver(_) | Note::Crowded(_) => self.is_unmet = true,
             _ => {}
         }

@@ -29,6 +29,14 @@ impl Store {
     pub fn is_history(&self) -> bool {
         matches!(self, Store::History(_))
     }
+
+    /// How long a missing place is waited for, behind the network.
+    pub fn latency(&self) -> Option<u64> {
+        match self {
+            Store::History(_) => None,
+            Store::Window { latency, .. } => Some(*latency),
+        }
+    }
 }
 
 /// What a store is too short for.

@@ -43,6 +43,10 @@ fn push_metric(
             push_sample(text, &name, figure.what, "gauge", Word::Text(&seconds))
         }
         Amount::Time(None) => Ok(()),
+        Amount::Size(octets) => {
+            let name = joined(alloc, prefix, figure.name, "_bytes")?;
+            push_sample(text, &name, figure.what, "gauge", Word::Decimal(octets))
+        }
     }
 }
 

@@ -27,7 +27,7 @@ fn send<'a>(alloc: Global) -> Result<Command<'a>, AllocError> {
             alloc,
             "listen",
             "ADDR:PORT",
-            "Where the application's RTP comes to",
+            "Where the application's RTP comes to; fd:3 is a socket that is handed over",
         ))?
         .arg(required(alloc, "to", "HOST:PORT", "The far side: the other relay"))?
         .arg(option(
@@ -78,7 +78,12 @@ fn receive<'a>(alloc: Global) -> Result<Command<'a>, AllocError> {
     let command = Command::new(alloc, "receive")
         .about("Behind the network: asks for what is lost, and plays the stream in its order")
         .after_help(help::RECEIVE)
-        .arg(required(alloc, "listen", "ADDR:PORT", "Where the session comes to"))?
+        .arg(required(
+            alloc,
+            "listen",
+            "ADDR:PORT",
+            "Where the session comes to; fd:3 is a socket that is handed over",
+        ))?
         .arg(required(alloc, "to", "HOST:PORT", "The player"))?
         .arg(option(
             alloc,
@@ -117,7 +122,7 @@ fn ctl<'a>(alloc: Global) -> Result<Command<'a>, AllocError> {
             alloc,
             "request",
             "REQUEST",
-            "stats: all counts, as JSON; reopen: the log is opened anew; stop: the run ends, with the last line of counts",
+            "stats: all counts, and how the relay stands, as JSON; reopen: the log is opened anew; stop: the run ends, with the last line of counts",
         ))
 }
 
@@ -216,7 +221,7 @@ fn of_run<'a>(alloc: Global, command: Command<'a>) -> Result<Command<'a>, AllocE
             alloc,
             "metrics",
             "ADDR:PORT",
-            "Where GET /metrics has all counts in Prometheus' text form",
+            "Where GET /metrics has all counts, and how the relay stands, in Prometheus' text form",
         ))?
         .arg(option(
             alloc,
@@ -230,6 +235,12 @@ fn of_run<'a>(alloc: Global, command: Command<'a>) -> Result<Command<'a>, AllocE
             "socket-buffer",
             "OCTETS",
             "How many octets the system is asked to keep for a socket, each way; 4MiB by default",
+        ))?
+        .arg(option(
+            alloc,
+            "ttl",
+            "N",
+            "Over how many networks what goes to a group of IPv4 goes, 1 to 255; 1 by default",
         ))
 }
 

@@ -46,10 +46,22 @@ pub fn keep(socket: &UdpSocket, octets: i32) -> Option<Kept> {
     let value = padded(octets);
     ask(socket, Way::Come, &value);
     ask(socket, Way::Leave, &value);
+    kept_for(socket)
+}
+
+/// How many octets the system keeps for a socket each way. None: it does not tell.
+pub fn kept_for(socket: &UdpSocket) -> Option<Kept> {
     Some(Kept {
         come: told_of(socket, Way::Come)?,
         leave: told_of(socket, Way::Leave)?,
     })
+}
+
+/// Has what a socket sends to a group go over so many networks, and answers whether the system does.
+pub fn reach(socket: &UdpSocket, networks: u8) -> bool {
+    let fd = socket.as_raw_fd();
+    let value = padded(i32::from(networks));
+    unsafe { c::setsockopt(fd, c::IPPROTO_IP, c::IP_MULTICAST_TTL, &value, 4) == 0 }
 }
 
 /// A number as the system reads it.

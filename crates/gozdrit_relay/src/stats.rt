@@ -30,7 +30,7 @@ fn value_of(amount: Amount) -> Value
     ensures { view result ≡ data_of amount }
 {
     match amount {
-        Amount::Count(count) => Value::from(count),
+        Amount::Count(count) | Amount::Size(count) => Value::from(count),
         Amount::Time(Some(time)) => Value::from(time),
         Amount::Time(None) => Value::Null,
     }
