@@ -35,6 +35,7 @@ PKGCONFIG = $(LIBDIR)/pkgconfig
 MAN = $(PREFIX)/share/man
 DOC = $(PREFIX)/share/doc/gozdrit
 UNITS = $(PREFIX)/lib/systemd/system
+UNITS_ALONE = packaging/gozdrit-relay@.socket packaging/gozdrit-join@.service
 # A folder as the pkg-config file has it: below the prefix by that, so that a tree that was moved is found.
 below = $(patsubst $(PREFIX)/%,$${prefix}/%,$(1))
 
@@ -118,11 +119,12 @@ programs:
 	[ ! -x $(PROGRAM) ] || install -D -m 755 $(PROGRAM) $(DESTDIR)$(BINDIR)/rtxtool
 	[ ! -x $(RELAY) ] || install -D -m 755 $(RELAY) $(DESTDIR)$(BINDIR)/gozdrit-relay
 
-# A unit names the program where it is installed; what else stands in packaging/ is there to begin with.
+# A unit names the program where it is installed, but for those that start none; what else stands in packaging/ is there to begin with.
 units:
 	install -d $(DESTDIR)$(UNITS) $(DESTDIR)$(DOC)/examples
 	sed 's|@BINDIR@|$(BINDIR)|' packaging/gozdrit-relay@.service.in >$(DESTDIR)$(UNITS)/gozdrit-relay@.service
-	install -m 644 $(filter-out %.in,$(wildcard packaging/*)) $(DESTDIR)$(DOC)/examples
+	install -m 644 $(UNITS_ALONE) $(DESTDIR)$(UNITS)
+	install -m 644 $(filter-out %.in $(UNITS_ALONE),$(wildcard packaging/*)) $(DESTDIR)$(DOC)/examples
 
 # Its parts stand below no prefix, since nobody knows where a user unpacks them.
 dist: lib $(RELAY) $(PROGRAM)
@@ -135,7 +137,7 @@ uninstall:
 	rm -f $(DESTDIR)$(HEADERS)/gozdrit.h $(DESTDIR)$(HEADERS)/gozdrit_limits.h $(DESTDIR)$(PKGCONFIG)/gozdrit.pc
 	rm -f $(addprefix $(DESTDIR)$(LIBDIR)/,libgozdrit.a libgozdrit.so $(SONAME) $(SHARED))
 	rm -f $(DESTDIR)$(MAN)/man3/gozdrit.3 $(addprefix $(DESTDIR)$(MAN)/man1/,rtxtool.1 gozdrit-relay.1)
-	rm -f $(addprefix $(DESTDIR)$(BINDIR)/,rtxtool gozdrit-relay) $(DESTDIR)$(UNITS)/gozdrit-relay@.service
+	rm -f $(addprefix $(DESTDIR)$(BINDIR)/,rtxtool gozdrit-relay) $(DESTDIR)$(UNITS)/gozdrit-relay@.service $(addprefix $(DESTDIR)$(UNITS)/,$(notdir $(UNITS_ALONE)))
 	rm -rf $(DESTDIR)$(DOC)
 
 .PHONY: demo lib relay rtxtool install programs units dist uninstall help
