@@ -22,6 +22,10 @@ COUNTS = {
     "send": "sent unsent marked retransmitted early expired refused stray lost others unknown exhausted crowded strangers full unreachable oversize rejected failed".split(),
     "receive": "taken repaired played gaps overrun abandoned skipped asked refused padding unasked restarts moved stray lost rtt full unreachable oversize rejected failed".split(),
 }
+STANDS = {  # what is told beside the counts to who asks
+    "send": "running session buffer_in buffer_out dropped".split(),
+    "receive": "running session latency buffer_in buffer_out dropped".split(),
+}
 
 
 class Checks:
@@ -133,15 +137,18 @@ def counts_of(line, side):
 
 
 class Relay:
-    """A relay that runs: where it listens, what it says, what it logs."""
+    """A relay that runs: where it listens, what it says, what it logs. A socket that is handed over is its descriptor 3."""
 
-    def __init__(self, stage, side, *words, log=True):
+    def __init__(self, stage, side, *words, log=True, handed=None, env=None):
         self.side, self.began, self.lasted = side, time.monotonic(), None
         self.base = stage.room / f"relay{len(stage.relays)}"
         self.log = self.base.with_suffix(".log")
         words = [stage.program, side, *map(str, words), *(["--log", self.log, "--log-form", "packets"] if log else [])]
         self.said, self.printed = (open(self.base.with_suffix(end), "w") for end in (".err", ".out"))
-        self.run = subprocess.Popen(words, stdin=subprocess.DEVNULL, stdout=self.printed, stderr=self.said)
+        if handed:
+            words = ["bash", "-c", f'exec "$@" 3<&{handed.fileno()}', "bash", *words]
+        self.run = subprocess.Popen(words, stdin=subprocess.DEVNULL, stdout=self.printed, stderr=self.said, env=env,
+                                    pass_fds=[handed.fileno()] if handed else [])
         WATCH.follow(self.run.pid)
         stage.relays.append(self)
         soon(lambda: "\n" in self.errors() or self.run.poll() is not None)

@@ -87,7 +87,7 @@ def nowhere(checks, stage):
     """What is no address can't be found."""
     for side in SIDES:
         for option in ("listen", "to", "from"):
-            for value in ("nowhere", "127.0.0.1", "127.0.0.1:", "127.0.0.1:65536", "127.0.0.1:x", "nobody.invalid:5004"):
+            for value in ("nowhere", "127.0.0.1", "127.0.0.1:", "127.0.0.1:65536", "127.0.0.1:x"):
                 given = {"--listen": PLACES[1], "--to": PLACES[3], "--seconds": "1", f"--{option}": value}
                 status, out, err = runs(stage, side, *(f"{one}={given[one]}" for one in given))
                 told = status, out, err

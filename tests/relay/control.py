@@ -15,7 +15,7 @@ import subprocess
 import sys
 import time
 
-from base import COUNTS, counts_of, ends, on_time, part, soon
+from base import COUNTS, STANDS, counts_of, ends, on_time, part, soon
 from net import App, End
 from rtp import plain
 from sockets import apart
@@ -102,11 +102,11 @@ def alone(stage, relay, path):
 
 
 def stats(checks, stage, relay, path):
-    """The counts that a relay answers: those of its line, in their number and by their names."""
+    """The counts that a relay answers: those of its line, in their number and by their names. How it stands is told beside them."""
     told = json.loads(asks(stage, path, b"stats\n"))
-    checks.same(sorted(told), sorted(COUNTS[relay.side]), f"{relay.side}: the names of the counts")
-    checks.count(all(isinstance(one, int) or (name == "rtt" and one is None) for name, one in told.items()), f"{relay.side}: {told}")
-    return told
+    checks.same(sorted(told), sorted(COUNTS[relay.side] + STANDS[relay.side]), f"{relay.side}: the names of the counts")
+    checks.count(all(isinstance(one, int) or (name in ("rtt", "session") and one is None) for name, one in told.items()), f"{relay.side}: {told}")
+    return {name: told[name] for name in COUNTS[relay.side]}
 
 
 @on_time(0.1)
@@ -178,7 +178,7 @@ def client(checks, stage):
     path = stage.room / "one.sock"
     relay = stage.send(End(stage).at, "--control", path)
     status, out, err = ctl(stage, path, "stats")
-    checks.same((status, err, sorted(json.loads(out))), (0, "", sorted(COUNTS["send"])), "ctl stats")
+    checks.same((status, err, sorted(json.loads(out))), (0, "", sorted(COUNTS["send"] + STANDS["send"])), "ctl stats")
     checks.same(ctl(stage, path, "restart"), (1, NEITHER.format("restart"), ""), "ctl restart")
     checks.same(ctl(stage, stage.room / "none.sock", "stats"), (1, "", f"no answer at {stage.room / 'none.sock'}: there is no such file\n"), "no relay")
     for words in ([], [path], [path, "stats", "more"]):
@@ -270,6 +270,11 @@ def told(text):
     return {name: (kinds[name], value) for name, value in values.items()}
 
 
+def counted(text):
+    """The metrics of a text that are counts of a line."""
+    return {name: one for name, one in told(text).items() if name.split("_", 2)[2].rpartition("_")[0] not in STANDS["receive"]}
+
+
 def metrics(checks, stage):
     """Each count is a counter and the round-trip time a gauge, with the figures of the line; other pages and methods are refused."""
     player, many = End(stage), 300
@@ -286,13 +291,13 @@ def metrics(checks, stage):
         wanted = {f"gozdrit_{side}_{name}_total": ("counter", value) for name, value in known.items() if name != "rtt"}
         if side == "receive":
             wanted["gozdrit_receive_rtt_seconds"] = ("gauge", known["rtt"] / 1000)
-        checks.same(told(body), wanted, f"{side}: metrics")
+        checks.same(counted(body), wanted, f"{side}: metrics")
         for tool, words in (("curl", ["-sfS"]), ("promtool", ["check", "metrics"])):
             if not shutil.which(tool):
                 print(f"skipped: there is no {tool}")
             elif tool == "curl":
                 one = subprocess.run([tool, *words, "http://{}:{}/metrics".format(*metrics_of(relay))], capture_output=True, text=True, timeout=60)
-                checks.same((one.returncode, told(one.stdout)), (0, wanted), f"{side}: {tool}")
+                checks.same((one.returncode, counted(one.stdout)), (0, wanted), f"{side}: {tool}")
             else:
                 one = subprocess.run([tool, *words], input=body, capture_output=True, text=True, timeout=60)
                 checks.same((one.returncode, one.stdout + one.stderr), (0, ""), f"{side}: {tool}")

@@ -4,7 +4,7 @@
     fleet.py PROGRAM
 
 Where the files have names and ports of a fleet these are of this machine, and free ones. It wants make and readelf, and Debian's python3-yaml,
-prometheus, prometheus-node-exporter and, as root, buildah: what is missing is skipped with a word."""
+prometheus and, as root, buildah: what is missing is skipped with a word."""
 import concurrent.futures
 import contextlib
 import functools
@@ -112,7 +112,7 @@ def kubernetes(checks, stage):
     relay = Relay(stage, *map(here, [*entry[1:], *box["args"]]), log=False)
     ports = {(one["protocol"], port(one["hostPort"]), one["hostPort"] == one["containerPort"]) for one in box["ports"]}
     checks.same(ports, {("UDP", relay.at[1], True), ("TCP", metrics_of(relay)[1], True)}, "the ports")
-    # What sockets of another network drop is in no count of node_exporter's; and where two pods want the same ports one waits for ever.
+    # Where two pods want the same ports one waits for ever.
     checks.same((pod["hostNetwork"], spec["replicas"], spec["strategy"]["type"]), (True, 1, "Recreate"), "whose the ports are")
     checks.same(notes["prometheus.io/scrape"], "true", "whether it is scraped")
     checks.count("gozdrit_receive_played_total" in told(get("127.0.0.1", port(int(notes["prometheus.io/port"])), notes["prometheus.io/path"])), "the annotations")
@@ -171,29 +171,20 @@ def image(checks, stage):
 def named():
     """The metrics that the alerts are made of, but for Prometheus' own."""
     lines = (PACKAGING / "alerts.yml").read_text().splitlines()
-    return set(re.findall(r"\b(?:gozdrit|node)_\w+", "\n".join(one for one in lines if not one.lstrip().startswith("#"))))
+    return set(re.findall(r"\bgozdrit_\w+", "\n".join(one for one in lines if not one.lstrip().startswith("#"))))
 
 
 def metrics(checks, stage):
-    """Each metric of an alert is on the page of a relay that media passed, or on that of node_exporter."""
-    at, own = ("--metrics", "127.0.0.1:0"), {one for one in named() if one.startswith("gozdrit_")}
+    """Each metric of an alert is on the page of a relay that media passed."""
+    at = "--metrics", "127.0.0.1:0"
     sender, receiver = stage.pair(End(stage), "--loss", 100, send=at, receive=(*at, "--latency", 1000))
     App(stage, sender.at, number=0).stream(plain(300), 500)
 
     def lacks():
-        return own - {**told(page(sender)[2]), **told(page(receiver)[2])}.keys()
+        return named() - {**told(page(sender)[2]), **told(page(receiver)[2])}.keys()
 
     soon(lambda: not lacks())
-    checks.count(len(own) > 3 and not lacks(), f"no relay has {lacks()}")
-    if not skips("the metrics of machines", "prometheus-node-exporter"):
-        port, found = free_port(), []
-        with beside("prometheus-node-exporter", f"--web.listen-address=127.0.0.1:{port}"):
-            def has_all():
-                with contextlib.suppress(OSError):
-                    found.append(set(re.findall(r"^# TYPE (\w+)", get("127.0.0.1", port, "/metrics"), re.M)))
-                return found
-            soon(has_all)
-        checks.count(found and named() - own <= found[0], f"node_exporter does not have all of {named() - own}")
+    checks.count(len(named()) > 3 and not lacks(), f"no relay has {lacks()}")
 
 
 def promtool(checks, stage):
@@ -207,7 +198,7 @@ def promtool(checks, stage):
 
 
 def prometheus(checks, stage):
-    """A Prometheus with these files scrapes two relays in the place of the targets, asks for a machine once, and knows the alerts."""
+    """A Prometheus with these files scrapes two relays in the place of the targets, and knows the alerts."""
     if skips("Prometheus", "prometheus"):
         return
     sender, receiver = stage.pair(End(stage), send=("--metrics", "127.0.0.1:0"), receive=("--metrics", "127.0.0.1:0"))
@@ -231,7 +222,6 @@ def prometheus(checks, stage):
     with beside("prometheus", *words):
         soon(lambda: len(targets("gozdrit")) == 4 and all(one["health"] == "up" for one in targets("gozdrit")))
         checks.same(sorted((one["labels"]["stream"], one["health"]) for one in targets("gozdrit")), [(one, "up") for one in ("one", "one", "two", "two")], "the relays")
-        checks.same([one["scrapeUrl"] for one in targets("node")], ["http://127.0.0.1:9100/metrics"], "the machines")
         soon(lambda: len(rules()) == 4 and all(one["health"] == "ok" for one in rules()))
         checks.same([(one["name"], one["health"]) for one in rules()], [(f"Gozdrit{one}", "ok") for one in ("Loss", "Latency", "Drops", "NoMedia")], "the alerts")
 

@@ -1,0 +1,210 @@
+#!/usr/bin/env python3
+"""What a relay has of who runs it as a service, and tells them: a socket that is handed over, that it is ready, names that are known later,
+how far what goes to a group goes, and how it stands.
+
+    service.py PROGRAM"""
+import contextlib
+import json
+import os
+import pathlib
+import shutil
+import signal
+import socket
+import struct
+import subprocess
+import threading
+import time
+
+from base import STANDS, ends, on_time, part, soon
+from control import asks, page, told
+from net import App, End, queued, udp
+from rtp import plain
+from sockets import LIMITS, MANY, apart
+
+DNS = 53
+IP_RECVTTL = 12  # of Linux; Python has no name for it
+
+
+def handed(checks, stage):
+    """What came to a socket before its relay was there is played by it, and by the next one that has it; what is none is refused."""
+    player, listening, many = End(stage), stage.keep(udp()), 40
+    app = App(stage, listening.getsockname(), number=0)
+    for first in range(0, 2 * many, many):
+        for one in plain(many, first=first):
+            app.send(one)
+        receiver = stage.receive(player.at, "--packets", many, listen="fd:3", handed=listening)
+        ends(checks, "a socket that is handed over", receiver)
+        checks.same((receiver.at, receiver.counts().get("played")), (listening.getsockname(), many), "where it listens, and what it played")
+    checks.same([one.content for one in player.packets()], plain(2 * many), "what came of both")
+    sender = stage.send(player.at, "--packets", 1, listen="fd:3", handed=stage.keep(udp("::1")))
+    App(stage, sender.at, number=0).send(plain(1)[0])
+    ends(checks, "a socket of IPv6", sender)
+    for word in ("fd:3", "fd:0", "fd:2", "fd:", "fd:x", "fd:-1", "fd:1048576"):
+        words = [stage.program, "receive", "--listen", word, "--to", "127.0.0.1:9", "--seconds", "5"]
+        one = subprocess.run(words, capture_output=True, text=True, timeout=60)
+        refusal = f"can't take --listen {word}: no socket of datagrams was handed over there\n"
+        checks.same((one.returncode, one.stdout, one.stderr), (3, "", refusal), word)
+
+
+def ready(checks, stage):
+    """Who started a relay is told once that its sockets are open, at a file or at a name without one. Where nobody hears it, it runs as well."""
+    for name in (str(stage.room / "ready"), "@" + stage.room.name + "/ready"):
+        hears = stage.keep(socket.socket(socket.AF_UNIX, socket.SOCK_DGRAM))
+        hears.bind(name.replace("@", "\0", 1))
+        hears.settimeout(20)
+        relay = stage.receive(("127.0.0.1", 9), "--seconds", 1, env={**os.environ, "NOTIFY_SOCKET": name})
+        checks.same(hears.recv(100), b"READY=1", f"ready at {name}")
+        ends(checks, f"ready at {name}", relay)
+        hears.setblocking(False)
+        with contextlib.suppress(BlockingIOError):
+            checks.count(False, f"ready at {name} is told twice: {hears.recv(100)}")
+    for name in ("", "ready", "/nowhere/ready", "/" + 200 * "x", str(stage.room)):
+        relay = stage.send(("127.0.0.1", 9), "--seconds", 1, env={**os.environ, "NOTIFY_SOCKET": name})
+        ends(checks, f"nobody hears that it is ready at {name!r}", relay)
+
+
+def groups(checks, stage):
+    """What goes to a group of IPv4 goes over as many networks as are said, one else. An address that is no group is refused."""
+    def play():
+        subprocess.run(["ip", "route", "add", "239.0.0.0/8", "dev", "lo"], check=True)
+        for words, wanted in (((), 1), (("--ttl", 7), 7), (("--ttl", 255), 255)):
+            joined = stage.keep(udp("239.1.2.3"))
+            joined.setsockopt(socket.IPPROTO_IP, socket.IP_ADD_MEMBERSHIP, socket.inet_aton("239.1.2.3") + socket.inet_aton("127.0.0.1"))
+            joined.setsockopt(socket.IPPROTO_IP, IP_RECVTTL, 1)
+            joined.settimeout(20)
+            receiver = stage.receive(joined.getsockname(), "--packets", 1, *words)
+            App(stage, receiver.at).send(plain(1)[0])
+            known = joined.recvmsg(2000, 100)[1]
+            checks.same([struct.unpack("i", one[2])[0] for one in known], [wanted], f"to a group with {words}")
+            ends(checks, f"to a group with {words}", receiver)
+        # Another process is a member of the group, and the relay hears what comes for it.
+        unit = pathlib.Path(__file__).parents[2].joinpath("packaging/gozdrit-join@.service").read_text()
+        member = next(line for line in unit.splitlines() if line.startswith("ExecStart=")).removeprefix("ExecStart=").replace("%i", "239.1.2.4:lo")
+        if not shutil.which("socat"):
+            print("skipped: there is no socat")
+            return
+        run = subprocess.Popen(member.split())
+        soon(lambda: "040201EF" in pathlib.Path("/proc/thread-self/net/igmp").read_text())
+        far = End(stage)
+        sender = stage.send(far.at, "--packets", 1, listen="0.0.0.0:0")
+        app = App(stage, sender.at)
+        app.to = "239.1.2.4", sender.at[1]
+        app.send(plain(1)[0])
+        ends(checks, "from a group", sender)
+        checks.same(sender.counts().get("sent"), 1, "from a group: sent")
+        run.kill()
+        run.wait()
+    if os.geteuid() or not shutil.which("ip") or not apart(play):
+        print("skipped: no network namespace can be had")
+    for to in ("127.0.0.1:9", "[ff15::1]:9"):
+        words = [stage.program, "receive", "--listen", "127.0.0.1:0", "--to", to, "--seconds", "5", "--ttl", "4"]
+        one = subprocess.run(words, capture_output=True, text=True, timeout=60)
+        checks.same((one.returncode, one.stderr), (2, f"fault value: --ttl: --to {to} is no group of IPv4\n"), f"--ttl and {to}")
+
+
+class NameServer:
+    """A name server that knows 127.0.0.1 for each name that begins with `known`, and no other one."""
+
+    def __init__(self, at):
+        self.socket = udp(at, DNS)
+        threading.Thread(target=self.serve, daemon=True).start()
+
+    def serve(self):
+        with contextlib.suppress(OSError):
+            while True:
+                asked, client = self.socket.recvfrom(512)
+                self.socket.sendto(self.answer(asked), client)
+
+    def answer(self, asked):
+        end = 12
+        while asked[end]:
+            end += 1 + asked[end]
+        is_known, kind = asked[13:18] == b"known", struct.unpack(">H", asked[end + 1:end + 3])[0]
+        found = b"\xc0\x0c" + struct.pack(">HHIH", 1, 1, 60, 4) + b"\x7f\0\0\1" if is_known and kind == 1 else b""
+        return asked[:2] + struct.pack(">HHHHH", 0x8180 if is_known else 0x8183, 1, bool(found), 0, 0) + asked[12:end + 5] + found
+
+    def close(self):
+        self.socket.close()
+
+
+@on_time(0.3)
+def later(checks, stage):
+    """Where no name server answers, names are asked for again behind pauses of one second, two and so on; one that there is not is refused."""
+    server = next((line.split()[1] for line in pathlib.Path("/etc/resolv.conf").read_text().splitlines() if line.startswith("nameserver ")), "127.0.0.1")
+    pauses = "can't find known.example for now: tried again in {} s"
+
+    def play():
+        words = "--listen", "127.0.0.1:0", "--seconds", "3"
+        began, said = time.monotonic(), stage.room / "later"
+        with open(said, "w") as to:
+            run = subprocess.Popen([stage.program, "receive", *words, "--to", "known.example:9", "--peer", "known.example"], stderr=to)
+        soon(lambda: pauses.format(2) in said.read_text())
+        subprocess.run(["ip", "addr", "add", server, "dev", "lo"], check=False, capture_output=True)
+        stage.keep(NameServer(server))
+        soon(lambda: "listening at" in said.read_text())
+        checks.count(3 <= time.monotonic() - began < 5, f"known after {time.monotonic() - began:.1f} s")
+        checks.same(said.read_text().splitlines()[:2], [pauses.format(1), pauses.format(2)], "names that are known later")
+        checks.count(" sending to 127.0.0.1:9 from " in said.read_text(), f"what is known then: {said.read_text()}")
+        checks.same(run.wait(60), 0, "its end")
+        for option in "--to", "--peer", "--listen", "--from", "--metrics":
+            given = {"--listen": "127.0.0.1:0", "--to": "127.0.0.1:9", option: "none.example:9"}
+            one = subprocess.run([stage.program, "receive", "--seconds", "1", *sum(given.items(), ())], capture_output=True, text=True, timeout=60)
+            checks.same((one.returncode, one.stderr), (3, "can't find none.example:9\n"), f"{option} that there is not")
+    if os.geteuid() or not shutil.which("ip") or not apart(play):
+        print("skipped: no network namespace can be had")
+
+
+def stands(checks, stage):
+    """How a relay stands is told beside its counts: since when it runs and has a session, its latency, its sockets' room, and what found none."""
+    size = 65536
+    if LIMITS[0] < size:
+        print(f"skipped: net.core.rmem_max is {LIMITS[0]}")
+        return
+    for side, host, words in (("send", "127.0.0.1", ()), ("receive", "127.0.0.1", ("--latency", 345)), ("receive", "::1", ())):
+        path, far, name = stage.room / "stands", End(stage, host), f"{side} at {host}"
+        where = f"[{host}]:0" if ":" in host else f"{host}:0"
+        began = time.monotonic()
+        relay = getattr(stage, side)(far.at, *words, "--socket-buffer", "64KiB", "--control", path, "--metrics", "127.0.0.1:0", listen=where, log=False)
+        beside = stage.keep(udp("127.0.0.2", relay.at[1])) if host != "::1" else None
+        first = json.loads(asks(stage, path, b"stats\n"))
+        checks.same((first["session"], first["dropped"], first["buffer_in"], first["buffer_out"]), (None, 0, size, size), f"{name} at first")
+        checks.same(first.get("latency"), {"send": None, "receive": 345 if words else 200}[side], f"{name}: latency")
+        app = App(stage, relay.at)
+        app.send(plain(1)[0])
+        far.waits_for(1)
+        session = time.monotonic()
+        relay.freeze()
+        for one in plain(MANY, 1000, first=1):
+            app.send(one)
+            if beside:
+                App(stage, beside.getsockname()).send(one)
+        dropped = queued({relay.at[1]})[1] - (drops_of(beside) if beside else 0)
+        relay.run.send_signal(signal.SIGCONT)
+        time.sleep(1)
+        now = json.loads(asks(stage, path, b"stats\n"))
+        checks.count(dropped > MANY / 2, f"{name}: {dropped} were dropped")
+        checks.same(now["dropped"], dropped, f"{name}: what found no room")
+        ran, had = 1000 * (time.monotonic() - began), 1000 * (time.monotonic() - session)
+        checks.count(1000 <= now["running"] <= ran and 1000 <= now["session"] <= had + 200 and now["session"] <= now["running"], f"{name}: {now}, {ran}, {had}")
+        shown = {key.removeprefix(f"gozdrit_{side}_"): one for key, one in told(page(relay)[2]).items()}
+        kinds = {"running_seconds": "gauge", "session_seconds": "gauge", "latency_seconds": "gauge", "buffer_in_bytes": "gauge", "buffer_out_bytes": "gauge",
+                 "dropped_total": "counter"}
+        for one, kind in kinds.items():
+            base, _, unit = one.rpartition("_")
+            if base in STANDS[side]:
+                scale = 1000 if unit == "seconds" else 1
+                is_right = abs(scale * shown[one][1] - now[base]) < (500 if base in ("running", "session") else 0.5)
+                checks.count(shown[one][0] == kind and is_right, f"{name}: {one} is {shown[one]} beside {now[base]}")
+        asks(stage, path, b"stop\n")
+        ends(checks, name, relay)
+
+
+def drops_of(one):
+    """What the system dropped of what came to a socket of IPv4, which it finds by its inode."""
+    inode = str(os.fstat(one.fileno()).st_ino)
+    lines = [line.split() for line in pathlib.Path("/proc/net/udp").read_text().splitlines()[1:]]
+    return next(int(words[12]) for words in lines if words[9] == inode)
+
+
+if __name__ == "__main__":
+    part(handed, ready, groups, later, stands)
