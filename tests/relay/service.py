@@ -36,6 +36,7 @@ def handed(checks, stage):
         ends(checks, "a socket that is handed over", receiver)
         checks.same((receiver.at, receiver.counts().get("played")), (listening.getsockname(), many), "where it listens, and what it played")
     checks.same([one.content for one in player.packets()], plain(2 * many), "what came of both")
+    checks.same([(one.ssrc, one.number) for one in player.packets()], [(app.ssrc, at) for at in range(2 * many)], "under which SSRC and numbers")
     sender = stage.send(player.at, "--packets", 1, listen="fd:3", handed=stage.keep(udp("::1")))
     App(stage, sender.at, number=0).send(plain(1)[0])
     ends(checks, "a socket of IPv6", sender)

@@ -1,5 +1,5 @@
 /* Who may take a session that another sender has: the rule of the relay, in C. There it is proved: crates/relays/src/claims.rt and
- * claim_tables.rt, and docs/RELAY.md has it in words.
+ * claim_tables.rt, and docs/RULES.md has it in words.
  *
  * A session falls to who sends a stream, of ten packets in sequence, while the session's own sender never sent one, or sends less than some two
  * packets a second. However fast a stranger sends, and as however many, he takes no session whose sender sends a stream. Times are milliseconds. */
