@@ -181,7 +181,7 @@ def stands(checks, stage):
                 App(stage, beside.getsockname()).send(one)
         dropped = queued({relay.at[1]})[1] - (drops_of(beside) if beside else 0)
         relay.run.send_signal(signal.SIGCONT)
-        time.sleep(1)
+        time.sleep(1.3)  # what was dropped is looked for once a second
         now = json.loads(asks(stage, path, b"stats\n"))
         checks.count(dropped > MANY / 2, f"{name}: {dropped} were dropped")
         checks.same(now["dropped"], dropped, f"{name}: what found no room")

@@ -31,7 +31,7 @@ pub struct State<'a> {
     pub counts: &'a Counts,
     pub is_sender: bool,
     pub has_log: bool,
-    pub standing: Standing<'a>,
+    pub standing: Standing,
 }
 
 /// The answer of a relay to what was asked for by these octets.

@@ -95,6 +95,11 @@ impl Clients {
         if self.is_woken { Some(0) } else { self.next }
     }
 
+    /// Whether there is something to do at the moment `now`.
+    pub fn are_waiting(&self, now: u64) -> bool {
+        self.is_woken || is_over(self.next, now)
+    }
+
     /// The system tells that a socket has something, or takes something.
     pub fn wake(&mut self, token: Token) {
         self.is_woken = true;
@@ -113,7 +118,7 @@ impl Clients {
             ends: false,
             reopens: false,
         };
-        if !self.is_woken && !is_over(self.next, now) {
+        if !self.are_waiting(now) {
             return wishes;
         }
         self.let_in(registry, now);

@@ -10,13 +10,28 @@ const IPV4: &str = "/proc/self/net/udp";
 
 const IPV6: &str = "/proc/self/net/udp6";
 
-/// How many datagrams the system dropped that came to a socket, where it tells. It looks through all sockets of the machine for that, so
-/// only who asks is told.
-pub fn dropped(rt: &HostRuntime, socket: &UdpSocket) -> Option<u64> {
-    let at = socket.local_addr().ok()?;
-    let name = name_of(rt.alloc(), at).ok()?;
-    let path = if at.is_ipv4() { IPV4 } else { IPV6 };
-    let table = fs::read_to_string(rt, path).ok()?;
+/// How many datagrams the system dropped that came to one of two sockets, where it tells of both. It looks through all sockets of the machine
+/// for that, which takes some milliseconds where there are a thousand.
+pub fn dropped(rt: &HostRuntime, one: &UdpSocket, other: &UdpSocket) -> Option<u64> {
+    let (one, other) = (one.local_addr().ok()?, other.local_addr().ok()?);
+    let table = table_of(rt, one)?;
+    let count = dropped_at(rt.alloc(), &table, one)?;
+    let more = if one.is_ipv4() == other.is_ipv4() {
+        dropped_at(rt.alloc(), &table, other)?
+    } else {
+        dropped_at(rt.alloc(), &table_of(rt, other)?, other)?
+    };
+    Some(count.saturating_add(more))
+}
+
+/// The table that has a socket at an address.
+fn table_of(rt: &HostRuntime, at: SocketAddr) -> Option<String> {
+    fs::read_to_string(rt, if at.is_ipv4() { IPV4 } else { IPV6 }).ok()
+}
+
+/// What a table says of the socket at an address.
+fn dropped_at(alloc: Global, table: &str, at: SocketAddr) -> Option<u64> {
+    let name = name_of(alloc, at).ok()?;
     for line in table.lines() {
         let mut words = line.split_ascii_whitespace();
         let _number = words.next();

@@ -5,6 +5,7 @@ use crate::answers::State;
 use crate::clients::{Clients, Doors};
 use crate::counts::Counts;
 use crate::draws::Draws;
+use crate::dropped::dropped;
 use crate::journal::Journal;
 use crate::load::{Load, Store};
 use crate::seats::{is_over, sooner};
@@ -60,6 +61,9 @@ pub struct Host<'a> {
     near: UdpSocket,
     far: UdpSocket,
     kept: Option<Kept>,
+    /// What found no room at either socket, where the system told, and the moment from which on it is asked again.
+    dropped: Option<u64>,
+    asks_from: u64,
     start: Instant,
     turns: Turns,
     /// Room for what comes. It is blanked once.
@@ -154,6 +158,8 @@ impl<'a> Host<'a> {
             near,
             far,
             kept,
+            dropped: None,
+            asks_from: 0,
             start,
             turns: Turns::BOTH,
             octets: [0; ROOM],
@@ -286,18 +292,20 @@ impl<'a> Host<'a> {
         let Some(clients) = &mut self.clients else {
             return Ok(());
         };
+        if now >= self.asks_from && clients.are_waiting(now) {
+            self.dropped = dropped(self.rt, &self.near, &self.far);
+            self.asks_from = now.saturating_add(SECOND);
+        }
         let state = State {
             counts: &self.counts,
             is_sender: self.is_sender,
             has_log: self.journal.is_some(),
             standing: Standing {
-                rt: self.rt,
                 now,
                 began: self.began,
                 latency: self.latency,
                 kept: self.kept,
-                near: &self.near,
-                far: &self.far,
+                dropped: self.dropped,
             },
         };
         let wishes = clients.serve(self.poll.registry(), now, state);

@@ -1,26 +1,22 @@
 //! How a run stands, beside what it counted.
-use crate::dropped::dropped;
 use crate::figures::{Amount, Figure};
 use crate::sockets::Kept;
-use mio::net::UdpSocket;
 use std::alloc::AllocError;
 
 /// What is told of a run beside its counts, to who asks.
 #[derive(Clone, Copy)]
-pub struct Standing<'a> {
-    pub rt: &'a HostRuntime,
+pub struct Standing {
     /// The moment, in milliseconds since the start, and that at which the session began, where there is one.
     pub now: u64,
     pub began: Option<u64>,
     /// How long a missing packet is waited for, behind the network, in milliseconds.
     pub latency: Option<u64>,
-    /// How many octets the system keeps for a socket, where it tells.
+    /// How many octets the system keeps for a socket, and how many datagrams found no room there, where it tells.
     pub kept: Option<Kept>,
-    pub near: &'a UdpSocket,
-    pub far: &'a UdpSocket,
+    pub dropped: Option<u64>,
 }
 
-impl Standing<'_> {
+impl Standing {
     /// Pushes its figures. What the system does not tell is left out.
     pub fn push<'x>(&self, figures: &mut Vec<Figure<'x>>) -> Result<(), AllocError> {
         figures.push(time_of("running", "Since the relay began.", Some(self.now)))?;
@@ -36,7 +32,7 @@ impl Standing<'_> {
             let what = "What the system keeps of what leaves a socket.";
             figures.push(size_of("buffer_out", what, kept.leave))?;
         }
-        if let Some(count) = self.dropped() {
+        if let Some(count) = self.dropped {
             figures.push(Figure {
                 name: "dropped",
                 what: "Datagrams that found no room as they came.",
@@ -44,13 +40,6 @@ impl Standing<'_> {
             })?;
         }
         Ok(())
-    }
-
-    /// What both sockets dropped, where the system tells of both.
-    fn dropped(&self) -> Option<u64> {
-        let near = dropped(self.rt, self.near)?;
-        let far = dropped(self.rt, self.far)?;
-        Some(near.saturating_add(far))
     }
 }
 
