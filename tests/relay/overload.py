@@ -110,10 +110,12 @@ def seldom(checks, stage):
     far, name = End(stage), "in vain"
     sender = stage.send(far.at, "--seconds", 12)
     app = App(stage, sender.at, ssrc=MEDIA, number=0)
+    began = time.monotonic()
     for at in range(110):
         app.send(plain(1, first=at)[0])
         far.send(nack(OTHER, [0]), ("127.0.0.1", sender.source[1]))
-        time.sleep(0.1)
+        # What each sleep takes too long does not add up: the relay ends behind twelve seconds.
+        time.sleep(max(0, began + 0.1 * (at + 1) - time.monotonic()))
     ends(checks, name, sender)
     lines = told(sender)
     checks.same(len(lines), 2, f"{name}: how many lines in twelve seconds")
