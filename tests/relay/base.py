@@ -23,9 +23,10 @@ COUNTS = {
     "receive": "taken repaired played gaps overrun abandoned skipped asked refused padding unasked restarts moved stray lost rtt full unreachable oversize rejected failed".split(),
 }
 STANDS = {  # what is told beside the counts to who asks
-    "send": "running session buffer_in buffer_out dropped".split(),
-    "receive": "running session latency buffer_in buffer_out dropped".split(),
+    "send": "running session buffer_in buffer_out".split(),
+    "receive": "running session latency buffer_in buffer_out".split(),
 }
+DROPPED = "dropped"  # that too, but for the times at which the system's table passes a socket over, since others come and go
 
 
 class Checks:

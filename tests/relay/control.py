@@ -15,7 +15,7 @@ import subprocess
 import sys
 import time
 
-from base import COUNTS, STANDS, counts_of, ends, on_time, part, soon
+from base import COUNTS, DROPPED, STANDS, counts_of, ends, on_time, part, soon
 from net import App, End
 from rtp import plain
 from sockets import apart
@@ -104,7 +104,7 @@ def alone(stage, relay, path):
 def stats(checks, stage, relay, path):
     """The counts that a relay answers: those of its line, in their number and by their names. How it stands is told beside them."""
     told = json.loads(asks(stage, path, b"stats\n"))
-    checks.same(sorted(told), sorted(COUNTS[relay.side] + STANDS[relay.side]), f"{relay.side}: the names of the counts")
+    checks.same(sorted(told.keys() - {DROPPED}), sorted(COUNTS[relay.side] + STANDS[relay.side]), f"{relay.side}: the names of the counts")
     checks.count(all(isinstance(one, int) or (name in ("rtt", "session") and one is None) for name, one in told.items()), f"{relay.side}: {told}")
     return {name: told[name] for name in COUNTS[relay.side]}
 
@@ -178,7 +178,7 @@ def client(checks, stage):
     path = stage.room / "one.sock"
     relay = stage.send(End(stage).at, "--control", path)
     status, out, err = ctl(stage, path, "stats")
-    checks.same((status, err, sorted(json.loads(out))), (0, "", sorted(COUNTS["send"] + STANDS["send"])), "ctl stats")
+    checks.same((status, err, sorted(json.loads(out).keys() - {DROPPED})), (0, "", sorted(COUNTS["send"] + STANDS["send"])), "ctl stats")
     checks.same(ctl(stage, path, "restart"), (1, NEITHER.format("restart"), ""), "ctl restart")
     checks.same(ctl(stage, stage.room / "none.sock", "stats"), (1, "", f"no answer at {stage.room / 'none.sock'}: there is no such file\n"), "no relay")
     for words in ([], [path], [path, "stats", "more"]):
@@ -272,7 +272,7 @@ def told(text):
 
 def counted(text):
     """The metrics of a text that are counts of a line."""
-    return {name: one for name, one in told(text).items() if name.split("_", 2)[2].rpartition("_")[0] not in STANDS["receive"]}
+    return {name: one for name, one in told(text).items() if name.split("_", 2)[2].rpartition("_")[0] not in [*STANDS["receive"], DROPPED]}
 
 
 def metrics(checks, stage):
