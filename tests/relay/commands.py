@@ -163,8 +163,9 @@ def names(checks, stage):
     """Each address of a name is tried: of the family that is sent from, and where one is taken the next one."""
     hosts, script, program = stage.room / "hosts", stage.room / "named", stage.program
     hosts.write_text("127.0.0.1 both.example\n::1 both.example\n")
-    script.write_text(f"#!/bin/sh\nexec unshare -m sh -c 'mount --bind {hosts} /etc/hosts && exec \"$0\" \"$@\"' {program} \"$@\"\n")
-    script.chmod(0o755)
+    # Written by another process: a program that is started meanwhile by another scene would hold it open for writing, and it could not be run.
+    text = f"#!/bin/sh\nexec unshare -m sh -c 'mount --bind {hosts} /etc/hosts && exec \"$0\" \"$@\"' {program} \"$@\"\n"
+    subprocess.run(["install", "-m", "755", "/dev/stdin", script], input=text, text=True, check=True)
     stage.program = str(script)
     if runs(stage, "--version")[0]:
         print("skipped: no name can be given two addresses")

@@ -17,7 +17,7 @@ import time
 
 from base import DROPPED, STANDS, ends, on_time, part, soon
 from control import asks, page, told
-from net import App, End, queued, udp
+from net import App, End, udp
 from rtp import plain
 from sockets import LIMITS, MANY, apart
 
@@ -192,8 +192,7 @@ def stands(checks, stage):
             app.send(one)
             if beside:
                 App(stage, beside.getsockname()).send(one)
-        # The table that these read may pass a socket over, too.
-        dropped = max(queued({relay.at[1]})[1] for _ in range(5)) - max(drops_of(beside) for _ in range(5))
+        dropped = sum(count for inode, count in drops(relay.at[1]).items() if inode != inode_of(beside))
         relay.run.send_signal(signal.SIGCONT)
         time.sleep(1.3)  # what was dropped is looked for once a second
         now = asked(stage, path)
@@ -214,11 +213,19 @@ def stands(checks, stage):
         ends(checks, name, relay)
 
 
-def drops_of(one):
-    """What the system dropped of what came to a socket of IPv4, which it finds by its inode; nothing where there is none."""
-    inode = str(os.fstat(one.fileno()).st_ino) if one else None
-    lines = [line.split() for line in pathlib.Path("/proc/net/udp").read_text().splitlines()[1:]]
-    return next((int(words[12]) for words in lines if words[9] == inode), 0)
+def inode_of(one):
+    return str(os.fstat(one.fileno()).st_ino) if one else None
+
+
+def drops(port):
+    """What the system dropped at each socket of a port, by its inode: of some reads, since one may pass a socket over, or have it twice."""
+    found = {}
+    for table in ("udp", "udp6") * 5:
+        for line in pathlib.Path("/proc/net", table).read_text().splitlines()[1:]:
+            words = line.split()
+            if int(words[1].rpartition(":")[2], 16) == port:
+                found[words[9]] = int(words[12])
+    return found
 
 
 if __name__ == "__main__":
