@@ -131,7 +131,9 @@ class NameServer:
 @on_time(0.3)
 def later(checks, stage):
     """Where no name server answers, names are asked for again behind pauses of one second, two and so on; one that there is not is refused."""
-    server = next((line.split()[1] for line in pathlib.Path("/etc/resolv.conf").read_text().splitlines() if line.startswith("nameserver ")), "127.0.0.1")
+    said = pathlib.Path("/etc/resolv.conf")
+    lines = said.read_text().splitlines() if said.exists() else []
+    server = next((line.split()[1] for line in lines if line.startswith("nameserver ")), "127.0.0.1")
     pauses = "can't find known.example for now: tried again in {} s"
 
     def play():
