@@ -7,7 +7,7 @@ use Rattle.gozdrit_relay.specs.Figures.{figure_words}
 use Rattle.gozdrit_relay.specs.Metrics.{metrics_text}
 use Rattle.gozdrit_relay.specs.Stats.{stats_line}
 use Rattle.gozdrit_relay.specs.declared.asking.Asked.{Asked}
-use Rattle.gozdrit_relay.specs.declared.asking.Asked.TheVariants.{Stats, Stop, Reopen, NoLog, Unknown, Metrics, NoPage, NoMethod, Malformed, LongLine, LongHead}
+use Rattle.gozdrit_relay.specs.declared.asking.Asked.TheVariants.{Stats, Stop, Reopen, NoLog, To, NoAddress, Peer, NoPeers, Unknown, Metrics, NoPage, NoMethod, Malformed, LongLine, LongHead}
 use Rattle.gozdrit_relay.specs.declared.figures.Figure.{Figure}
 
 -- an octet that is a character of ASCII as it is, and a question mark for another one
@@ -22,6 +22,10 @@ shown_line (c ∷ more) = if c == 10 then [] else visible c ∷ shown_line more
 -- the beginning of the first line
 abbrev pub shown : List ℕ → List ℕ
 shown octets = shown_line (take 64 octets)
+
+-- the line of a request that is done
+abbrev pub word_line : (word : List ℕ) → List ℕ
+word_line word = line_of (word ∷ [])
 
 -- the line of a request that is refused
 abbrev pub fault_line : (octets why : List ℕ) → List ℕ
@@ -43,9 +47,13 @@ abbrev pub answer_text : Asked → (octets prefix : List ℕ) → List Figure �
 answer_text Stats octets prefix figures = stats_line figures
 answer_text Stop octets prefix figures = line_of (flat_map figure_words figures)
 answer_text Metrics octets prefix figures = page_of (codes "200 OK") (codes "\r\n\r") (metrics_text prefix figures)
-answer_text Reopen octets prefix figures = line_of (codes "reopen" ∷ [])
+answer_text Reopen octets prefix figures = word_line (codes "reopen")
+answer_text To octets prefix figures = word_line (codes "to")
+answer_text Peer octets prefix figures = word_line (codes "peer")
 answer_text NoLog octets prefix figures = fault_line octets (codes "has no --log to open")
-answer_text Unknown octets prefix figures = fault_line octets (codes "is none of stats, reopen and stop")
+answer_text NoAddress octets prefix figures = fault_line octets (codes "says no address that can be sent to")
+answer_text NoPeers octets prefix figures = fault_line octets (codes "lists no peers by their addresses")
+answer_text Unknown octets prefix figures = fault_line octets (codes "is none of stats, to, peer, reopen and stop")
 answer_text LongLine octets prefix figures = fault_line octets (codes "has more than 8192 octets")
 answer_text LongHead octets prefix figures = page_of (codes "431 Request Header Fields Too Large") (codes "\r\n\r") (codes "too long\n")
 answer_text Malformed octets prefix figures = page_of (codes "400 Bad Request") (codes "\r\n\r") (codes "this is no HTTP\n")

@@ -1,7 +1,7 @@
 -- What a client asks for. Text is a list of octets, and 10 is the line feed.
-use Rattle.std.specs.Prelude.{ℕ, ◌==◌, List, [], ◌∷◌, length, Bool, false, true, nat_le, if◌then◌else◌, Option, Some, None, option_map, codes, bytes_eq}
+use Rattle.std.specs.Prelude.{ℕ, ◌==◌, List, [], ◌∷◌, length, take, Bool, false, true, nat_le, if◌then◌else◌, Option, Some, None, option_map, codes, bytes_eq}
 use Rattle.gozdrit_relay.specs.declared.asking.Asked.{Asked}
-use Rattle.gozdrit_relay.specs.declared.asking.Asked.TheVariants.{Stats, Stop, Reopen, NoLog, Unknown, Metrics, NoPage, NoMethod, Malformed, LongLine, LongHead}
+use Rattle.gozdrit_relay.specs.declared.asking.Asked.TheVariants.{Stats, Stop, Reopen, NoLog, To, NoAddress, Peer, NoPeers, Unknown, Metrics, NoPage, NoMethod, Malformed, LongLine, LongHead}
 use Rattle.gozdrit_relay.specs.declared.asking.Come.{Come}
 use Rattle.gozdrit_relay.specs.declared.asking.Come.TheVariants.{Asks, More, Gone}
 
@@ -10,28 +10,33 @@ abbrev pub first_line : List ℕ → Option (List ℕ)
 first_line [] = None
 first_line (c ∷ more) = if c == 10 then Some [] else option_map (λ line. c ∷ line) (first_line more)
 
--- a line asks by its whole text
+-- a line asks by its whole text, or by its first word where more has to stand behind that
 abbrev pub asked_of_line : List ℕ → Asked
 asked_of_line line =
     if bytes_eq line (codes "stats") then Stats
     else if bytes_eq line (codes "stop") then Stop
     else if bytes_eq line (codes "reopen") then Reopen
+    else if bytes_eq (take 3 line) (codes "to ") then To
+    else if bytes_eq (take 5 line) (codes "peer ") then Peer
     else Unknown
 
--- a relay without a log has none to open anew
-abbrev pub asked_where : (has_log : Bool) → Asked → Asked
-asked_where true asked = asked
-asked_where false Stats = Stats
-asked_where false Stop = Stop
-asked_where false Reopen = NoLog
-asked_where false NoLog = NoLog
-asked_where false Unknown = Unknown
-asked_where false Metrics = Metrics
-asked_where false NoPage = NoPage
-asked_where false NoMethod = NoMethod
-asked_where false Malformed = Malformed
-asked_where false LongLine = LongLine
-asked_where false LongHead = LongHead
+-- a relay without a log has none to open anew, and a change that is asked for has to be said so that it can be made
+abbrev pub asked_where : (has_log has_change : Bool) → Asked → Asked
+asked_where has_log has_change Stats = Stats
+asked_where has_log has_change Stop = Stop
+asked_where has_log has_change Reopen = if has_log then Reopen else NoLog
+asked_where has_log has_change NoLog = NoLog
+asked_where has_log has_change To = if has_change then To else NoAddress
+asked_where has_log has_change NoAddress = NoAddress
+asked_where has_log has_change Peer = if has_change then Peer else NoPeers
+asked_where has_log has_change NoPeers = NoPeers
+asked_where has_log has_change Unknown = Unknown
+asked_where has_log has_change Metrics = Metrics
+asked_where has_log has_change NoPage = NoPage
+asked_where has_log has_change NoMethod = NoMethod
+asked_where has_log has_change Malformed = Malformed
+asked_where has_log has_change LongLine = LongLine
+asked_where has_log has_change LongHead = LongHead
 
 -- a page is asked for by its path, and then by the method
 abbrev pub asked_of_page : (method target : List ℕ) → Asked

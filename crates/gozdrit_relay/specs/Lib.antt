@@ -12,3 +12,6 @@ pub mod Figures
 pub mod Names
 pub mod Metrics
 pub mod Client
+pub mod Way
+pub mod TransportStream
+pub mod Waiting

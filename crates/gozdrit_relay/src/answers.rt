@@ -1,14 +1,15 @@
 //! What a client is answered.
-ghost use Rattle.std.specs.Prelude.{◌≡◌, ◌++◌, take, IfOk, OnOk};
-ghost use Rattle.gozdrit_relay.specs.Answers.{answer_text, fault_line, head_of, page_of, shown, visible};
+ghost use Rattle.std.specs.Prelude.{◌≡◌, ◌++◌, IfOk, OnOk};
+ghost use Rattle.gozdrit_relay.specs.Answers.{answer_text, fault_line, head_of, page_of, shown, visible, word_line};
 ghost use Rattle.gozdrit_relay.specs.Stats.{stats_line};
 
-use crate::asking::Asked;
+use crate::asking::{Asked, front};
 use crate::counts::Counts;
 use crate::figures::{Figure, push_figures};
 use crate::metrics::metrics_of;
 use crate::standing::Standing;
 use crate::stats::stats_text;
+use crate::way::Way;
 use lines::{Word, push_line};
 use std::alloc::Global;
 use stores::OutOfMemory;
@@ -32,6 +33,8 @@ pub struct State<'a> {
     pub is_sender: bool,
     pub has_log: bool,
     pub standing: Standing,
+    /// Where what leaves goes.
+    pub way: Way,
 }
 
 /// The answer of a relay to what was asked for by these octets.
@@ -76,13 +79,13 @@ fn answer(
             let body = metrics_of(alloc, prefix, figures)?;
             page(alloc, "200 OK", END, &body)
         }
-        Asked::Reopen => {
-            let mut line = Vec::new(alloc);
-            push_line(&mut line, &[Word::Text(b"reopen")])?;
-            Ok(line)
-        }
+        Asked::Reopen => word(alloc, "reopen"),
+        Asked::To => word(alloc, "to"),
+        Asked::Peer => word(alloc, "peer"),
         Asked::NoLog => fault(alloc, octets, "has no --log to open"),
-        Asked::Unknown => fault(alloc, octets, "is none of stats, reopen and stop"),
+        Asked::NoAddress => fault(alloc, octets, "says no address that can be sent to"),
+        Asked::NoPeers => fault(alloc, octets, "lists no peers by their addresses"),
+        Asked::Unknown => fault(alloc, octets, "is none of stats, to, peer, reopen and stop"),
         Asked::LongLine => fault(alloc, octets, "has more than 8192 octets"),
         Asked::LongHead => page(
             alloc,
@@ -110,6 +113,15 @@ fn stats_line(alloc: Global, figures: &[Figure<'_>]) -> Result<Vec<u8>, OutOfMem
     Ok(line)
 }
 
+/// The line of a request that is done: its first word.
+fn word(alloc: Global, word: &str) -> Result<Vec<u8>, OutOfMemory>
+    ensures { IfOk result (λ text. text.items ≡ word_line word.now) }
+{
+    let mut line = Vec::new(alloc);
+    push_line(&mut line, &[Word::Text(word.as_bytes())])?;
+    Ok(line)
+}
+
 /// The line of a request that is refused, with its beginning.
 fn fault(alloc: Global, octets: &[u8], why: &str) -> Result<Vec<u8>, OutOfMemory>
     ensures { IfOk result (λ text. text.items ≡ fault_line octets.now why.now) }
@@ -131,7 +143,7 @@ fn fault(alloc: Global, octets: &[u8], why: &str) -> Result<Vec<u8>, OutOfMemory
 fn shown(alloc: Global, octets: &[u8]) -> Result<Vec<u8>, OutOfMemory>
     ensures { IfOk result (λ text. text.items ≡ shown octets.now) }
 {
-    let front = front_of(octets);
+    let front = front(octets, NAMED);
     let mut text = Vec::new(alloc);
     for octet in front {
         if *octet == b'\n' {
@@ -140,17 +152,6 @@ fn shown(alloc: Global, octets: &[u8]) -> Result<Vec<u8>, OutOfMemory>
         text.push(visible(*octet))?;
     }
     Ok(text)
-}
-
-/// The first of some octets.
-fn front_of(octets: &[u8]) -> &[u8]
-    ensures { result.now ≡ take 64 octets.now }
-{
-    if octets.len() > NAMED {
-        &octets[..NAMED]
-    } else {
-        octets
-    }
 }
 
 /// An octet as it is shown.

@@ -1,6 +1,6 @@
 //! What a client asks for, by what came of it so far: a line at the control socket, or the head of an HTTP request for
 //! the metrics.
-ghost use Rattle.std.specs.Prelude.{◌≡◌, ◌≤◌, ◌<◌, ◌⊎◌, ℕ, List, length, false, true};
+ghost use Rattle.std.specs.Prelude.{◌≡◌, ◌≤◌, ◌<◌, ◌⊎◌, ℕ, List, length, take, false, true};
 ghost use Rattle.httparse.specs.Grammar.{HasNoRequest, NeverHasRequest, ReadsRequest, RequestHead};
 ghost use Rattle.httparse.specs.Spans.{RequestExceeds};
 ghost use Rattle.gozdrit_relay.specs.Asking.{asked_of_line, asked_of_page, asked_where, line_heard, unfinished};
@@ -26,6 +26,14 @@ pub enum Asked {
     Reopen,
     /// The same of a relay that has none.
     NoLog,
+    /// That what leaves goes to another address.
+    To,
+    /// The same without an address that it can go to.
+    NoAddress,
+    /// That others may send a stream.
+    Peer,
+    /// The same without a list of them.
+    NoPeers,
     /// A line that is none of these.
     Unknown,
     /// The metrics.
@@ -72,17 +80,34 @@ fn asked_of_line(line: &[u8]) -> Asked
         Asked::Stop
     } else if line == b"reopen".as_slice() {
         Asked::Reopen
+    } else if front(line, 3) == b"to ".as_slice() {
+        Asked::To
+    } else if front(line, 5) == b"peer ".as_slice() {
+        Asked::Peer
     } else {
         Asked::Unknown
     }
 }
 
-/// What is asked of a relay that has a log, or none.
-pub fn asked_where(has_log: bool, asked: Asked) -> Asked
-    ensures { result ≡ asked_where has_log asked }
+/// The first octets of a slice, so many at most.
+pub fn front(octets: &[u8], most: usize) -> &[u8]
+    ensures { result.now ≡ take most octets.now }
+{
+    if octets.len() > most {
+        &octets[..most]
+    } else {
+        octets
+    }
+}
+
+/// What is asked of a relay that has a log, or none, by a line that says a change which can be made, or none.
+pub fn asked_where(has_log: bool, has_change: bool, asked: Asked) -> Asked
+    ensures { result ≡ asked_where has_log has_change asked }
 {
     match asked {
         Asked::Reopen if !has_log => Asked::NoLog,
+        Asked::To if !has_change => Asked::NoAddress,
+        Asked::Peer if !has_change => Asked::NoPeers,
         _ => asked,
     }
 }

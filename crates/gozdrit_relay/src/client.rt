@@ -4,6 +4,7 @@ ghost use Rattle.gozdrit_relay.specs.Client.{stage_after};
 
 use crate::answers::{State, answer_of};
 use crate::asking::{Asked, Come, LONGEST, asked_where, hear_head, hear_line};
+use crate::changes::{Change, change_of};
 use mio::net::{TcpStream, UnixStream};
 use mio::{Interest, Registry, Token};
 use std::alloc::Global;
@@ -124,6 +125,8 @@ pub struct Client {
     stage: Stage,
     /// What it asked for, once that was whole.
     asked: Option<Asked>,
+    /// The change that it asked for, until it is taken.
+    change: Option<Change>,
     /// What came of its request.
     octets: Vec<u8>,
     answer: Vec<u8>,
@@ -145,6 +148,7 @@ impl Client {
             stream,
             stage: Stage::Asks,
             asked: None,
+            change: None,
             octets: Vec::new(alloc),
             answer: Vec::new(alloc),
             told: 0,
@@ -170,13 +174,19 @@ impl Client {
         self.asked
     }
 
+    /// Takes the change that it asked for, where it asked for one.
+    pub fn take_change(&mut self) -> Option<Change> {
+        self.change.take()
+    }
+
     /// Reads its request, and has the answer ready once that is whole.
     fn hear(&mut self, state: State<'_>) -> Stage {
         match self.read_on() {
             Come::More => Stage::Asks,
             Come::Gone => Stage::Over,
             Come::Asks(asked) => {
-                let asked = asked_where(state.has_log, asked);
+                self.change = change_of(self.alloc, asked, &self.octets, &state.way);
+                let asked = asked_where(state.has_log, self.change.is_some(), asked);
                 self.asked = Some(asked);
                 if let Ok(answer) = answer_of(self.alloc, asked, &self.octets, state) {
                     self.answer = answer;

@@ -1,13 +1,16 @@
 //! Who asks a relay how it does, or has it stop, while it runs.
 use crate::answers::State;
 use crate::asking::Asked;
+use crate::changes::Change;
 use crate::client::{Client, Stage, Stream};
 use crate::seats::{end_of, first_end, is_over, seat_for};
 use mio::net::{TcpListener, UnixListener};
 use mio::{Interest, Registry, Token};
+use relays::Peers;
 use std::alloc::{AllocError, Global};
 use std::io;
 use std::io::ErrorKind;
+use std::net::SocketAddr;
 
 /// How many clients there are at a time, of both sockets together. One more takes the place of the one that has been
 /// there longest.
@@ -24,12 +27,42 @@ const METRICS: Token = Token(3);
 const FIRST: usize = 4;
 
 /// What clients ask for that is done elsewhere.
-#[derive(Clone, Copy, Debug, PartialEq, Eq)]
+#[derive(Debug, Drop)]
 pub struct Wishes {
     /// That the run ends.
     pub ends: bool,
     /// That the log is opened anew.
     pub reopens: bool,
+    /// That what leaves goes there.
+    pub to: Option<SocketAddr>,
+    /// That these may send a stream.
+    pub peers: Option<Peers>,
+}
+
+impl Wishes {
+    /// There is nothing to be done.
+    fn none() -> Wishes {
+        Wishes {
+            ends: false,
+            reopens: false,
+            to: None,
+            peers: None,
+        }
+    }
+
+    /// One more request.
+    fn add(&mut self, asked: Option<Asked>, change: Option<Change>) {
+        match asked {
+            Some(Asked::Stop) => self.ends = true,
+            Some(Asked::Reopen) => self.reopens = true,
+            _ => {}
+        }
+        match change {
+            Some(Change::To(to)) => self.to = Some(to),
+            Some(Change::Peers(peers)) => self.peers = Some(peers),
+            None => {}
+        }
+    }
 }
 
 /// The sockets where clients come to.
@@ -114,10 +147,7 @@ impl Clients {
 
     /// Does what there is to do at the moment `now`, and tells what of it the relay has to.
     pub fn serve(&mut self, registry: &Registry, now: u64, state: State<'_>) -> Wishes {
-        let mut wishes = Wishes {
-            ends: false,
-            reopens: false,
-        };
+        let mut wishes = Wishes::none();
         if !self.are_waiting(now) {
             return wishes;
         }
@@ -126,11 +156,7 @@ impl Clients {
             if self.is_over(at, now) {
                 self.leave(at);
             } else {
-                match self.attend(at, state) {
-                    Some(Asked::Stop) => wishes.ends = true,
-                    Some(Asked::Reopen) => wishes.reopens = true,
-                    _ => {}
-                }
+                self.attend(at, state, &mut wishes);
             }
         }
         self.is_woken = self.at_control || self.at_metrics;
@@ -163,24 +189,26 @@ impl Clients {
         }
     }
 
-    /// Goes on with a client of whom something may have come. What it asks for, where that is whole since.
-    fn attend(&mut self, at: usize, state: State<'_>) -> Option<Asked> {
+    /// Goes on with a client of whom something may have come, and adds what it asks for, where that is whole since.
+    fn attend(&mut self, at: usize, state: State<'_>, wishes: &mut Wishes) {
         let (Some(woken), Some(Some(client))) = (self.woken.get_mut(at), self.clients.get_mut(at))
         else {
-            return None;
+            return;
         };
         if !*woken {
-            return None;
+            return;
         }
         *woken = false;
         let before = client.asked();
         let stage = client.go_on(state);
         let asked = client.asked();
+        if before.is_none() {
+            wishes.add(asked, client.take_change());
+        }
         // Who has the run end is told by that, whatever became of the connection.
         if stage == Stage::Over && asked != Some(Asked::Stop) {
             self.leave(at);
         }
-        if before.is_none() { asked } else { None }
     }
 
     /// Lets those in who wait at the doors.

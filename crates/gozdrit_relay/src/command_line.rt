@@ -44,6 +44,8 @@ pub struct Options<'a> {
     pub socket_buffer: i32,
     /// Over how many networks what goes to a group goes.
     pub ttl: Option<u8>,
+    /// Whether what the application sends, or what the player takes, is MPEG-TS without RTP.
+    pub is_ts: bool,
 }
 
 /// What a command line asks for.
@@ -72,6 +74,8 @@ pub enum Choice<'a> {
         /// Where its control socket is.
         path: &'a str,
         request: &'a str,
+        /// What stands behind it: an address or a list.
+        value: Option<&'a str>,
     },
 }
 
@@ -133,7 +137,7 @@ fn chosen<'a>(matches: &ArgMatches<'a>) -> Result<Choice<'a>, Fault<'a>> {
 }
 
 fn send<'a>(matches: &ArgMatches<'a>) -> Result<Choice<'a>, Fault<'a>> {
-    let options = common(matches)?;
+    let options = common(matches, "input")?;
     let min_resend = value(matches, "min-resend", Form::Time(0, u64::MAX))?;
     Ok(Choice::Send {
         options,
@@ -149,7 +153,7 @@ fn send<'a>(matches: &ArgMatches<'a>) -> Result<Choice<'a>, Fault<'a>> {
 }
 
 fn receive<'a>(matches: &ArgMatches<'a>) -> Result<Choice<'a>, Fault<'a>> {
-    let options = common(matches)?;
+    let options = common(matches, "output")?;
     Ok(Choice::Receive {
         options,
         latency: value(matches, "latency", Form::Time(0, u64::MAX))?.unwrap_or(200),
@@ -162,11 +166,12 @@ fn ctl<'a>(matches: &ArgMatches<'a>) -> Result<Choice<'a>, Fault<'a>> {
     Ok(Choice::Ctl {
         path: matches.get_str("path").ok_or(Fault::Missing("path"))?,
         request: matches.get_str("request").ok_or(Fault::Missing("request"))?,
+        value: matches.get_str("value"),
     })
 }
 
-/// The options of both.
-fn common<'a>(matches: &ArgMatches<'a>) -> Result<Options<'a>, Fault<'a>> {
+/// The options of both, of which one has this name for what the stream is in.
+fn common<'a>(matches: &ArgMatches<'a>, stream: &'a str) -> Result<Options<'a>, Fault<'a>> {
     Ok(Options {
         listen: matches.get_str("listen").ok_or(Fault::Missing("listen"))?,
         to: matches.get_str("to").ok_or(Fault::Missing("to"))?,
@@ -197,6 +202,7 @@ fn common<'a>(matches: &ArgMatches<'a>) -> Result<Options<'a>, Fault<'a>> {
         .unwrap_or(BUFFER)
         .min(MOST_BUFFER) as i32,
         ttl: number(matches, "ttl", 1, 255)?.map(|ttl| ttl.min(255) as u8),
+        is_ts: is_ts(matches, stream)?,
     })
 }
 
@@ -256,6 +262,16 @@ fn log_form<'a>(matches: &ArgMatches<'a>) -> Result<journal::Form, Fault<'a>> {
         Some(text) if text == "events" => Ok(journal::Form::Events),
         Some(text) if text == "packets" => Ok(journal::Form::Packets),
         Some(text) => Err(Fault::Value("log-form", text, Form::Log)),
+    }
+}
+
+/// Whether a stream is MPEG-TS without RTP.
+fn is_ts<'a>(matches: &ArgMatches<'a>, id: &'a str) -> Result<bool, Fault<'a>> {
+    match matches.get_str(id) {
+        None => Ok(false),
+        Some(text) if text == "rtp" => Ok(false),
+        Some(text) if text == "ts" => Ok(true),
+        Some(text) => Err(Fault::Value(id, text, Form::Stream)),
     }
 }
 

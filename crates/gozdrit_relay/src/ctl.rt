@@ -1,9 +1,12 @@
 //! The client of a relay's control socket.
+use crate::addresses::found;
+use crate::admission::addresses_of;
 use crate::fault::Fault;
 use mio::net::UnixStream;
 use mio::{Events, Interest, Poll, Token};
 use std::io;
 use std::io::{ErrorKind, Read, Write};
+use std::net::SocketAddr;
 use std::time::{Duration, Instant};
 
 /// How long a relay is waited for, in milliseconds: twice as long as it waits for a client.
@@ -12,16 +15,55 @@ const PATIENCE: u64 = 10_000;
 /// What a refusal begins with.
 const FAULT: &[u8] = b"fault ";
 
-/// Asks the relay whose control socket is at a path, and prints what it answers. It answers whether that is no refusal.
-pub fn ask<'a>(rt: &HostRuntime, path: &'a str, request: &str) -> Result<bool, Fault<'a>> {
-    match answer(rt, path, request) {
-        Ok(answer) if answer.is_empty() => Err(Fault::Reach(path, ErrorKind::UnexpectedEof)),
-        Ok(answer) => {
-            let _ = rt.stdout().write_all(&answer);
-            Ok(!answer.starts_with(FAULT))
+/// Asks the relay whose control socket is at a path, and prints what it answers. It answers whether that is no refusal. Names are looked up here,
+/// so that the relay waits for none.
+pub fn ask<'a>(
+    rt: &HostRuntime,
+    path: &'a str,
+    request: &'a str,
+    value: Option<&'a str>,
+) -> Result<bool, Fault<'a>> {
+    let answer = match value {
+        None => told(rt, path, request)?,
+        Some(name) if request == "to" => told_of_each(rt, path, &found(rt, name)?)?,
+        Some(list) if request == "peer" => {
+            let list = addresses_of(rt, list)?;
+            told(rt, path, &line_of(rt, request, list.as_str())?)?
         }
+        Some(value) => told(rt, path, &line_of(rt, request, value)?)?,
+    };
+    let _ = rt.stdout().write_all(&answer);
+    Ok(!answer.starts_with(FAULT))
+}
+
+/// What a relay answers to the first of a name's addresses that it can send to, or to the last one.
+fn told_of_each<'a>(
+    rt: &HostRuntime,
+    path: &'a str,
+    found: &[SocketAddr],
+) -> Result<Vec<u8>, Fault<'a>> {
+    let mut answer = Vec::new(rt.alloc());
+    for at in found {
+        let line = format!(in rt.alloc(); "to {at}").map_err(|_| Fault::Memory)?;
+        answer = told(rt, path, &line)?;
+        if !answer.starts_with(FAULT) {
+            break;
+        }
+    }
+    Ok(answer)
+}
+
+/// What a relay answers to a line.
+fn told<'a>(rt: &HostRuntime, path: &'a str, line: &str) -> Result<Vec<u8>, Fault<'a>> {
+    match answer(rt, path, line) {
+        Ok(answer) if answer.is_empty() => Err(Fault::Reach(path, ErrorKind::UnexpectedEof)),
+        Ok(answer) => Ok(answer),
         Err(e) => Err(Fault::Reach(path, e.kind())),
     }
+}
+
+fn line_of<'a>(rt: &HostRuntime, request: &str, value: &str) -> Result<String, Fault<'a>> {
+    format!(in rt.alloc(); "{request} {value}").map_err(|_| Fault::Memory)
 }
 
 /// All that a relay answers, until its connection ends.

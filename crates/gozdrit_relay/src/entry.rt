@@ -7,11 +7,11 @@ use crate::clients::Doors;
 use crate::command_line::{Choice, Options};
 use crate::control::doors;
 use crate::ctl::ask;
-use crate::draws::Draws;
+use crate::draws::{Draws, drawn_start};
 use crate::fault::Fault;
 use crate::greeting::{push_kept, push_metrics, push_sockets};
 use crate::handed::{descriptor, handed};
-use crate::host::{Host, Sockets};
+use crate::host::{Host, Sockets, StreamForm};
 use crate::journal::Journal;
 use crate::known::Known;
 use crate::learners::{ReceiveLearner, SendLearner};
@@ -19,6 +19,8 @@ use crate::load::Store;
 use crate::machine::{Learner, Machine};
 use crate::notify::tell_ready;
 use crate::sockets::{Kept, keep, kept_for, reach};
+use crate::transport_stream::{MP2T, Payloader};
+use crate::way::Way;
 use endpoint::ResendRule;
 use mio::net::UdpSocket;
 use relays::{Bounds, Peers, Rate, ReceiveRelay, Relay, SendRelay, run};
@@ -51,6 +53,7 @@ pub fn relay<'a>(rt: &HostRuntime, choice: &Choice<'a>) -> Result<u8, Fault<'a>>
             );
             let store = Store::History(*history as u64);
             let sockets = Sockets {
+                way: Way::new(near.local_addr().ok(), to),
                 near,
                 far,
                 kept,
@@ -78,6 +81,7 @@ pub fn relay<'a>(rt: &HostRuntime, choice: &Choice<'a>) -> Result<u8, Fault<'a>>
                 latency: *latency,
             };
             let sockets = Sockets {
+                way: Way::new(far.local_addr().ok(), to),
                 near,
                 far,
                 kept,
@@ -87,7 +91,11 @@ pub fn relay<'a>(rt: &HostRuntime, choice: &Choice<'a>) -> Result<u8, Fault<'a>>
                 rt, options, learner, peers, sockets, store,
             )
         }
-        Choice::Ctl { path, request } => match ask(rt, path, request)? {
+        Choice::Ctl {
+            path,
+            request,
+            value,
+        } => match ask(rt, path, request, *value)? {
             true => Ok(0),
             false => Ok(1),
         },
@@ -184,7 +192,6 @@ fn opened<'a>(rt: &HostRuntime, options: &Options<'a>) -> Result<Sides, Fault<'a
     greet(rt, &listening, to, &leaving);
     greet_metrics(rt, &doors);
     tell_room(rt, options.socket_buffer, kept);
-    tell_ready(rt);
     Ok(Sides {
         to,
         listening,
@@ -280,7 +287,17 @@ fn go<'a, R: Relay + Drop, L: Learner<R> + Drop>(
         stats => stats,
     };
     let draws = Draws::new(options.seed, options.loss);
-    let Ok(mut host) = Host::new(rt, sockets, draws, journal, stats, store, shows_repair) else {
+    let stream = stream_form(rt, options, store.is_history());
+    let Ok(mut host) = Host::new(
+        rt,
+        sockets,
+        draws,
+        journal,
+        stats,
+        store,
+        stream,
+        shows_repair,
+    ) else {
         return Err(Fault::Outside);
     };
     let mut machine = Machine::<L, R>::new(
@@ -290,7 +307,15 @@ fn go<'a, R: Relay + Drop, L: Learner<R> + Drop>(
         options.stream,
         bounds(options).until,
     );
-    let outcome = run(&mut host, &mut machine);
+    tell_ready(rt);
+    let mut outcome = run(&mut host, &mut machine);
+    for _change in 0..u64::MAX {
+        let Some(peers) = host.take_peers() else {
+            break;
+        };
+        machine.admit(peers);
+        outcome = run(&mut host, &mut machine);
+    }
     host.end();
     if let Some(path) = options.control {
         let _ = fs::remove_file(rt, path);
@@ -306,6 +331,24 @@ fn go<'a, R: Relay + Drop, L: Learner<R> + Drop>(
     match outcome {
         Err(_) if !host.is_stopped() => Err(Fault::Outside),
         _ => Ok(0),
+    }
+}
+
+/// What the stream is in, before a network or behind it.
+fn stream_form(rt: &HostRuntime, options: &Options<'_>, is_sender: bool) -> StreamForm {
+    let payloader = if options.is_ts && is_sender {
+        let (ssrc, number) = drawn_start(rt);
+        Some(Payloader {
+            media_type: options.media_type.unwrap_or(MP2T),
+            ssrc: options.ssrc.unwrap_or(ssrc),
+            number: options.first.unwrap_or(number),
+        })
+    } else {
+        None
+    };
+    StreamForm {
+        payloader,
+        sends_payloads: options.is_ts && !is_sender,
     }
 }
 

@@ -1,5 +1,6 @@
 //! What an application sends to a relay that is no RTP, where it is known what it is.
-ghost use Rattle.std.specs.Prelude.{◌≡◌, ◌↔◌, ◌<◌, ◌%◌, length, get_or, true};
+ghost use Rattle.std.specs.Prelude.{◌≡◌};
+ghost use Rattle.gozdrit_relay.specs.TransportStream.{is_transport_stream};
 
 use endpoint::is_control;
 
@@ -10,6 +11,8 @@ pub enum Foreign {
     Control,
     /// MPEG-2 transport stream without RTP.
     TransportStream,
+    /// Something else than that, where it is wanted.
+    NoTransportStream,
 }
 
 /// What octets are that a relay before the network sent nowhere.
@@ -24,8 +27,8 @@ pub fn told_apart(octets: &[u8]) -> Option<Foreign> {
 }
 
 /// Whether octets are packets of a transport stream: of 188 octets each, of which the first is 0x47 (ISO/IEC 13818-1, section 2.4.3.2).
-fn is_transport_stream(octets: &[u8]) -> bool
-    ensures { result ≡ true ↔ ((0 < length octets.now) × (length octets.now % 188 ≡ 0) × (get_or octets.now 0 0 ≡ 0x47)) }
+pub fn is_transport_stream(octets: &[u8]) -> bool
+    ensures { result ≡ is_transport_stream octets.now }
 {
     !octets.is_empty() && octets.len() % 188 == 0 && octets[0] == 0x47
 }

@@ -108,7 +108,11 @@ pub fn push_foreign(line: &mut Vec<u8>, count: u64, what: Foreign) -> Result<(),
         ),
         Foreign::TransportStream => (
             b"datagrams of MPEG-TS without RTP,",
-            b"which does not pass: send it in RTP (RFC 2250), as ffmpeg does by -f rtp_mpegts",
+            b"which want --input ts, or RTP (RFC 2250), as ffmpeg makes it by -f rtp_mpegts",
+        ),
+        Foreign::NoTransportStream => (
+            b"datagrams that are no MPEG-TS,",
+            b"which alone --input ts takes",
         ),
     };
     push_line(
@@ -169,6 +173,15 @@ pub fn push_moved(
             Word::Text(b"to"),
             Word::Text(far.as_bytes()),
         ],
+    )
+}
+
+/// The line of another address that what leaves goes to.
+pub fn push_way(rt: &HostRuntime, line: &mut Vec<u8>, to: SocketAddr) -> Result<(), OutOfMemory> {
+    let to = format!(in rt.alloc(); "{to}")?;
+    push_line(
+        line,
+        &[Word::Text(b"sending to"), Word::Text(to.as_bytes())],
     )
 }
 

@@ -1,5 +1,6 @@
 //! A socket that another process made and hands over, as systemd does by a socket unit (sd_listen_fds(3)): `--listen fd:3`.
 use crate::fault::Fault;
+use crate::sockets::is_stream;
 use lines::parse_between;
 use mio::net::UdpSocket;
 use os::FromRawFd;
@@ -21,7 +22,7 @@ pub fn handed<'a>(word: &'a str, number: &str) -> Result<UdpSocket, Fault<'a>> {
         return Err(Fault::Handed(word));
     };
     let socket = unsafe { net::UdpSocket::from_raw_fd(fd as i32) };
-    if socket.local_addr().is_err() || socket.set_nonblocking(true).is_err() {
+    if socket.local_addr().is_err() || is_stream(&socket) || socket.set_nonblocking(true).is_err() {
         return Err(Fault::Handed(word));
     }
     Ok(UdpSocket::from_std(socket))

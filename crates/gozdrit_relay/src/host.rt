@@ -1,4 +1,6 @@
 //! The sockets of the machine, its clock, and what is told of a run.
+mod leaving;
+mod taking;
 mod telling;
 
 use crate::answers::State;
@@ -12,11 +14,14 @@ use crate::seats::{is_over, sooner};
 use crate::seldom::Seldom;
 use crate::sockets::Kept;
 use crate::standing::Standing;
+use crate::transport_stream::Payloader;
 use crate::turns::Turns;
 use crate::unmet::UnmetTold;
+use crate::waiting::Waiting;
+use crate::way::Way;
 use mio::net::UdpSocket;
 use mio::{Events, Interest, Poll, Token};
-use relays::{Meeting, Note, Octets, Outside, OutsideFault, Side, Turn};
+use relays::{Meeting, Note, Octets, Outside, OutsideFault, Peers, Side, Turn};
 use rtpwire::MAX_DATAGRAM;
 use std::alloc::Global;
 use std::io;
@@ -43,13 +48,23 @@ const MINUTE: u64 = 60_000;
 /// How long who asks how the relay does waits at most while datagrams come without a pause, in milliseconds.
 const UNHEARD: u64 = 100;
 
-/// The sockets of a relay: one a side, what the system keeps for either, where it tells, and where its clients come to.
+/// The sockets of a relay: one a side, what the system keeps for either, where it tells, where what leaves goes, and where its clients come to.
 #[derive(Drop)]
 pub struct Sockets {
     pub near: UdpSocket,
     pub far: UdpSocket,
     pub kept: Option<Kept>,
+    pub way: Way,
     pub doors: Doors,
+}
+
+/// What the stream is in, on the side that is no network.
+#[derive(Clone, Copy, Debug, PartialEq, Eq)]
+pub struct StreamForm {
+    /// What makes RTP of MPEG-TS that an application sends without it, where it does.
+    pub payloader: Option<Payloader>,
+    /// Whether a player takes payloads alone.
+    pub sends_payloads: bool,
 }
 
 /// Both sockets, the clock, and who is told.
@@ -61,6 +76,8 @@ pub struct Host<'a> {
     near: UdpSocket,
     far: UdpSocket,
     kept: Option<Kept>,
+    /// Where what leaves by the socket that does not listen goes.
+    way: Way,
     /// What found no room at either socket, where the system told, and the moment from which on it is asked again.
     dropped: Option<u64>,
     asks_from: u64,
@@ -68,6 +85,12 @@ pub struct Host<'a> {
     turns: Turns,
     /// Room for what comes. It is blanked once.
     octets: [u8; ROOM],
+    /// What makes RTP of MPEG-TS that comes without it, where that is wanted, what is left there of a datagram, and from where it came.
+    payloader: Option<Payloader>,
+    rest: (usize, usize),
+    rest_from: Option<SocketAddr>,
+    /// Whether a player takes payloads alone.
+    sends_payloads: bool,
     draws: Draws,
     /// How many datagrams left for the network.
     left: u64,
@@ -87,7 +110,8 @@ pub struct Host<'a> {
     too_long: Seldom,
     /// What came that is no RTP.
     foreign: Seldom,
-    /// Datagrams that the system did not take.
+    /// Those that wait for room at the system, and datagrams that it did not take.
+    waiting: Vec<Waiting>,
     failed: Seldom,
     /// The moment of the last wait's end.
     moment: u64,
@@ -112,8 +136,9 @@ pub struct Host<'a> {
     /// Who asks how the relay does, where anybody may, and the moment from which on they are heard whatever comes.
     clients: Option<Clients>,
     heard_from: u64,
-    /// Whether one of them has the run end.
+    /// Whether one of them has the run end, and who may send a stream from then on where one of them says so.
     is_stopped: bool,
+    peers: Option<Peers>,
 }
 
 impl<'a> Host<'a> {
@@ -125,6 +150,7 @@ impl<'a> Host<'a> {
         journal: Option<Journal<'a>>,
         stats: Option<u64>,
         store: Store,
+        stream: StreamForm,
         shows_repair: bool,
     ) -> io::Result<Host<'a>> {
         let start = Instant::now(rt)?;
@@ -133,6 +159,7 @@ impl<'a> Host<'a> {
             mut near,
             mut far,
             kept,
+            way,
             doors,
         } = sockets;
         poll.registry()
@@ -158,11 +185,16 @@ impl<'a> Host<'a> {
             near,
             far,
             kept,
+            way,
             dropped: None,
             asks_from: 0,
             start,
             turns: Turns::BOTH,
             octets: [0; ROOM],
+            payloader: stream.payloader,
+            rest: (0, 0),
+            rest_from: None,
+            sends_payloads: stream.sends_payloads,
             draws,
             left: 0,
             is_lost: false,
@@ -175,6 +207,7 @@ impl<'a> Host<'a> {
             application: None,
             too_long: Seldom::NONE,
             foreign: Seldom::NONE,
+            waiting: Vec::new(rt.alloc()),
             failed: Seldom::NONE,
             moment: 0,
             stats,
@@ -192,6 +225,7 @@ impl<'a> Host<'a> {
             clients,
             heard_from: 0,
             is_stopped: false,
+            peers: None,
         })
     }
 
@@ -205,52 +239,6 @@ impl<'a> Host<'a> {
             ),
             Err(_) => Err(OutsideFault),
         }
-    }
-
-    /// Takes a datagram that has come, if there is one.
-    fn take(&mut self, room: &mut Octets) -> Result<Option<(Side, SocketAddr)>, OutsideFault> {
-        for _socket in 0..2 {
-            let Some(side) = self.turns.next() else {
-                return Ok(None);
-            };
-            if let Some(from) = self.receive(side, room)? {
-                self.turns.take(side);
-                return Ok(Some((side, from)));
-            }
-        }
-        Ok(None)
-    }
-
-    /// Takes a datagram that has come to a socket, if there is one.
-    fn receive(
-        &mut self,
-        side: Side,
-        room: &mut Octets,
-    ) -> Result<Option<SocketAddr>, OutsideFault> {
-        let came = match side {
-            Side::Near => self.near.recv_from(&mut self.octets),
-            Side::Far => self.far.recv_from(&mut self.octets),
-        };
-        match came {
-            Ok((len, from)) => {
-                room.clear();
-                if room.try_extend_from_slice(&self.octets[..len]).is_err() {
-                    return Err(OutsideFault);
-                }
-                Ok(Some(from))
-            }
-            Err(e) => self.lack(side, e.kind()),
-        }
-    }
-
-    /// Nothing was taken from a socket. Behind an error that passes there may be more.
-    fn lack(&mut self, side: Side, kind: ErrorKind) -> Result<Option<SocketAddr>, OutsideFault> {
-        if kind == ErrorKind::WouldBlock {
-            self.turns.drain(side);
-        } else if !is_passing(kind) {
-            return Err(OutsideFault);
-        }
-        Ok(None)
     }
 
     /// Sleeps until something comes to a socket, no longer than until a moment, and keeps which one it was.
@@ -282,7 +270,7 @@ impl<'a> Host<'a> {
         self.serve()
     }
 
-    /// Answers clients. Where one has the run end, what is outside can't be waited at any longer.
+    /// Answers clients. Where one has the run end, or others send a stream, what is outside can't be waited at any longer.
     fn serve(&mut self) -> Result<(), OutsideFault> {
         if self.clients.is_none() {
             return Ok(());
@@ -293,7 +281,10 @@ impl<'a> Host<'a> {
             return Ok(());
         };
         if now >= self.asks_from && clients.are_waiting(now) {
-            self.dropped = dropped(self.rt, &self.near, &self.far);
+            // The system may pass a socket over while others come and go: what it told before stands then.
+            if let Some(count) = dropped(self.rt, &self.near, &self.far) {
+                self.dropped = Some(count);
+            }
             self.asks_from = now.saturating_add(SECOND);
         }
         let state = State {
@@ -307,16 +298,40 @@ impl<'a> Host<'a> {
                 kept: self.kept,
                 dropped: self.dropped,
             },
+            way: self.way,
         };
         let wishes = clients.serve(self.poll.registry(), now, state);
         if wishes.reopens {
             self.reopen_log(now);
         }
-        if wishes.ends {
-            self.is_stopped = true;
+        if let Some(to) = wishes.to {
+            self.way.lead(to);
+            self.tell_way(to);
+        }
+        self.peers = wishes.peers;
+        self.is_stopped = wishes.ends;
+        if self.is_stopped || self.peers.is_some() {
             return Err(OutsideFault);
         }
         Ok(())
+    }
+
+    /// Where a datagram came from, as the relay knows it: mostly both are the same.
+    fn as_known(&self, side: Side, from: SocketAddr) -> SocketAddr {
+        if self.way.is_elsewhere() {
+            self.there(side, from)
+        } else {
+            from
+        }
+    }
+
+    /// An address of a side: as the relay knows it where it is one of the system's, and the other way round.
+    #[inline(never)]
+    fn there(&self, side: Side, at: SocketAddr) -> SocketAddr {
+        match (side, self.is_sender) {
+            (Side::Far, true) | (Side::Near, false) => self.way.there(at),
+            _ => at,
+        }
     }
 
     /// Whether clients were not heard for long, since datagrams come without a pause.
@@ -329,26 +344,26 @@ impl<'a> Host<'a> {
         self.is_stopped
     }
 
-    /// The moment until which is slept: no later than that of the next line of counts, nor than clients have it.
+    /// Who may send a stream from now on, where a client said so, and the run goes on with that.
+    pub fn take_peers(&mut self) -> Option<Peers> {
+        if self.is_stopped {
+            return None;
+        }
+        self.peers.take()
+    }
+
+    /// The moment until which is slept: no later than that of the next line of counts, nor than clients have it; and for a millisecond while
+    /// something waits for room.
     fn next_of(&self, until: Option<u64>) -> Option<u64> {
-        let next = sooner(until, self.tells_at);
+        let mut next = sooner(until, self.tells_at);
+        if !self.waiting.is_empty() {
+            next = sooner(next, Some(self.moment.saturating_add(1)));
+        }
         match &self.clients {
             Some(clients) => sooner(next, clients.next_moment()),
             None => next,
         }
     }
-}
-
-/// Whether an error says that nothing has come, or that something that left could not be delivered.
-fn is_passing(kind: ErrorKind) -> bool {
-    matches!(
-        kind,
-        ErrorKind::WouldBlock
-            | ErrorKind::Interrupted
-            | ErrorKind::ConnectionRefused
-            | ErrorKind::HostUnreachable
-            | ErrorKind::NetworkUnreachable
-    )
 }
 
 impl Outside for Host<'_> {
@@ -360,10 +375,14 @@ impl Outside for Host<'_> {
         if self.are_unheard() {
             self.ask_system(Some(Duration::ZERO))?;
         }
-        let mut came = self.take(room)?;
-        if came.is_none() && self.turns.next().is_none() {
+        if !self.waiting.is_empty() {
+            self.send_waiting(self.now()?);
+        }
+        self.from = None;
+        let mut side = self.take(room)?;
+        if side.is_none() && self.turns.next().is_none() {
             self.sleep(until)?;
-            came = self.take(room)?;
+            side = self.take(room)?;
         }
         let now = self.now()?;
         self.moment = now;
@@ -373,26 +392,33 @@ impl Outside for Host<'_> {
         if self.is_unmet {
             self.tell_unmet(now);
         }
-        self.from = came.map(|came| came.1);
+        let came = match (side, self.from) {
+            (Some(side), Some(from)) => Some((side, self.as_known(side, from))),
+            _ => None,
+        };
         Ok(Meeting { now, came })
     }
 
     fn send(&mut self, side: Side, to: SocketAddr, octets: &[u8]) {
-        // What can't be sent is lost, as in a network, and told.
+        if side == Side::Far {
+            self.left = self.left.saturating_add(1);
+            self.is_lost = self.draws.drops();
+            if self.is_lost {
+                self.counts.lose();
+                return;
+            }
+        }
+        if self.sends_payloads || self.way.is_elsewhere() || !self.waiting.is_empty() {
+            self.leave(side, to, octets);
+            return;
+        }
         let sent = match side {
             Side::Near => self.near.send_to(octets, to),
-            Side::Far => {
-                self.left = self.left.saturating_add(1);
-                self.is_lost = self.draws.drops();
-                if self.is_lost {
-                    self.counts.lose();
-                    return;
-                }
-                self.far.send_to(octets, to)
-            }
+            Side::Far => self.far.send_to(octets, to),
         };
+        // What can't be sent is lost, as in a network, and told.
         if let Err(error) = sent {
-            self.fail(&error, to);
+            self.lack_room(side, to, octets, &error);
         }
     }
 

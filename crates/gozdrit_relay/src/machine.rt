@@ -117,6 +117,13 @@ impl<R: Relay + Drop, L: Learner<R>> Machine<L, R> {
         }
     }
 
+    /// From now on it hears streams of these peers, or of anybody where there are none.
+    pub fn admit(&mut self, peers: Peers)
+        ensures { self.new ≡ record self.old { peers = peers } }
+    {
+        self.peers = peers;
+    }
+
     /// Whether what comes to a side from an address is turned away: a stream comes there, and not from there.
     fn is_turned_away(&self, side: Side, from: SocketAddr) -> bool
         ensures { result ≡ is_turned_away (L.Learner.listens self.now.learner) side from self.now.peers }

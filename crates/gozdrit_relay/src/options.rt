@@ -35,6 +35,12 @@ fn send<'a>(alloc: Global) -> Result<Command<'a>, AllocError> {
             "from",
             "ADDR:PORT",
             "Where the session leaves and feedback comes to; any by default",
+        ))?
+        .arg(option(
+            alloc,
+            "input",
+            "FORM",
+            "What the application sends: rtp, or ts for MPEG-TS without RTP; rtp by default",
         ))?;
     common(alloc, of_retransmissions(alloc, command)?)
 }
@@ -93,6 +99,12 @@ fn receive<'a>(alloc: Global) -> Result<Command<'a>, AllocError> {
         ))?
         .arg(option(
             alloc,
+            "output",
+            "FORM",
+            "What the player takes: rtp, or ts for MPEG-TS without RTP; rtp by default",
+        ))?
+        .arg(option(
+            alloc,
             "latency",
             "MS",
             "How long a missing packet is waited for, in milliseconds; 200 by default",
@@ -115,15 +127,22 @@ fn receive<'a>(alloc: Global) -> Result<Command<'a>, AllocError> {
 /// A client of a relay that runs.
 fn ctl<'a>(alloc: Global) -> Result<Command<'a>, AllocError> {
     Command::new(alloc, "ctl")
-        .about("Asks a relay that runs how it does, or has it stop")
+        .about(
+            "Asks a relay that runs how it does, has it send elsewhere or hear others, or has it stop",
+        )
         .after_help(help::CTL)
         .arg(word(alloc, "path", "PATH", "What the relay's --control is"))?
         .arg(word(
             alloc,
             "request",
             "REQUEST",
-            "stats: all counts, and how the relay stands, as JSON; reopen: the log is opened anew; stop: the run ends, with the last line of counts",
-        ))
+            "stats: all counts, and how the relay stands, as JSON; to: what leaves goes elsewhere; peer: others may send a stream; reopen: the log is opened anew; stop: the run ends, with the last line of counts",
+        ))?
+        .arg(
+            Arg::new(alloc, "value").value_name("VALUE").help(
+                "Behind to: HOST:PORT; behind peer: addresses or names as --peer has them, or any",
+            ),
+        )
 }
 
 /// The options of both.

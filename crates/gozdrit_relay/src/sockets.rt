@@ -64,6 +64,14 @@ pub fn reach(socket: &UdpSocket, networks: u8) -> bool {
     unsafe { c::setsockopt(fd, c::IPPROTO_IP, c::IP_MULTICAST_TTL, &value, 4) == 0 }
 }
 
+/// Whether a socket is one of streams: no other one has an option of TCP.
+pub fn is_stream<S: AsRawFd>(socket: &S) -> bool {
+    let fd = socket.as_raw_fd();
+    let mut value = [0; 16];
+    let mut len = 4;
+    unsafe { c::getsockopt(fd, c::IPPROTO_TCP, c::TCP_NODELAY, &mut value, &mut len) == 0 }
+}
+
 /// A number as the system reads it.
 fn padded(octets: i32) -> [u8; 16] {
     let mut value = [0; 16];

@@ -24,6 +24,8 @@ pub enum Form {
     Ssrc,
     /// What a log has lines of.
     Log,
+    /// What a stream is in.
+    Stream,
 }
 
 /// A number in tens of digits, with the unit that stands behind it: how much one of that is. What has no unit is in the form's own.
@@ -69,7 +71,7 @@ impl Form {
                 most,
             ),
             Form::Rate(_) => measured(text, &[("k", 1), ("M", 1000)], 0, u64::MAX),
-            Form::Ssrc | Form::Log => None,
+            Form::Ssrc | Form::Log | Form::Stream => None,
         }
     }
 }
@@ -116,6 +118,7 @@ impl fmt::Display for Form {
             ),
             Form::Ssrc => f.write_str("an SSRC, by one to eight hexadecimal digits"),
             Form::Log => f.write_str("events or packets"),
+            Form::Stream => f.write_str("rtp or ts"),
         }
     }
 }

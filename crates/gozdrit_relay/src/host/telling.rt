@@ -1,9 +1,9 @@
 //! What is told of a run: its counts, its sessions, and what goes wrong, line by line.
 use super::{Host, MINUTE, SECOND};
-use crate::foreign::told_apart;
+use crate::foreign::{Foreign, told_apart};
 use crate::greeting::{
     push_failed, push_foreign, push_full, push_moved, push_session, push_strays, push_too_long,
-    push_unopened, push_unsaid,
+    push_unopened, push_unsaid, push_way,
 };
 use crate::hindrance::hindered_by;
 use crate::seats::{is_over, sooner};
@@ -69,6 +69,7 @@ impl<'a> Host<'a> {
 
     /// Writes the last counts of a run.
     pub fn end(&mut self) {
+        self.send_waiting(u64::MAX);
         if self.logs_at.is_some() {
             self.log_counts(self.moment);
         }
@@ -117,6 +118,15 @@ impl<'a> Host<'a> {
             _ => return,
         };
         if pushed.is_ok() {
+            self.say();
+        }
+    }
+
+    /// Writes the line of another address that what leaves goes to.
+    #[inline(never)]
+    pub(super) fn tell_way(&mut self, to: SocketAddr) {
+        self.line.clear();
+        if push_way(self.rt, &mut self.line, to).is_ok() {
             self.say();
         }
     }
@@ -202,8 +212,12 @@ impl<'a> Host<'a> {
     /// Writes the line of what is no RTP, and known all the same, at most each ten seconds. By itself, as only what is not sent is looked at.
     #[inline(never)]
     pub(super) fn tell_foreign(&mut self, octets: &[u8], now: u64) {
-        let Some(what) = told_apart(octets) else {
-            return;
+        let what = match &self.payloader {
+            Some(_) => Foreign::NoTransportStream,
+            None => match told_apart(octets) {
+                Some(what) => what,
+                None => return,
+            },
         };
         let Some(count) = self.foreign.come(now) else {
             return;
