@@ -193,8 +193,8 @@ class Relay:
         return counts_of(lines[-1], self.side) or {}
 
     def words(self):
-        """Its log so far: the words of each whole line, without the moment."""
-        text = self.log.read_text()
+        """Its log so far: the words of each whole line, without the moment. It says its first line before it opens its log."""
+        text = self.log.read_text() if self.log.exists() else ""
         return [line.split(" ")[1:] for line in text[:text.rfind("\n") + 1].splitlines()]
 
     def logged(self, word):
