@@ -27,7 +27,7 @@ out, until = socket.socket(socket.AF_INET, socket.SOCK_DGRAM), time.monotonic() 
 while time.monotonic() < until:
     out.sendto(b"x" * 40, ("127.0.0.1", int(sys.argv[1])))
 """
-NEITHER = "fault request: {} is none of stats, reopen and stop\n"
+NEITHER = "fault request: {} is none of stats, to, peer, reopen and stop\n"
 
 
 def dial(stage, path):
@@ -181,7 +181,8 @@ def client(checks, stage):
     checks.same((status, err, sorted(json.loads(out).keys() - {DROPPED})), (0, "", sorted(COUNTS["send"] + STANDS["send"])), "ctl stats")
     checks.same(ctl(stage, path, "restart"), (1, NEITHER.format("restart"), ""), "ctl restart")
     checks.same(ctl(stage, stage.room / "none.sock", "stats"), (1, "", f"no answer at {stage.room / 'none.sock'}: there is no such file\n"), "no relay")
-    for words in ([], [path], [path, "stats", "more"]):
+    checks.same(ctl(stage, path, "stats", "more"), (1, NEITHER.format("stats more"), ""), "ctl stats more")
+    for words in ([], [path], [path, "to", "127.0.0.1:9", "more"]):
         one = subprocess.run([stage.program, "ctl", *map(str, words)], capture_output=True, text=True, timeout=60)
         checks.count(one.returncode == 2 and one.stderr.startswith("error: "), f"ctl {words}: {one}")
     status, out, err = ctl(stage, path, "stop")

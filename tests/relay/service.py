@@ -45,10 +45,16 @@ def handed(checks, stage):
         one = subprocess.run(words, capture_output=True, text=True, timeout=60)
         refusal = f"can't take --listen {word}: no socket of datagrams was handed over there\n"
         checks.same((one.returncode, one.stdout, one.stderr), (3, "", refusal), word)
+    with socket.create_server(("127.0.0.1", 0)) as streams:
+        words = [stage.program, "receive", "--listen", f"fd:{streams.fileno()}", "--to", "127.0.0.1:9", "--seconds", "5"]
+        one = subprocess.run(words, capture_output=True, text=True, timeout=60, pass_fds=[streams.fileno()])
+        refusal = f"can't take --listen fd:{streams.fileno()}: no socket of datagrams was handed over there\n"
+        checks.same((one.returncode, one.stdout, one.stderr), (3, "", refusal), "a socket of streams")
 
 
 def ready(checks, stage):
-    """Who started a relay is told once that its sockets are open, at a file or at a name without one. Where nobody hears it, it runs as well."""
+    """Who started a relay is told once that its sockets and its log are open, at a file or at a name without one. Where nobody hears it, it runs
+    as well."""
     for name in (str(stage.room / "ready"), "@" + stage.room.name + "/ready"):
         hears = stage.keep(socket.socket(socket.AF_UNIX, socket.SOCK_DGRAM))
         hears.bind(name.replace("@", "\0", 1))
@@ -57,8 +63,11 @@ def ready(checks, stage):
         checks.same(hears.recv(100), b"READY=1", f"ready at {name}")
         ends(checks, f"ready at {name}", relay)
         hears.setblocking(False)
+        words = [stage.program, "receive", "--listen", "127.0.0.1:0", "--to", "127.0.0.1:9", "--seconds", "1", "--log", "/nowhere/log"]
+        one = subprocess.run(words, capture_output=True, timeout=60, env={**os.environ, "NOTIFY_SOCKET": name})
+        checks.same(one.returncode, 3, f"ready at {name}: a log that can't be opened")
         with contextlib.suppress(BlockingIOError):
-            checks.count(False, f"ready at {name} is told twice: {hears.recv(100)}")
+            checks.count(False, f"ready at {name} is told twice, or without a log: {hears.recv(100)}")
     for name in ("", "ready", "/nowhere/ready", "/" + 200 * "x", str(stage.room)):
         relay = stage.send(("127.0.0.1", 9), "--seconds", 1, env={**os.environ, "NOTIFY_SOCKET": name})
         ends(checks, f"nobody hears that it is ready at {name!r}", relay)

@@ -8,6 +8,7 @@ import os
 import pathlib
 import re
 import shutil
+import socket
 import subprocess
 import time
 
@@ -118,5 +119,32 @@ def slow(checks, stage):
         print("skipped: no network namespace can be had")
 
 
+def later(checks, stage):
+    """What finds no room at the moment leaves a little later, in its order: bursts that are longer than the system's room for a socket. What is
+    silent for long is none of them: a slow interface has no room in time."""
+    def play():
+        shape = "dev", "lo", "root", "tbf", "burst", "3000", "limit", "1000000", "rate", "16mbit"
+        if subprocess.run(["tc", "qdisc", "add", *shape], check=False, capture_output=True).returncode:
+            print("skipped: no interface can be made slow")
+            return
+        for side in ("send", "receive"):
+            far = End(stage)
+            # Where it listens there is room for all.
+            words = "--socket-buffer", 4096, "--seconds", 4, *(("--rate", 0) if side == "send" else ())
+            relay = getattr(stage, side)(far.at, *words, listen="fd:3", handed=stage.keep(udp()))
+            app = App(stage, relay.at, number=0)
+            app.at.setsockopt(socket.SOL_SOCKET, socket.SO_SNDBUF, 400000)
+            for first in range(0, 160, 40):
+                for one in plain(40, 1000, first=first):
+                    app.send(one)
+                time.sleep(0.3)
+            ends(checks, f"later: {side}", relay)
+            numbers = [one.number for one in far.packets() if one.ssrc == app.ssrc]
+            counts = relay.counts()
+            checks.same((numbers, counts.get("full"), counts.get("failed")), (list(range(160)), 0, 0), f"later: {side}: what came, full and failed")
+    if os.geteuid() or not shutil.which("tc") or not apart(play):
+        print("skipped: no network namespace can be had")
+
+
 if __name__ == "__main__":
-    part(kept, told, forbidden, without_way, slow)
+    part(kept, told, forbidden, without_way, slow, later)

@@ -146,7 +146,7 @@ def too_long(checks, stage):
 def no_rtp(checks, stage):
     """What an application sends that is no RTP is told by its name, before a session and in one: once in ten seconds."""
     stream, odd = (b"\x47" + bytes(187)) * 7, (b"\x47" + bytes(187)) * 7 + b"\0"
-    for what, hint in (stream, "datagrams of MPEG-TS without RTP, which does not pass: send it in RTP (RFC 2250), as ffmpeg does by -f rtp_mpegts"), \
+    for what, hint in (stream, "datagrams of MPEG-TS without RTP, which want --input ts, or RTP (RFC 2250), as ffmpeg makes it by -f rtp_mpegts"), \
             (reports()[0], "datagrams of RTCP, which does not pass: it has to reach the player by another way"):
         for is_begun in False, True:
             network = End(stage)
