@@ -119,7 +119,8 @@ def left_out(checks, stage):
 
 @on_time(0.2)
 def as_rtp(checks, stage):
-    """A player of RTP gets packets of RTP from an encoder without, and one without gets payloads from an application of RTP."""
+    """A player of RTP gets packets of RTP from an encoder without, and one without gets payloads from an application of RTP: none where a packet
+    carries nothing."""
     player, bare = End(stage), End(stage)
     both = stage.receive(player.at), stage.receive(bare.at, "--output", "ts")
     senders = stage.send(both[0].at, "--input", "ts"), stage.send(both[1].at)
@@ -128,6 +129,8 @@ def as_rtp(checks, stage):
     app = App(stage, senders[1].at, kind=33, number=5)
     for at, one in enumerate(packets):
         app.send(plain(1, 188)[0]._replace(payload=one), padding=at % 3)
+        if at % 7 == 3:
+            app.send(plain(1, 188)[0]._replace(payload=b""))
     player.waits_for(20)
     bare.waits_for(20)
     checks.same([(one.kind, one.content.payload) for one in player.packets()], [(33, one) for one in packets], "to a player of RTP")

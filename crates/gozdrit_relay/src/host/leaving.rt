@@ -8,7 +8,7 @@ use std::net::SocketAddr;
 use std::{io, mem};
 
 impl Host<'_> {
-    /// Sends a datagram in the form and to the address that are wanted, behind those of its side that wait.
+    /// Sends a datagram in the form and to the address that are wanted, behind those of its side that wait. A payload of nothing is no datagram.
     #[inline(never)]
     pub(super) fn leave(&mut self, side: Side, to: SocketAddr, octets: &[u8]) {
         let to = self.there(side, to);
@@ -17,7 +17,7 @@ impl Host<'_> {
         } else {
             octets
         };
-        if self.do_wait(side) && self.keep(side, to, octets) {
+        if octets.is_empty() || self.do_wait(side) && self.keep(side, to, octets) {
             return;
         }
         if let Err(error) = self.put(side, to, octets) {
