@@ -7,7 +7,7 @@ import re
 import signal
 import time
 
-from base import ends, on_time, part, soon
+from base import address, ends, on_time, part, soon
 from control import asks, ctl, dial
 from net import App, End, Path
 from rtp import nack, packet, plain
@@ -20,21 +20,17 @@ def done(checks, stage, path, request, word):
     checks.same(ctl(stage, path, word, request), (0, word + "\n", ""), f"ctl {word} {request}")
 
 
-def named(at):
-    return f"[{at[0]}]:{at[1]}" if ":" in at[0] else f"{at[0]}:{at[1]}"
-
-
 @on_time(0.1)
 def players(checks, stage):
     """A stream goes on at another player, and at a third one, under its SSRC and its numbers, without a packet that is lost or comes twice."""
     for host in "127.0.0.1", "::1":
         path, ends_of = stage.room / "one.sock", [End(stage, host) for _ in range(3)]
-        receiver = stage.receive(ends_of[0].at, "--control", path, "--loss", 100, "--latency", 1000)
+        receiver = stage.receive(ends_of[0].at, "--control", path, "--loss", 100, "--latency", 4000)
         sender = stage.send(receiver.at, "--loss", 100)
         app = App(stage, sender.at, number=0)
         for at, player in enumerate(ends_of):
             if at:
-                done(checks, stage, path, named(player.at), "to")
+                done(checks, stage, path, address(*player.at), "to")
             app.stream(plain(MANY, first=at * MANY), RATE)
             soon(lambda: sum(len(one.came) for one in ends_of) == (at + 1) * MANY)
         came = [one for player in ends_of for one in player.packets()]
@@ -42,7 +38,7 @@ def players(checks, stage):
         checks.same([(one.ssrc, one.number) for one in came], [(app.ssrc, at) for at in range(3 * MANY)], f"{host}: SSRC and numbers")
         checks.count(all(player.came for player in ends_of), f"{host}: {[len(player.came) for player in ends_of]} came")
         checks.same(receiver.errors().count("sending to "), 3, f"{host}: lines that say where")
-        told = [f"sending to {named(player.at)}\n" in receiver.errors() for player in ends_of[1:]]
+        told = [f"sending to {address(*player.at)}\n" in receiver.errors() for player in ends_of[1:]]
         checks.same(told, [True, True], f"{host}: where it went")
         checks.same(json.loads(asks(stage, path, b"stats\n"))["played"], 3 * MANY, f"{host}: played")
         asks(stage, path, b"stop\n")
@@ -59,7 +55,7 @@ def far_sides(checks, stage):
     own = 0x1a2b3c4d
     for turn, (far, other) in enumerate([(first, second), (second, first), (first, second)]):
         if turn:
-            done(checks, stage, path, named(far.at), "to")
+            done(checks, stage, path, address(*far.at), "to")
         before, elsewhere = len(far.came), len(other.came)
         app.stream(plain(20, first=20 * turn), RATE)
         far.waits_for(before + 20)
@@ -82,7 +78,7 @@ def far_sides(checks, stage):
 def relays(checks, stage):
     """A pair whose receiving relay moves to another machine: `to` at the sending one, and a stream of one in ten lost is repaired there too."""
     path, player = stage.room / "one.sock", End(stage)
-    one, two = (stage.receive(player.at, "--loss", 100, "--latency", 1000) for _ in range(2))
+    one, two = (stage.receive(player.at, "--loss", 100, "--latency", 4000) for _ in range(2))
     sender = stage.send(one.at, "--loss", 100, "--control", path)
     app = App(stage, sender.at, number=0)
     app.stream(plain(MANY), RATE)
@@ -99,7 +95,7 @@ def refused(checks, stage):
     """What can't be sent to is refused, as is what lists no peers, and changes nothing."""
     path, player = stage.room / "one.sock", End(stage)
     relay = stage.receive(player.at, "--control", path)
-    for word in ("", "nowhere", "127.0.0.1", "127.0.0.1:0", "127.0.0.1:65536", "[::1]:5004", named(relay.at), " 127.0.0.1:9", "127.0.0.1:9 ", "localhost:9", "\xe4:9"):
+    for word in ("", "nowhere", "127.0.0.1", "127.0.0.1:0", "127.0.0.1:65536", "[::1]:5004", address(*relay.at), " 127.0.0.1:9", "127.0.0.1:9 ", "localhost:9", "\xe4:9"):
         shown = re.sub(r"[^ -~]", "??", f"to {word}")
         checks.same(asks(stage, path, f"to {word}\n".encode()), f"fault request: {shown} says no address that can be sent to\n", f"to {word!r}")
     for word in ("", "nowhere", "127.0.0.1,", ",127.0.0.1", "127.0.0.1/33", "::1/129", "127.0.0.1:65536", "[::1", "any,127.0.0.1", " any", "localhost"):
@@ -121,7 +117,7 @@ def peers(checks, stage):
     path, player = stage.room / "one.sock", End(stage)
     relay = stage.receive(player.at, "--control", path, "--peer", "127.0.0.0/8")
     app = App(stage, relay.at, number=0)
-    own = named(app.at.getsockname())
+    own = address(*app.at.getsockname()[:2])
     for at, (request, may) in enumerate((("127.0.0.1,192.0.2.0/24", True), ("192.0.2.1", False), (own, True), ("127.0.0.1:9", False), ("::1,localhost", True),
                                          ("::/0", True), ("127.0.0.2", False), ("any", True))):
         if request:
@@ -143,13 +139,13 @@ def peers(checks, stage):
 def in_mid_stream(checks, stage):
     """Forty changes beside a stream that loses a tenth both ways cost it nothing, and a bound ends it as before."""
     path, player, many = stage.room / "one.sock", End(stage), 2000
-    receiver = stage.receive(player.at, "--control", path, "--latency", 1000, "--loss", 100, "--packets", many)
+    receiver = stage.receive(player.at, "--control", path, "--latency", 4000, "--loss", 100, "--packets", many)
     way = Path(stage, receiver.at)
     sender = stage.send(way.at, "--loss", 100)
     app = App(stage, sender.at, number=0)
     for at in range(40):
         app.stream(plain(many // 40, first=at * many // 40), RATE)
-        checks.same(asks(stage, path, (b"peer any\n", b"peer 127.0.0.1\n", b"to %s\n" % named(player.at).encode())[at % 3]), ("peer\n", "peer\n", "to\n")[at % 3], f"change {at}")
+        checks.same(asks(stage, path, (b"peer any\n", b"peer 127.0.0.1\n", b"to %s\n" % address(*player.at).encode())[at % 3]), ("peer\n", "peer\n", "to\n")[at % 3], f"change {at}")
     player.waits_for(many)
     checks.same([one.content for one in player.packets()], plain(many), "what came beside forty changes")
     ends(checks, "forty changes", receiver)
@@ -163,9 +159,9 @@ def who_is_gone(checks, stage):
     path, player, other = stage.room / "one.sock", End(stage), End(stage)
     relay = stage.receive(player.at, "--control", path)
     gone = dial(stage, path)
-    gone.sendall(b"to %s\n" % named(other.at).encode())
+    gone.sendall(b"to %s\n" % address(*other.at).encode())
     gone.close()
-    soon(lambda: f"sending to {named(other.at)}\n" in relay.errors())
+    soon(lambda: f"sending to {address(*other.at)}\n" in relay.errors())
     App(stage, relay.at, number=0).send(plain(1)[0])
     checks.count(other.waits_for(1) and not player.came, "what who is gone asked for")
     relay.freeze()

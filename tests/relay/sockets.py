@@ -120,8 +120,8 @@ def slow(checks, stage):
 
 
 def later(checks, stage):
-    """What finds no room at the moment leaves a little later, in its order: bursts that are longer than the system's room for a socket. What is
-    silent for long is none of them: a slow interface has no room in time."""
+    """What finds no room at the moment leaves a little later, in its order: bursts that are longer than the system's room for a socket, each let
+    go before the next one."""
     def play():
         shape = "dev", "lo", "root", "tbf", "burst", "3000", "limit", "1000000", "rate", "16mbit"
         if subprocess.run(["tc", "qdisc", "add", *shape], check=False, capture_output=True).returncode:

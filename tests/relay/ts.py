@@ -81,7 +81,7 @@ def through(checks, stage):
     """What a player gets is what the encoder sent, octet for octet, though one in ten datagrams is lost both ways and one in ten is held back."""
     draw = random.Random(7)
     player, many = End(stage), 1200
-    receiver = stage.receive(player.at, "--output", "ts", "--latency", 1000)
+    receiver = stage.receive(player.at, "--output", "ts", "--latency", 4000)
     path = Path(stage, receiver.at, lambda way, octets: () if draw.random() < 0.1 else (0.01 if draw.random() < 0.1 else 0.002,))
     sender = stage.send(path.at, "--input", "ts")
     room, packets = most(sender), transport(7 * many)
