@@ -3,6 +3,7 @@
 
     changes.py PROGRAM"""
 import json
+import random
 import re
 import signal
 import time
@@ -76,18 +77,21 @@ def far_sides(checks, stage):
 
 @on_time(0.1)
 def relays(checks, stage):
-    """A pair whose receiving relay moves to another machine: `to` at the sending one, and a stream of one in ten lost is repaired there too."""
-    path, player = stage.room / "one.sock", End(stage)
-    one, two = (stage.receive(player.at, "--loss", 100, "--latency", 4000) for _ in range(2))
-    sender = stage.send(one.at, "--loss", 100, "--control", path)
+    """A pair whose receiving relay moves to another machine: `to` at the sending one, and a stream of one in ten lost is repaired there too, from
+    the first packet on that comes there."""
+    path, player, draw = stage.room / "one.sock", End(stage), random.Random(7)
+    relays = [stage.receive(player.at, "--loss", 100, "--latency", 4000) for _ in range(2)]
+    begins = [at.to_bytes(2, "big") for at in (0, MANY)]
+    ways = [Path(stage, relay.at, lambda way, octets: () if draw.random() < 0.1 and octets[2:4] not in begins else (0,)) for relay in relays]
+    sender = stage.send(ways[0].at, "--control", path)
     app = App(stage, sender.at, number=0)
     app.stream(plain(MANY), RATE)
     player.waits_for(MANY)
-    done(checks, stage, path, f"localhost:{two.at[1]}", "to")
+    done(checks, stage, path, f"localhost:{ways[1].at[1]}", "to")
     app.stream(plain(MANY, first=MANY), RATE)
     player.waits_for(2 * MANY)
     checks.same([came.content for came in player.packets()], plain(2 * MANY), "what came of both")
-    for relay in sender, one, two:
+    for relay in sender, *relays:
         relay.stop()
 
 
