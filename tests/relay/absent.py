@@ -21,7 +21,7 @@ def no_player(checks, stage):
     sender = stage.send(receiver.at, "--packets", 400)
     app = App(stage, sender.at)
     app.stream(plain(200), 1000)
-    time.sleep(0.3)
+    soon(lambda: len(receiver.logged("play")) == 200)
     player = End(stage, port=port[1])
     app.stream(plain(200, first=200), 1000)
     ends(checks, name, sender, receiver)

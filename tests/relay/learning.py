@@ -121,7 +121,7 @@ def choosing(checks, stage):
 def first(checks, stage):
     """With a first number, what is lost before the first packet that comes is asked for, and given up after the patience."""
     player = End(stage)
-    far, receiver = plays(stage, player, [(96, i & 65535, SSRC) for i in range(65537, 65540)], "--first", 65535, "--packets", 5)
+    far, receiver = plays(stage, player, [(96, i & 65535, SSRC) for i in range(65537, 65540)], "--first", 65535, "--packets", 5, "--latency", 2000)
     checks.count(far.waits_for(1), "a first number: no NACK came")
     asked = nacked(far.octets()[0])
     checks.count(asked and asked[1:] == (SSRC, [65535, 0]) and asked[0] != SSRC, f"a first number: what is asked for: {asked}")
@@ -151,7 +151,7 @@ def retransmissions(checks, stage):
     for words, ssrc, kind, taken in (((), 5, 97, 1), ((), 5, 98, 0), (("--rtx-type", 98), 5, 98, 1), (("--rtx-type", 98), 5, 97, 0),
                                      (("--rtx-ssrc", "5"), 5, 97, 1), (("--rtx-ssrc", "00000006"), 5, 97, 0)):
         player, name = End(stage), f"{words} and a retransmission {ssrc} of type {kind}"
-        far, receiver = plays(stage, player, [(96, 1, SSRC), (96, 3, SSRC)], "--packets", 3, "--latency", 1000, *words)
+        far, receiver = plays(stage, player, [(96, 1, SSRC), (96, 3, SSRC)], "--packets", 3, "--latency", 2000, *words)
         checks.count(far.waits_for(1), f"{name}: no NACK came")
         far.send(repair(kind, 9, ssrc, 2, Content(1, 0, b"two")), receiver.at)
         runs.append((name, player, receiver, taken))

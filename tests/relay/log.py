@@ -177,10 +177,10 @@ def halted(checks, stage):
     checks.count(kept.endswith(b"\n"), "a line is torn")
 
 
-@on_time(0.3)
+@on_time(0.1)
 def unread(checks, stage):
     """Standard error that nobody reads holds no packet up; how many lines it did not take is told once it takes one."""
-    player, port, many = End(stage), free_port(), 2000
+    player, port, many = End(stage), free_port(), 1000
     reader, writer = os.pipe()
     fcntl.fcntl(writer, SIZE, PAGE)
     words = [stage.program, "receive", "--listen", f"127.0.0.1:{port}", "--to", f"127.0.0.1:{player.at[1]}", "--stats", "1", "--seconds", "12"]

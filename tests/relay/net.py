@@ -12,13 +12,17 @@ from base import WATCH, soon
 from rtp import original, packet, parse
 
 ROOM = 4000000  # octets that the system may keep for a socket of a test
+FORCED = 33  # SO_RCVBUFFORCE, which has room beyond net.core.rmem_max for who may have it (socket(7))
 MUCH = 60000  # octets that wait at a socket before more is sent to it
 
 
 def udp(host="127.0.0.1", port=0):
     """A bound socket."""
     made = socket.socket(socket.AF_INET6 if ":" in host else socket.AF_INET, socket.SOCK_DGRAM)
-    made.setsockopt(socket.SOL_SOCKET, socket.SO_RCVBUF, ROOM)
+    try:
+        made.setsockopt(socket.SOL_SOCKET, FORCED, ROOM)
+    except PermissionError:
+        made.setsockopt(socket.SOL_SOCKET, socket.SO_RCVBUF, ROOM)
     made.bind((host, port))
     return made
 

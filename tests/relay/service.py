@@ -15,9 +15,9 @@ import subprocess
 import threading
 import time
 
-from base import DROPPED, STANDS, ends, on_time, part, soon
+from base import DROPPED, STANDS, address, ends, on_time, part, soon
 from control import asks, page, told
-from net import App, End, udp
+from net import App, End, free_port, udp
 from rtp import plain
 from sockets import LIMITS, MANY, apart
 
@@ -188,10 +188,12 @@ def stands(checks, stage):
         return
     for side, host, words in (("send", "127.0.0.1", ()), ("receive", "127.0.0.1", ("--latency", 345)), ("receive", "::1", ())):
         path, far, name = stage.room / "stands", End(stage, host), f"{side} at {host}"
-        where = f"[{host}]:0" if ":" in host else f"{host}:0"
+        where = address(host, free_port(host))
         began = time.monotonic()
         relay = getattr(stage, side)(far.at, *words, "--socket-buffer", "64KiB", "--control", path, "--metrics", "127.0.0.1:0", listen=where, log=False)
         beside = stage.keep(udp("127.0.0.2", relay.at[1])) if host != "::1" else None
+        if beside:
+            beside.setsockopt(socket.SOL_SOCKET, socket.SO_RCVBUF, size)
         first = asked(stage, path)
         checks.same((first["session"], first["dropped"], first["buffer_in"], first["buffer_out"]), (None, 0, size, size), f"{name} at first")
         checks.same(first.get("latency"), {"send": None, "receive": 345 if words else 200}[side], f"{name}: latency")
@@ -203,7 +205,9 @@ def stands(checks, stage):
             app.send(one)
             if beside:
                 App(stage, beside.getsockname()).send(one)
-        dropped = sum(count for inode, count in drops(relay.at[1]).items() if inode != inode_of(beside))
+        found = drops(relay.at[1])
+        dropped = sum(count for inode, count in found.items() if inode != inode_of(beside))
+        checks.count(not beside or found[inode_of(beside)] > 0, f"{name}: beside it {found} were dropped")
         relay.run.send_signal(signal.SIGCONT)
         time.sleep(1.3)  # what was dropped is looked for once a second
         now = asked(stage, path)

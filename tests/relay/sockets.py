@@ -12,7 +12,7 @@ import socket
 import subprocess
 import time
 
-from base import ends, part, soon
+from base import ends, on_time, part, soon
 from net import App, End, queued, udp
 from rtp import packet, plain
 
@@ -119,6 +119,7 @@ def slow(checks, stage):
         print("skipped: no network namespace can be had")
 
 
+@on_time(0.05)
 def later(checks, stage):
     """What finds no room at the moment leaves a little later, in its order: bursts that are longer than the system's room for a socket, each let
     go before the next one."""
@@ -130,7 +131,7 @@ def later(checks, stage):
         for side in ("send", "receive"):
             far = End(stage)
             # Where it listens there is room for all.
-            words = "--socket-buffer", 4096, "--seconds", 4, *(("--rate", 0) if side == "send" else ())
+            words = "--socket-buffer", 4096, "--packets", 160, *(("--rate", 0) if side == "send" else ())
             relay = getattr(stage, side)(far.at, *words, listen="fd:3", handed=stage.keep(udp()))
             app = App(stage, relay.at, number=0)
             app.at.setsockopt(socket.SOL_SOCKET, socket.SO_SNDBUF, 400000)

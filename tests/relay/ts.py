@@ -10,7 +10,7 @@ import subprocess
 import time
 
 from base import ends, on_time, part, soon
-from net import App, End, Path, udp
+from net import MUCH, App, End, Path, queued
 from rtp import packet, plain
 
 PACKET = 188
@@ -35,9 +35,11 @@ def media(far):
 
 
 def pour(app, datagrams, rate=RATE):
+    """Sends datagrams at so many a second, and waits where the relay's socket is full."""
     due = time.monotonic()
     for one in datagrams:
         due += 1 / rate
+        soon(lambda: queued(app.heed)[0] < MUCH)
         time.sleep(max(0, due - time.monotonic()))
         app.raw(one)
 
@@ -76,7 +78,7 @@ def sent(checks, stage):
         relay.stop()
 
 
-@on_time(0.2)
+@on_time(0.1)
 def through(checks, stage):
     """What a player gets is what the encoder sent, octet for octet, though one in ten datagrams is lost both ways and one in ten is held back."""
     draw = random.Random(7)
@@ -139,7 +141,7 @@ def as_rtp(checks, stage):
         relay.stop()
 
 
-@on_time(0.3)
+@on_time(0.1)
 def encoder(checks, stage):
     """FFmpeg's stream through both relays, one in ten datagrams lost both ways: no continuity counter jumps, and each frame is there."""
     if not shutil.which("ffmpeg") or not shutil.which("ffprobe"):
