@@ -210,7 +210,7 @@ def stands(checks, stage):
         checks.count(not beside or found[inode_of(beside)] > 0, f"{name}: beside it {found} were dropped")
         relay.run.send_signal(signal.SIGCONT)
         time.sleep(1.3)  # what was dropped is looked for once a second
-        now = asked(stage, path)
+        since, now = time.monotonic(), asked(stage, path)
         checks.count(dropped > MANY / 2, f"{name}: {dropped} were dropped")
         checks.same(now["dropped"], dropped, f"{name}: what found no room")
         ran, had = 1000 * (time.monotonic() - began), 1000 * (time.monotonic() - session)
@@ -222,7 +222,8 @@ def stands(checks, stage):
             base, _, unit = one.rpartition("_")
             if base in [*STANDS[side], DROPPED]:
                 scale = 1000 if unit == "seconds" else 1
-                is_right = abs(scale * metrics[one][1] - now[base]) < (5000 if base in ("running", "session") else 0.5)
+                later = 1000 * (time.monotonic() - since) + 1 if base in ("running", "session") else 0.5
+                is_right = -0.5 <= scale * metrics[one][1] - now[base] <= later
                 checks.count(metrics[one][0] == kind and is_right, f"{name}: {one} is {metrics[one]} beside {now[base]}")
         asks(stage, path, b"stop\n")
         ends(checks, name, relay)

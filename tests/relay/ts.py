@@ -149,13 +149,14 @@ def encoder(checks, stage):
         return
     taken = stage.room / "taken.ts"
     player, frames = End(stage), 150
-    receiver = stage.receive(player.at, "--output", "ts", "--latency", 1000, "--loss", 100)
+    receiver = stage.receive(player.at, "--output", "ts", "--latency", 4000, "--loss", 100)
     sender = stage.send(receiver.at, "--input", "ts", "--loss", 100)
     to = "udp://{}:{}?pkt_size=1316".format(*sender.at)
     words = ["ffmpeg", "-v", "error", "-re", "-f", "lavfi", "-i", "testsrc2=size=320x240:rate=30", "-frames:v", str(frames), "-c:v", "mpeg2video", "-b:v", "2M",
              "-f", "mpegts", to]
     subprocess.run(words, check=True, timeout=120)
-    soon(lambda: [len(player.came), time.sleep(1.2)][0] == len(player.came))
+    # All that came in time for a second, of which nothing more came.
+    soon(lambda: len(player.came) == len(sender.logged("sent")) == [len(player.came), time.sleep(1)][0])
     pathlib.Path(taken).write_bytes(b"".join(player.octets()))
     octets, last, jumps = taken.read_bytes(), {}, 0
     for at in range(0, len(octets), PACKET):
