@@ -19,7 +19,7 @@ def no_packets(seed):
     draw = random.Random(seed)
     made = [HEAD[:length] for length in range(12)]
     made += [bytes([version << 6 | 0]) + HEAD[1:] + b"bad" for version in (0, 1, 3)]
-    made += [packet(96, 9, MEDIA, Content(5, 0, bytes(length))) for length in (1201, 1500, 9000, 65000)]
+    made += [packet(96, 9, MEDIA, Content(5, 0, bytes(length))) for length in (1461, 1500, 9000, 65000)]
     made += [packet(96, 9, MEDIA, Content(5, 0, b"x", ext=bytes(2 + 4 * 17))), bytes([0x8f]) + HEAD[1:] + bytes(59)]
     made += [bytes([0x90]) + HEAD[1:] + b"\xbe\xde\0", bytes([0x90]) + HEAD[1:] + b"\xbe\xde\0\2" + bytes(7)]
     made += [bytes([0xa0]) + HEAD[1:] + b"four" + bytes([count]) for count in (0, 7, 255)]
