@@ -321,6 +321,7 @@ def metrics(checks, stage):
     checks.same((one.returncode, one.stderr), (3, "can't find nowhere\n"), "metrics nowhere")
 
 
+@on_time(0.03)
 def idle(checks, stage):
     """Nobody who asks: a relay whose doors are open takes no processor time, nor does one whose client waits."""
     path = stage.room / "one.sock"
@@ -328,7 +329,7 @@ def idle(checks, stage):
     for _ in range(2):
         before = relay.spent()
         time.sleep(3)
-        checks.count(relay.spent() - before < 0.3, f"it took {relay.spent() - before:.3f} of 3 seconds")
+        checks.count(relay.spent() - before < 0.06, f"it took {relay.spent() - before:.3f} of 3 seconds")
         one = dial(stage, path)
         one.sendall(b"st")
     checks.same(ctl(stage, path, "stop")[0], 0, "stop")

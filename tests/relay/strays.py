@@ -14,12 +14,12 @@ MEDIA, OTHER = 0x1a2b3c4d, 0x55667788
 HEAD = struct.pack(">BBHII", 0x80, 96, 7, 1, MEDIA)
 
 
-def no_packets(seed):
-    """Datagrams that are no packet of the session, in any order: too short, too long, of another version, cut off, drawn."""
+def no_packets(seed, longest):
+    """Datagrams that are no packet of the session, in any order: too short, with too long a payload, of another version, cut off, drawn."""
     draw = random.Random(seed)
     made = [HEAD[:length] for length in range(12)]
     made += [bytes([version << 6 | 0]) + HEAD[1:] + b"bad" for version in (0, 1, 3)]
-    made += [packet(96, 9, MEDIA, Content(5, 0, bytes(length))) for length in (1461, 1500, 9000, 65000)]
+    made += [packet(96, 9, MEDIA, Content(5, 0, bytes(length))) for length in (longest + 1, 1500, 9000, 65000)]
     made += [packet(96, 9, MEDIA, Content(5, 0, b"x", ext=bytes(2 + 4 * 17))), bytes([0x8f]) + HEAD[1:] + bytes(59)]
     made += [bytes([0x90]) + HEAD[1:] + b"\xbe\xde\0", bytes([0x90]) + HEAD[1:] + b"\xbe\xde\0\2" + bytes(7)]
     made += [bytes([0xa0]) + HEAD[1:] + b"four" + bytes([count]) for count in (0, 7, 255)]
@@ -43,7 +43,7 @@ def behind(checks, stage):
     """At the receiving relay: a third address, the player's side, and what is no packet, from the far side itself."""
     name, player, far, third = "behind the network", End(stage), End(stage), stage.keep(udp())
     receiver = stage.receive(player.at, "--packets", 200)
-    contents, bad, rtcp = drawn(3, 200), no_packets(3), reports()
+    contents, bad, rtcp = drawn(3, 200), no_packets(3, receiver.longest), reports()
     for one in reports():
         far.send(one, receiver.at)  # before the session, which none of them makes
     for i, content in enumerate(contents):
@@ -106,7 +106,7 @@ def application(checks, stage):
     name, far = "the application's side", End(stage)
     sender = stage.send(far.at, "--packets", 100)
     app, contents = App(stage, sender.at, ssrc=MEDIA, number=0), drawn(4, 100)
-    bad = [one for one in no_packets(4) if len(one) < 12 or one[0] >> 6 != 2 or len(one) > 1212 or one[8:12] == b"\x55\x66\x77\x88"]
+    bad = [one for one in no_packets(4, sender.longest) if len(one) < 12 or one[0] >> 6 != 2 or len(one) > sender.longest + 12 or one[8:12] == b"\x55\x66\x77\x88"]
     for one in reports():
         app.raw(one)  # before the session, which none of them makes
     for i, content in enumerate(contents):

@@ -141,7 +141,7 @@ def as_rtp(checks, stage):
         relay.stop()
 
 
-@on_time(0.1)
+@on_time(0.03)
 def encoder(checks, stage):
     """FFmpeg's stream through both relays, one in ten datagrams lost both ways: no continuity counter jumps, and each frame is there."""
     if not shutil.which("ffmpeg") or not shutil.which("ffprobe"):
@@ -149,7 +149,7 @@ def encoder(checks, stage):
         return
     taken = stage.room / "taken.ts"
     player, frames = End(stage), 150
-    receiver = stage.receive(player.at, "--output", "ts", "--latency", 4000, "--loss", 100)
+    receiver = stage.receive(player.at, "--output", "ts", "--latency", 1000, "--loss", 100)
     sender = stage.send(receiver.at, "--input", "ts", "--loss", 100)
     to = "udp://{}:{}?pkt_size=1316".format(*sender.at)
     words = ["ffmpeg", "-v", "error", "-re", "-f", "lavfi", "-i", "testsrc2=size=320x240:rate=30", "-frames:v", str(frames), "-c:v", "mpeg2video", "-b:v", "2M",
