@@ -144,12 +144,17 @@ def is_called(words):
     return bool(re.match(rf"no proof: (?:{CALLS}) ", words)) and "did not prove" not in words and "expected" not in words
 
 
+def is_led_on(words):
+    """Whether a function whose proof is by hand, and names that of one which it calls, is told to have none since that one has none."""
+    return words == "not proved" or bool(re.match(r"not proved; .*; it calls `[^`]+`, which is not proved;", words))
+
+
 def is_accounted(functions, batch, told):
     """Whether each function that no edit is in is proved, or not for what it calls: a proof by hand may name another function's."""
     edited = {it.function for it in batch.values()}
     leading = {functions.symbol(it) for it in functions.source.functions if it in edited or functions.reached(it) & edited}
     inside = tuple(functions.closures(it) for it in edited)
-    others = [words for name, words in told.items() if not name.startswith(inside) and not (name in leading and words == "not proved")]
+    others = [words for name, words in told.items() if not name.startswith(inside) and not (name in leading and is_led_on(words))]
     return all(words.startswith("proved") or is_called(words) for words in others)
 
 
