@@ -2,16 +2,21 @@
  * all of these. */
 #include "recv.h"
 
-/* How long an answer is waited for until a round trip is known, in milliseconds. */
-enum { USUAL_TRIP = 60 };
+/* How long an answer is waited for until a round trip is known, in milliseconds: three tenths of the latency, up to the most, and where that is
+ * less than usual up to half of it. */
+enum { USUAL_TRIP = 60, MOST_TRIP = 250 };
+
+static guint64 first_retry(guint64 latency) {
+    guint64 some = MIN(latency * 3 / 10, MOST_TRIP), half = MIN(latency / 2, USUAL_TRIP);
+    return MAX(MAX(some, half), 1);
+}
+
+/* A latency from which on a packet is given up by when it was sent, in milliseconds. Two frames of a slow stream lie farther apart than a shorter
+ * one: the frame between them would be given up as it is missed. */
+enum { LONG_LATENCY = 200 };
 
 /* A delay that no packet is waited for so long: nothing is asked for. */
 #define NEVER ((guint64)G_MAXUINT32 * 2)
-
-/* Until a round trip is known, and where a property says how long an answer is waited for. */
-static guint64 retry_of(const GstGozdritRecv *self) {
-    return self->settings.retry < 0 ? USUAL_TRIP : (guint64)MAX(self->settings.retry, 1);
-}
 
 gozdrit_times asking_times(const GstGozdritRecv *self) {
     gozdrit_times times = GOZDRIT_TIMES_INIT;
@@ -35,13 +40,18 @@ static guint64 latency_of(const GstGozdritRecv *self) {
     return (guint64)MAX(latency + offset, 0);
 }
 
-/* The times follow what the library measures of the path, and a packet is given up by when it was sent, where no property says how
- * long an answer is waited for. */
+/* The times follow what the library measures of the path, where no property says how long an answer is waited for. Until something was measured
+ * two asks fit into the latency, however short that is: else none had its answer in time, and nothing was measured. */
 void asking_set_stream(GstGozdritRecv *self) {
     if (!self->stream->end.held) return;
+    guint8 adaptive = GOZDRIT_ADAPTIVE_OFF;
+    guint64 latency = latency_of(self), delay = self->settings.delay, retry = (guint64)MAX(self->settings.retry, 1);
     gboolean wanted = asks(self);
-    gozdrit_set_times(&self->stream->end, latency_of(self), wanted ? self->settings.delay : NEVER, retry_of(self));
-    gozdrit_set_adaptive(&self->stream->end, wanted && self->settings.retry < 0 ? GOZDRIT_ADAPTIVE_SEND_TIME : GOZDRIT_ADAPTIVE_OFF);
+    if (self->settings.retry < 0) delay = MIN(delay, latency / 10), retry = first_retry(latency);
+    if (wanted && self->settings.retry < 0)
+        adaptive = latency < LONG_LATENCY ? GOZDRIT_ADAPTIVE_NACKS : GOZDRIT_ADAPTIVE_SEND_TIME;
+    gozdrit_set_times(&self->stream->end, latency, wanted ? delay : NEVER, retry);
+    gozdrit_set_adaptive(&self->stream->end, adaptive);
 }
 
 void asking_set(GstGozdritRecv *self) {

@@ -217,7 +217,7 @@ static void install_own(GObjectClass *class) {
     install_uint(class, PROP_LATENCY, "latency", "How long a missing packet is waited for, in ms", 0, G_MAXUINT, 200);
     install_uint(class, PROP_DELAY, "rtx-delay", "How long a missing packet is waited for before the first NACK, in ms: as long as "
                  "the network holds packets back behind later ones, which takes its place once a round trip was measured, where "
-                 "rtx-retry-timeout is -1", 0, G_MAXUINT, 20);
+                 "rtx-retry-timeout is -1; a tenth of the latency is the most there", 0, G_MAXUINT, 20);
     install_int(class, PROP_RETRY, "rtx-retry-timeout", "How long an answer to a NACK is waited for before the next one, in ms "
                 "(-1 == by the round trips that are measured, so that as many NACKs as fit have their answers within the latency)", -1,
                 G_MAXINT, -1);

@@ -216,20 +216,44 @@ static void leaves_twice(receiver *r, guint16 number, guint16 mask) {
     }
 }
 
-/* Once a round trip is known, a packet is asked for as it is noticed to be missing, and as often as fits. */
+/* Once a round trip is known, a packet is asked for as it is noticed to be missing, and as often as fits. Before, it is asked for behind a tenth
+ * of a short latency, so that an answer has its time and a round trip can be known at all. */
 static void test_retry(guint latency, guint64 wait) {
+    guint64 first = MIN(20, latency / 10);
     receiver r = make_receiver(CAPS);
     g_object_set(r.element, "rtx-retry-timeout", -1, "latency", latency, NULL);
     SEND(&r, .sequence = 10);
     SEND(&r, .sequence = 12);
-    TICKS(&r, 20);
+    TICKS(&r, first);
     leaves_twice(&r, 11, 0);
-    set_clock_to(&r, 30); /* the answer to the ask at 20 */
+    set_clock_to(&r, first + 10); /* the answer to that ask */
     REPAIR(&r, 50, .sequence = 11);
     CHECK(count_of(r.element, "rtx-round-trip") == MS(10));
     SEND(&r, .sequence = 14);
     leaves_twice(&r, 13, 0);
-    TICKS(&r, 30 + wait);
+    TICKS(&r, first + 10 + wait);
+    drop_receiver(&r);
+}
+
+/* Frames lie nearly as far apart as the latency: one that is repaired within that since it was missed goes out. */
+static void test_slow_frames(void) {
+    enum { APART = 33, FRAMES = 40, AT = APART * (FRAMES - 1) }; /* the last but one is lost */
+    receiver r = make_receiver(CAPS);
+    g_object_set(r.element, "rtx-retry-timeout", -1, "latency", 40, NULL);
+    for (guint16 i = 0; i < FRAMES; i++) {
+        if (i == FRAMES - 2) continue;
+        set_clock_to(&r, APART * i);
+        SEND(&r, .sequence = i, .pts = MS(APART * i));
+        if (i < FRAMES - 2) COMES(r.media, .sequence = i, .pts = MS(APART * i));
+    }
+    for (int i = 0; i < 2; i++) {
+        TICKS(&r, AT + (i == 0 ? 4 : 24));
+        leaves_twice(&r, FRAMES - 2, 0);
+    }
+    set_clock_to(&r, AT + 30);
+    REPAIR(&r, 50, .sequence = FRAMES - 2, .pts = MS(AT - APART));
+    COMES(r.media, .sequence = FRAMES - 2, .pts = MS(AT - APART));
+    COMES(r.media, .sequence = FRAMES - 1, .pts = MS(AT));
     drop_receiver(&r);
 }
 
@@ -268,5 +292,6 @@ void test_receive(void) {
     test_retry(1000, (1000 - 20) / 49);
     test_retry(110, (110 - 20) / 4);
     test_retry(50, 50 - 20);
+    test_slow_frames();
     test_in_doubt();
 }
