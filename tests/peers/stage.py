@@ -120,14 +120,17 @@ class Stage:
         return self.start(words, **{"stdout": subprocess.DEVNULL, "stderr": self.errors, **where})
 
     def ports(self, count):
-        """Ports of UDP that nobody has, and that the system gives to nobody by itself."""
-        taken = bound_ports()
-        free = [one for one in range(20000, 32000) if one not in taken]
-        return self.drawn.sample(free, count)
+        return free_ports(count, self.drawn)
 
     def path(self, ports, streams, *options):
         """A lossy path of this stage's seed between FRONT, AHEAD, BACK and HOME."""
         return self.run("path", "--seed", self.seed, "--seconds", 120, *options, *ports, *streams)
+
+
+def free_ports(count, drawn=random):
+    """Ports of UDP that nobody has, and that the system gives to nobody by itself."""
+    taken = bound_ports()
+    return drawn.sample([one for one in range(20000, 32000) if one not in taken], count)
 
 
 def bound_ports():
