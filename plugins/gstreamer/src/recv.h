@@ -138,6 +138,12 @@ typedef struct drop_messages {
     gboolean has_told;
 } drop_messages;
 
+/* How much of a stream was lost: of all its packets since a moment, in milliseconds, before which there were so many. */
+typedef struct loss_share {
+    guint64 since, lost, all;
+    gboolean is_much;
+} loss_share;
+
 /* One stream, and what of it is to go out. */
 typedef struct recv_stream {
     gozdrit_receiver end; /* holds one from the first packet on */
@@ -147,6 +153,7 @@ typedef struct recv_stream {
     guint64 last_media; /* when the last packet of the stream came, in milliseconds */
     guint32 newest;     /* the timestamp of the last one that came as media */
     guint8 last_type;   /* its type */
+    loss_share loss;
     asked *asked;       /* GOZDRIT_MAX_STORE of them, or NULL where none was needed */
     rtp_times times;
     arrival *arrivals; /* ARRIVALS of them, by the sequence number */

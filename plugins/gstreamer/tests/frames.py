@@ -65,6 +65,15 @@ def path(options, ports, *streams):
     return subprocess.Popen(words, stdout=subprocess.PIPE, text=True)
 
 
+def hurry(*processes):
+    """Has this process, and others, run at the priority of real time, where the system lets: else a busy machine is taken for the path."""
+    try:
+        for one in (0, *(it.pid for it in processes)):
+            os.sched_setscheduler(one, os.SCHED_FIFO, os.sched_param(20))
+    except PermissionError:
+        pass
+
+
 def counts_of(path):
     """The counts of a path, which is ended."""
     path.terminate()

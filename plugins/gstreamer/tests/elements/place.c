@@ -94,6 +94,44 @@ static void test_asks(void) {
     drop_place(&p);
 }
 
+/* An event is not lost, so each ask is one. */
+static void test_asks_once(void) {
+    place p;
+    make_place(&p);
+    g_object_set(p.r.element, "do-retransmission", TRUE, "rtx-retry-timeout", -1, NULL);
+    SEND(&p.r, .sequence = 10);
+    SEND(&p.r, .sequence = 12);
+    for (guint at = 20; at < 200; at += 60) {
+        TICKS(&p.r, at);
+        GstEvent *request = next_request(&p.r);
+        CHECK(field_of(request ? gst_event_get_structure(request) : NULL, "delay") == at);
+        if (request) gst_event_unref(request);
+    }
+    drop_place(&p);
+}
+
+/* But where more than one in eight of the last second's packets is lost, so is what rtpsession makes of an event: each ask is two then. Here it is
+ * the last one of so many. */
+static void test_asks_twice(guint16 many, gboolean is_much) {
+    place p;
+    make_place(&p);
+    g_object_set(p.r.element, "do-retransmission", TRUE, "rtx-retry-timeout", -1, "latency", 60, "rtx-max-retries", 1, NULL);
+    for (guint16 i = 0; i <= 3 * many; i++) {
+        guint at = 100 * i;
+        if (i % many == many - 1) continue;
+        set_clock_to(&p.r, at);
+        SEND(&p.r, .sequence = i, .pts = MS(at));
+        if (i % many > 0 || i == 0) continue;
+        TICKS(&p.r, at + 6);
+        GstEvent *request = next_request(&p.r);
+        CHECK(field_of(request ? gst_event_get_structure(request) : NULL, "seqnum") == i - 1u);
+        if (request) gst_event_unref(request);
+        TICKS(&p.r, at + 60);
+        CHECK(upstream_requests(&p.r) == (is_much && i == 3 * many));
+    }
+    drop_place(&p);
+}
+
 /* Who took the pad of feedback is asked, whatever do-retransmission says. */
 static void test_feedback_is_taken(void) {
     place p;
@@ -298,6 +336,9 @@ void test_place(void) {
     test_silent();
     test_asked_behind();
     test_asks();
+    test_asks_once();
+    test_asks_twice(4, TRUE);
+    test_asks_twice(10, FALSE);
     test_feedback_is_taken();
     test_long();
     test_long_noise();
