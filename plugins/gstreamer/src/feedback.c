@@ -83,10 +83,10 @@ enum { MUCH = 8 };
 static gboolean loses_much(GstGozdritRecv *self, guint64 now) {
     loss_share *share = &self->stream->loss;
     gozdrit_receive_counts counts = GOZDRIT_RECEIVE_COUNTS_INIT;
-    if (now < share->since + 1000) return share->is_much;
+    if (share->since <= now && now < share->since + 1000) return share->is_much;
     gozdrit_receiver_counts(&self->stream->end, &counts);
     guint64 lost = counts.retransmissions + counts.gaps, all = lost + counts.media;
-    if (all < share->all) *share = (loss_share){0}; /* another session */
+    if (all < share->all || lost < share->lost) *share = (loss_share){0}; /* another session */
     *share = (loss_share){.since = now, .lost = lost, .all = all, .is_much = MUCH * (lost - share->lost) > all - share->all};
     return share->is_much;
 }
