@@ -11,10 +11,6 @@ static guint64 first_retry(guint64 latency) {
     return MAX(MAX(some, half), 1);
 }
 
-/* A latency from which on a packet is given up by when it was sent, in milliseconds. Two frames of a slow stream lie farther apart than a shorter
- * one: the frame between them would be given up as it is missed. */
-enum { LONG_LATENCY = 200 };
-
 /* A delay that no packet is waited for so long: nothing is asked for. */
 #define NEVER ((guint64)G_MAXUINT32 * 2)
 
@@ -40,18 +36,43 @@ static guint64 latency_of(const GstGozdritRecv *self) {
     return (guint64)MAX(latency + offset, 0);
 }
 
-/* The times follow what the library measures of the path, where no property says how long an answer is waited for. Until something was measured
- * two asks fit into the latency, however short that is: else none had its answer in time, and nothing was measured. */
+/* What follows the path where no property says how long an answer is waited for. A packet is given up by when it was sent, too; but not where a
+ * latency has few packets, as the silence that a lost one makes is longer then, and it would be given up at once. */
+static guint8 adaptive_of(const GstGozdritRecv *self) {
+    if (!asks(self) || self->settings.retry >= 0) return GOZDRIT_ADAPTIVE_OFF;
+    return self->stream->came.is_sparse ? GOZDRIT_ADAPTIVE_NACKS : GOZDRIT_ADAPTIVE_SEND_TIME;
+}
+
+/* Until something was measured two asks fit into the latency, however short that is: else none had its answer in time, and nothing was
+ * measured. */
 void asking_set_stream(GstGozdritRecv *self) {
     if (!self->stream->end.held) return;
-    guint8 adaptive = GOZDRIT_ADAPTIVE_OFF;
     guint64 latency = latency_of(self), delay = self->settings.delay, retry = (guint64)MAX(self->settings.retry, 1);
-    gboolean wanted = asks(self);
     if (self->settings.retry < 0) delay = MIN(delay, latency / 10), retry = first_retry(latency);
-    if (wanted && self->settings.retry < 0)
-        adaptive = latency < LONG_LATENCY ? GOZDRIT_ADAPTIVE_NACKS : GOZDRIT_ADAPTIVE_SEND_TIME;
-    gozdrit_set_times(&self->stream->end, latency, wanted ? delay : NEVER, retry);
-    gozdrit_set_adaptive(&self->stream->end, adaptive);
+    gozdrit_set_times(&self->stream->end, latency, asks(self) ? delay : NEVER, retry);
+    gozdrit_set_adaptive(&self->stream->end, adaptive_of(self));
+}
+
+/* More than one in so many packets of a second is much; and fewer than so many in a latency are few. */
+enum { MUCH = 8, FEW = 4 };
+
+void asking_see(GstGozdritRecv *self, guint64 now) {
+    last_second *before = &self->stream->came;
+    gozdrit_receive_counts counts = GOZDRIT_RECEIVE_COUNTS_INIT;
+    if (before->is_known && before->since <= now && now < before->since + 1000) return;
+    gozdrit_receiver_counts(&self->stream->end, &counts);
+    last_second seen = {.is_known = TRUE, .since = now, .lost = counts.retransmissions + counts.gaps};
+    seen.all = seen.lost + counts.media;
+    /* one session, and a clock that goes on */
+    if (before->is_known && before->since < now && before->lost <= seen.lost && before->all < seen.all) {
+        seen.rate = (seen.all - before->all) * 1000 / (now - before->since);
+        seen.loses_much = MUCH * (seen.lost - before->lost) > seen.all - before->all;
+        /* in the second before, too: else an outage is taken for a slow stream */
+        seen.is_sparse = MAX(seen.rate, before->rate) * latency_of(self) < FEW * 1000;
+    }
+    gboolean differs = seen.is_sparse != before->is_sparse;
+    *before = seen;
+    if (differs) gozdrit_set_adaptive(&self->stream->end, adaptive_of(self));
 }
 
 void asking_set(GstGozdritRecv *self) {

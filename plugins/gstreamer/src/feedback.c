@@ -77,23 +77,9 @@ void feedback_set_budget(GstGozdritRecv *self) {
     gozdrit_set_nack_budget(&self->stream->end, earns ? 1 : 0);
 }
 
-/* Whether more than one in so many packets of the last second or so was lost, which is looked at once a second. */
-enum { MUCH = 8 };
-
-static gboolean loses_much(GstGozdritRecv *self, guint64 now) {
-    loss_share *share = &self->stream->loss;
-    gozdrit_receive_counts counts = GOZDRIT_RECEIVE_COUNTS_INIT;
-    if (share->since <= now && now < share->since + 1000) return share->is_much;
-    gozdrit_receiver_counts(&self->stream->end, &counts);
-    guint64 lost = counts.retransmissions + counts.gaps, all = lost + counts.media;
-    if (all < share->all || lost < share->lost) *share = (loss_share){0}; /* another session */
-    *share = (loss_share){.since = now, .lost = lost, .all = all, .is_much = MUCH * (lost - share->lost) > all - share->all};
-    return share->is_much;
-}
-
 /* How often each ask leaves: twice, unless the far side is seen to answer both (0), as a NACK may be lost. An event is not; but where much is
  * lost, so is the RTCP packet that is made of it. */
-static guint8 copies_of(GstGozdritRecv *self, guint64 now) { return feedback_is_taken(self) || loses_much(self, now) ? 0 : 1; }
+static guint8 copies_of(GstGozdritRecv *self) { return feedback_is_taken(self) || self->stream->came.loses_much ? 0 : 1; }
 
 /* The stream's next NACK, or NULL where none is due. */
 static GstBuffer *stream_nack(GstGozdritRecv *self, guint64 now) {
@@ -101,7 +87,7 @@ static GstBuffer *stream_nack(GstGozdritRecv *self, guint64 now) {
     gsize length = 0;
     if (!self->stream->end.held) return NULL;
     feedback_set_budget(self);
-    gozdrit_set_nack_copies(&self->stream->end, copies_of(self, now));
+    gozdrit_set_nack_copies(&self->stream->end, copies_of(self));
     gint32 number = gozdrit_nack(&self->stream->end, now, GOZDRIT_MAX_NACKED, &length, octets, sizeof octets);
     if (number != GOZDRIT_OK || length == 0) return NULL;
     return gst_buffer_new_memdup(octets, length);

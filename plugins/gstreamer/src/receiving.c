@@ -384,6 +384,7 @@ static gint32 receive(GstGozdritRecv *self, GstBuffer *buffer, const guint8 *oct
     guint8 *other = rewritten(self, buffer, octets, &length);
     const guint8 *handed = other ? other : octets;
     if (length >= 12 && PACKET_TYPE(handed) == self->stream->session.rtx_payload_type) self->rtx_came++;
+    asking_see(self, now);
     gint32 number = gozdrit_receive(&self->stream->end, handed, length, now, received);
     g_free(other);
     return number;

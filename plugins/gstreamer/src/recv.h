@@ -138,11 +138,15 @@ typedef struct drop_messages {
     gboolean has_told;
 } drop_messages;
 
-/* How much of a stream was lost: of all its packets since a moment, in milliseconds, before which there were so many. */
-typedef struct loss_share {
+/* What came of a stream and what was lost of it, which is looked at once a second: how many there were of both at that moment, in milliseconds, and
+ * what that said of the second before. */
+typedef struct last_second {
+    gboolean is_known; /* there was such a moment */
     guint64 since, lost, all;
-    gboolean is_much;
-} loss_share;
+    guint64 rate; /* packets a second, of both */
+    gboolean loses_much;
+    gboolean is_sparse; /* a latency has few packets */
+} last_second;
 
 /* One stream, and what of it is to go out. */
 typedef struct recv_stream {
@@ -153,7 +157,7 @@ typedef struct recv_stream {
     guint64 last_media; /* when the last packet of the stream came, in milliseconds */
     guint32 newest;     /* the timestamp of the last one that came as media */
     guint8 last_type;   /* its type */
-    loss_share loss;
+    last_second came;
     asked *asked;       /* GOZDRIT_MAX_STORE of them, or NULL where none was needed */
     rtp_times times;
     arrival *arrivals; /* ARRIVALS of them, by the sequence number */
@@ -308,6 +312,8 @@ void receiving_flush(GstGozdritRecv *self);
 /* Sets the times of the library, of the stream; and of each. */
 void asking_set_stream(GstGozdritRecv *self);
 void asking_set(GstGozdritRecv *self);
+/* Looks at what came in the last second, where one has passed: as a packet of the stream comes. */
+void asking_see(GstGozdritRecv *self, guint64 now);
 /* The least time between two asks, in milliseconds. */
 guint64 asking_step(const GstGozdritRecv *self);
 /* The library's times in force, and the round trip. */

@@ -257,6 +257,27 @@ static void test_slow_frames(void) {
     drop_receiver(&r);
 }
 
+/* Of a stream with many packets in a latency, what was lost in a long silence is given up at once but for the last of it. */
+static void test_outage(void) {
+    enum { APART = 10, BEFORE = 110, AT = 2100 };
+    receiver r = make_receiver(CAPS);
+    g_object_set(r.element, "rtx-retry-timeout", -1, "latency", 100, NULL);
+    for (guint16 i = 0; i < BEFORE; i++) {
+        set_clock_to(&r, APART * i);
+        SEND(&r, .sequence = i, .pts = MS(APART * i));
+        COMES(r.media, .sequence = i, .pts = MS(APART * i));
+    }
+    set_clock_to(&r, AT);
+    SEND(&r, .sequence = AT / APART, .pts = MS(AT));
+    TICKS(&r, AT + APART);
+    GstBuffer *nack = next_buffer(r.feedback);
+    guint8 octets[14] = {0};
+    if (nack) gst_buffer_extract(nack, 0, octets, sizeof octets);
+    CHECK(GST_READ_UINT16_BE(octets + 12) >= (AT - 100) / APART);
+    gst_clear_buffer(&nack);
+    drop_receiver(&r);
+}
+
 /* A packet that stood behind another one in a NACK, and is asked for again, shows no round trip. */
 static void test_in_doubt(void) {
     receiver r = make_receiver(CAPS);
@@ -293,5 +314,6 @@ void test_receive(void) {
     test_retry(110, (110 - 20) / 4);
     test_retry(50, 50 - 20);
     test_slow_frames();
+    test_outage();
     test_in_doubt();
 }
