@@ -4,6 +4,8 @@ use Rattle.std.specs.Prelude.{IsErrAnd}
 use Rattle.rtpwire.specs.declared.content.Content.{Content}
 use Rattle.rtpwire.specs.declared.fault.ContentFault.{ContentFault}
 use Rattle.rtpwire.specs.declared.fault.ContentFault.TheVariants.{TooLong}
+use Rattle.rtpwire.specs.declared.fault.RtpFault.{RtpFault}
+use Rattle.rtpwire.specs.declared.fault.RtpFault.TheVariants.{NoOsn}
 use Rattle.rtpwire.specs.Rtp.{RtpPacket, RtpSpells}
 use Rattle.rtpwire.specs.Content.{IsTooLong, packet_of}
 use Rattle.stores.specs.Span.{Span}
@@ -15,7 +17,7 @@ use Rattle.receiver.specs.Config.{Config}
 use Rattle.receiver.specs.Window.{ReceiverState, window_at, window_of}
 use Rattle.receiver.specs.Streams.{known_to, source_of, stream_of}
 use Rattle.receiver.specs.Receiver.{IsUnlearnt}
-use Rattle.receiver.specs.Heard.{TakesNumber, TakesCarried, Carries, HearsStream, Hears}
+use Rattle.receiver.specs.Heard.{TakesNumber, TakesCarried, Carries, HearsStream, Hears, IsTooShort}
 
 -- an answer that is an error
 pub is_err : (answer : Result Taken ReceiveFault) (fault : ReceiveFault) → IsErrAnd answer (λ e. e ≡ fault) → answer ≡ Err fault
@@ -30,6 +32,28 @@ only_long TooLong answer is = is_err answer (refused.Content TooLong) is
 same_source : (c : Config) (learnt : Option ℕ) (s : Span) (cursor : Option ℕ) → (cursor ≡ None → learnt ≡ None) → source_of c (window_at learnt cursor s) ≡ known_to c learnt
 same_source c learnt s None unlearnt = ap (known_to c) (sym (unlearnt refl))
 same_source c learnt s (Some k) unlearnt = refl
+
+-- a datagram that spells a packet which is refused before the place that it has is looked for
+module _ (c : Config) (learnt : Option ℕ) (s : Span) (unlearnt : IsUnlearnt s learnt) {octets : List ℕ} {p : RtpPacket} (spelled : RtpSpells p octets) (now : ℕ) (answer : Result Taken ReceiveFault) where
+  refuses : (x : Result Stream ReceiveFault) → x ≡ stream_of c.session (known_to c learnt) p → HearsStream s.capacity (window_of learnt s) p now x answer (window_of learnt s)
+      → Hears s.capacity c (window_of learnt s) octets now answer (window_of learnt s)
+  refuses x found heard =
+      record {
+        said = Ok p;
+        says = spelled;
+        heard =
+            subst (λ (y : Result Stream ReceiveFault). HearsStream s.capacity (window_of learnt s) p now y answer (window_of learnt s))
+            (found ∙ ap (λ source. stream_of c.session source p) (sym (same_source c learnt s s.cursor unlearnt))) heard;
+      }
+
+  -- it is of no stream
+  pub hears_stranger : (fault : ReceiveFault) → Err fault ≡ stream_of c.session (known_to c learnt) p → IsErrAnd answer (λ e. e ≡ fault) → Hears s.capacity c (window_of learnt s) octets now answer (window_of learnt s)
+  hears_stranger fault found why = refuses (Err fault) found (is_err answer fault why, refl)
+
+  -- it has no room for an original sequence number
+  pub hears_short : (stream : Stream) → Ok stream ≡ stream_of c.session (known_to c learnt) p → IsTooShort stream p → (fault : RtpFault) → fault ≡ NoOsn → IsErrAnd answer (λ e. e ≡ refused.Rtp fault)
+      → Hears s.capacity c (window_of learnt s) octets now answer (window_of learnt s)
+  hears_short stream found short fault is why = refuses (Ok stream) found (inl (short, is_err answer (refused.Rtp fault) why ∙ ap (λ (f : RtpFault). Err (refused.Rtp f)) is, refl))
 
 -- a datagram that spells a packet of a stream, and what this carries
 module _ (c : Config) (learnt : Option ℕ) (s : Span) (unlearnt : IsUnlearnt s learnt) {octets : List ℕ} {p : RtpPacket} (spelled : RtpSpells p octets) {stream : Stream}

@@ -29,12 +29,16 @@ pub record Stays (old new : Receiving) : Type 0 where
   pub capacity : new.span.capacity ≡ old.span.capacity
   pub is_span : IsSpan new.span
 
--- the receiver that began at a place before it took any, one that took nothing over the same memory, and one with other times
+-- the receiver that began at a place before it took any, one that took nothing over the same memory, one that has the SSRC of the
+-- retransmissions to learn anew, and one with other times
 abbrev pub begun : Receiving → (first : ℕ) → Receiving
 begun r first = record { config = r.config; span = begun_span first r.span.capacity; learnt = None }
 
 abbrev pub restarted : Receiving → Receiving
 restarted r = record { config = r.config; span = empty_span r.span.capacity; learnt = None }
+
+abbrev pub unlearnt : Receiving → Receiving
+unlearnt r = record r { learnt = None }
 
 abbrev pub with_times : Receiving → (patience delay retry : ℕ) → Receiving
 with_times r patience delay retry = record { config = timed r.config patience delay retry; span = r.span; learnt = r.learnt }

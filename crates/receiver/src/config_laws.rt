@@ -8,7 +8,7 @@ ghost use Rattle.receiver.specs.declared.answer.Played.{Played};
 ghost use Rattle.receiver.specs.Config.{Config, config, config_with, learning, delayed, timed};
 ghost use Rattle.receiver.specs.Window.{Missed, ReceiverState, PlaysAny};
 ghost use Rattle.receiver.specs.Asks.{AsksAny};
-ghost use Rattle.receiver.specs.Receiver.{Receiving, state_of, begun, restarted, with_times};
+ghost use Rattle.receiver.specs.Receiver.{Receiving, state_of, begun, restarted, unlearnt, with_times};
 
 /// What a configuration is made of is what it has, and what changes a part of it leaves the rest.
 pub fn configurations_keep_their_fields()
@@ -40,6 +40,8 @@ pub fn receivers_keep_the_rest()
         (s.config ≡ r.config) × (s.span.capacity ≡ r.span.capacity) × (s.span.cursor ≡ Some first) × (s.learnt ≡ None) }
     ensures restarted { (r : Receiving) → let s = restarted r in
         (s.config ≡ r.config) × (s.span.capacity ≡ r.span.capacity) × (state_of s ≡ None) × (s.learnt ≡ None) }
+    // One that forgets the SSRC that it learnt holds and misses what it did.
+    ensures unlearnt { (r : Receiving) → let s = unlearnt r in (s.config ≡ r.config) × (s.span ≡ r.span) × (s.learnt ≡ None) }
 {}
 
 /// A receiver whose times were set goes by them from then on, for the places too that were missing before.

@@ -1,8 +1,9 @@
 //! The receiving end.
-ghost use Rattle.std.specs.Prelude.{◌≡◌, ◌↔◌, ◌+◌, ◌^◌, ◌<◌, ◌≤◌, false, ℕ, length, Option, None, IsNone, IsSomeAnd, IsTrue, IsOk, Ok, Err, OnOk, OnErr};
+ghost use Rattle.std.specs.Prelude.{◌≡◌, ◌↔◌, ◌+◌, ◌^◌, ◌<◌, ◌≤◌, false, ℕ, List, length, Option, None, IsNone, IsSomeAnd, IsTrue, IsOk, Ok, Err, OnOk, OnErr};
 ghost use Rattle.std.specs.Option.{option_map};
 ghost use Rattle.std.specs.Result.{result_err};
 ghost use Rattle.rtpwire.specs.FirstOf.{FirstOf};
+ghost use Rattle.rtpwire.specs.Rtp.{RtpSpells};
 ghost use Rattle.stores.specs.ByPlace.{slot_at};
 ghost use Rattle.stores.specs.Asking.{has_come};
 ghost use Rattle.receiver.specs.Asks.{AsksAny, AsksInto, AsksMost, AsksMostInto, CountsMissing, AsksWithin};
@@ -13,7 +14,7 @@ ghost use Rattle.receiver.specs.Heard.{Hears, WasAsked};
 ghost use Rattle.receiver.specs.Fault.{receive_number};
 ghost use Rattle.receiver.specs.Order.{hearing_order};
 ghost use Rattle.receiver.specs.Finding.{FindsPlace};
-ghost use Rattle.receiver.specs.Receiver.{state_of, begun, restarted, with_times, IsUnlearnt, Stays};
+ghost use Rattle.receiver.specs.Receiver.{state_of, begun, restarted, unlearnt, with_times, IsUnlearnt, Stays};
 ghost use Rattle.receiver.specs.Peeking.{played_of, is_ready, play_of, passed, receiver_passed};
 ghost use Rattle.stores.specs.Lent.{slot_of};
 
@@ -103,6 +104,32 @@ impl<W: Window> Receiver<W> {
             octets,
             now,
         )
+    }
+
+    /// The same of a packet, for a caller that has read it: what [`on_media`](Receiver::on_media) answers to octets that spell it.
+    pub fn on_packet(&mut self, packet: &RtpView<'_>, now: u64) -> Result<Taken, ReceiveFault>
+        ensures hears { (octets : List ℕ) → RtpSpells packet.now octets → Hears self.old.span.capacity self.old.config (state_of self.old) octets now result (state_of self.new) }
+        ensures err { OnErr result (self.new ≡ self.old) }
+        ensures stays { Stays self.old self.new }
+    {
+        // Its octets are a witness that there are some.
+        let _ = packet.octets();
+        hear_packet(
+            &mut self.window,
+            &mut self.learnt,
+            &self.config,
+            packet,
+            now,
+        )
+    }
+
+    /// Forgets the SSRC of the retransmissions, where it was learnt: so the next one that repairs what was asked for is learnt anew. All
+    /// else stays.
+    pub fn forget_source(&mut self)
+        ensures forgets { self.new ≡ unlearnt self.old }
+        ensures stays { Stays self.old self.new }
+    {
+        self.learnt = None;
     }
 
     /// The SSRC of the retransmissions: the session's, or the one that was learnt, where the receiver
@@ -270,8 +297,8 @@ impl<W: Window> Receiver<W> {
     pub fn restart(&mut self)
         ensures { self.new ≡ restarted self.old }
     {
+        self.forget_source();
         self.window.clear();
-        self.learnt = None;
     }
 
     /// Sets its times, in milliseconds: the patience, the delay before the first ask, and how long until a place is asked
@@ -313,7 +340,7 @@ impl<W: Window> Receiver<W> {
     }
 }
 
-/// Hears a datagram: its packet, its stream, what it carries, and then the place of that.
+/// Hears a datagram: the packet that it is.
 fn hear<W: Window>(
     window: &mut W,
     learnt: &mut Option<u32>,
@@ -328,12 +355,31 @@ fn hear<W: Window>(
     ensures unlearnt { IsUnlearnt (W.meaning window.new) learnt.new }
     ensures capacity { (W.meaning window.new).capacity ≡ (W.meaning window.old).capacity }
 {
+    let packet = RtpView::read(octets)?;
+    hear_packet(window, learnt, config, &packet, now)
+}
+
+/// Hears a packet: its stream, what it carries, and then the place of that.
+fn hear_packet<W: Window>(
+    window: &mut W,
+    learnt: &mut Option<u32>,
+    config: &ReceiverConfig,
+    packet: &RtpView<'_>,
+    now: u64,
+) -> Result<Taken, ReceiveFault>
+    requires { IsUnlearnt (W.meaning window.old) learnt.old }
+    ensures hears { (octets : List ℕ) → RtpSpells packet.now octets
+        → Hears (W.meaning window.old).capacity config.now (window_of learnt.old (W.meaning window.old)) octets now result (window_of learnt.new (W.meaning window.new)) }
+    ensures err { OnErr result (W.meaning window.new ≡ W.meaning window.old) }
+    ensures err_learnt { OnErr result (learnt.new ≡ learnt.old) }
+    ensures unlearnt { IsUnlearnt (W.meaning window.new) learnt.new }
+    ensures capacity { (W.meaning window.new).capacity ≡ (W.meaning window.old).capacity }
+{
     window_by_place();
-    let view = RtpView::read(octets)?;
-    let stream = stream_of(config, *learnt, &view)?;
-    let (seq, payload) = carried_in(stream, &view)?;
+    let stream = stream_of(config, *learnt, packet)?;
+    let (seq, payload) = carried_in(stream, packet)?;
     // What is carried is copied by the window alone, once the place is taken.
-    let content = Carried::with_payload(&view, payload)?;
+    let content = Carried::with_payload(packet, payload)?;
     let place = place_for(window, stream, seq)?;
     let overrun = window.put_from(place, &content, now)?;
     if let Stream::Candidate(ssrc) = stream {

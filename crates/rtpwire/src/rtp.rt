@@ -63,6 +63,13 @@ impl<'a> RtpView<'a> {
         }
     }
 
+    /// The octets that spell it, as they were read.
+    pub fn octets(&self) -> &'a [u8]
+        ensures { RtpSpells self.now result.now }
+    {
+        self.octets
+    }
+
     /// The marker bit.
     pub fn marker(&self) -> bool
         ensures { result ≡ self.now.marker }
