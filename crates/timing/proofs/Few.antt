@@ -1,9 +1,9 @@
 -- How few stay lost behind asks.
-use Rattle.std.proofs.Common.{◌≡◌, ◌<◌, ◌≤◌, ◌+◌, ◌-◌, ◌*◌, ◌/◌, ◌^◌, ◌==◌, ℕ, zero, suc, Bool, true, false, nat_le, refl, ap, ◌∙◌, arith, if◌then◌else◌}
+use Rattle.std.proofs.Common.{◌≡◌, ◌<◌, ◌≤◌, ◌+◌, ◌-◌, ◌*◌, ◌/◌, ◌^◌, ◌==◌, ◌&&◌, ℕ, zero, suc, Bool, true, false, nat_le, nat_lt, ◌↔◌, refl, ap, ◌∙◌, arith, if◌then◌else◌}
 use Rattle.std.proofs.Math.Nat.{mul-le-mul, mul-div_cancel, pow-suc, pow-zero}
 use Rattle.std.proofs.lemmas.Bool.Decides.{nat_tests}
 use Rattle.timing.specs.Capped.{capped}
-use Rattle.timing.specs.Losses.{asks_where, lost_of}
+use Rattle.timing.specs.Losses.{are_many, asks_where, lost_of}
 use Rattle.timing.specs.declared.losses.Tally.{Tally}
 
 uncapped : (n taken : ℕ) → taken + 1 < 2 ^ 64 → nat_le (capped n) taken ≡ true → n ≤ taken
@@ -95,3 +95,9 @@ all_needed t none short = by t.measured refl
     by zero nothing = let is : (t.measured == 0) ≡ true = grind (arith, nat_tests, nothing) in
         ap (λ (b : Bool). if b then t.repaired else capped (t.repaired * (t.measured - t.needless)) / t.measured) is
     by (suc measured) some = with_share measured t some ∙ whole measured some
+
+pub many : (t : Tally) → lost_of t * 8 < 2 ^ 64 → (are_many t ≡ true) ↔ ((4 ≤ lost_of t) × (t.taken < lost_of t * 8))
+many t fits = by (lost_of t) fits
+  where
+    by : (lost : ℕ) → lost * 8 < 2 ^ 64 → ((nat_le 4 lost && nat_lt t.taken (capped (lost * 8))) ≡ true) ↔ ((4 ≤ lost) × (t.taken < lost * 8))
+    by lost short = (λ is. (grind (arith, nat_tests, is, short), grind (arith, nat_tests, is, short)), λ more. grind (arith, nat_tests, more.0, more.1, short))

@@ -1,10 +1,12 @@
 -- When packets were sent that were lost in a silence.
-use Rattle.std.proofs.Common.{◌≡◌, ◌<◌, ◌≤◌, ◌-◌, ◌*◌, ◌/◌, ◌&&◌, ◌==◌, ℕ, Bool, true, false, min, not, nat_lt, refl, arith, if◌then◌else◌}
+use Rattle.std.proofs.Common.{◌<◌, ◌≤◌, ◌-◌, ◌*◌, ◌/◌, ◌&&◌, ◌==◌, ◌≡◌, ℕ, Bool, true, false, min, not, nat_le, nat_lt, Option, Some, refl, arith, if◌then◌else◌}
 use Rattle.std.proofs.Math.Nat.{div-mul-le_self, div-le_of_le-mul, mul-le-mul_left, mul-le-mul_right}
 use Rattle.std.proofs.lemmas.Bool.Decides.{nat_tests}
 use Rattle.std.proofs.lemmas.Nat.{le-div}
 use Rattle.timing.specs.Capped.{capped}
-use Rattle.timing.specs.Silence.{lead_of}
+use Rattle.timing.specs.Arrivals.{is_longer, longer}
+use Rattle.timing.specs.Silence.{is_long, lead_of}
+use Rattle.timing.specs.declared.arrivals.Arrivals.{Arrivals}
 use Rattle.timing.specs.declared.silence.Silence.{Silence}
 
 -- whether a place was lost in it, and its packet's lead where it was
@@ -62,3 +64,11 @@ slower_by false s place = grind (arith)
 
 pub no_slower : (s : Silence) (place : ℕ) → place < s.above → lead_of s place * s.peak ≤ (s.above - place) * 1000
 no_slower s place below = slower_by (is_in s place) s place
+
+few_by : (b : Bool) (a : Arrivals) (cursor : Option ℕ) (least : ℕ) (s : Silence) → (is_longer a.silence cursor s && nat_le least s.length && is_long s) ≡ b
+    → s.length * s.peak < 4000 → (if b then record a { silence = Some s } else a) ≡ a
+few_by true a cursor least s is short = absurd (grind (arith, nat_tests, is, short))
+few_by false a cursor least s is short = refl
+
+pub few : (a : Arrivals) (cursor : Option ℕ) (least : ℕ) (s : Silence) → s.length * s.peak < 4000 → longer a cursor least s ≡ a
+few a cursor least s short = few_by (is_longer a.silence cursor s && nat_le least s.length && is_long s) a cursor least s refl short

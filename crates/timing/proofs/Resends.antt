@@ -3,7 +3,7 @@ use Rattle.std.proofs.Common.{◌≡◌, ◌<◌, ◌≤◌, ◌+◌, ◌-◌, �
 use Rattle.std.proofs.Math.Nat.{suc-mul}
 use Rattle.std.proofs.lemmas.Bool.Decides.{nat_tests}
 use Rattle.timing.specs.Capped.{capped}
-use Rattle.timing.specs.ResendInterval.{answered_after, heard_after, answers_heard, interval_at, interval_with, least_at, queue_of, queued_at, resent_at, resent_many, TakeAtLeast}
+use Rattle.timing.specs.ResendInterval.{answered_after, heard_after, answers_heard, interval_at, interval_with, least_at, packet_time, queue_of, queued_at, resent_at, resent_many, TakeAtLeast}
 use Rattle.timing.specs.declared.resend_interval.ResendInterval.{ResendInterval}
 
 -- one more answer that took so long: what was known is raised by an eighth of what was known at first, or to that
@@ -93,49 +93,56 @@ at_once r took = by r.answer
     by None = omega arith
     by (Some before) = omega arith
 
--- a packet that is retransmitted adds a gap, behind what left at the same moment, and changes nothing else
-record Adds (many : ℕ) (r after : ResendInterval) (now : ℕ) : Type 0 where
+-- a packet that is retransmitted adds what the path takes for it, behind what left at the same moment, and changes nothing else
+record Adds (many time : ℕ) (r after : ResendInterval) (now : ℕ) : Type 0 where
   answer : after.answer ≡ r.answer
   gap : after.gap ≡ r.gap
-  busy : 0 < many → now * 4096 + many * r.gap ≤ after.busy
+  busy : 0 < many → now * 4096 + many * time ≤ after.busy
 
-one_adds : (many : ℕ) (r before : ResendInterval) (now : ℕ) → now * 4096 + suc many * r.gap < 2 ^ 64 → Adds many r before now → Adds (suc many) r (resent_at before now) now
-one_adds many r before now fits added =
+one_adds : (many time : ℕ) (r before : ResendInterval) (now : ℕ) → packet_time r ≡ time → now * 4096 + suc many * time < 2 ^ 64
+    → Adds many time r before now → Adds (suc many) time r (resent_at before now) now
+one_adds many time r before now is_time fits added =
     record { answer = added.answer; gap = added.gap; busy = λ some. by many refl }
   where
-    by : (n : ℕ) → many ≡ n → now * 4096 + suc many * r.gap ≤ (resent_at before now).busy
-    by zero is =
-        let g = added.gap in
-        let product : suc many * r.gap ≡ r.gap = suc-mul many r.gap ∙ subst (λ n. n * r.gap + r.gap ≡ r.gap) (sym is) (omega arith) in
-        omega (arith, g, product, fits)
-    by (suc n) is =
-        let g = added.gap in
-        let b = added.busy (omega (arith, is)) in
-        let product = suc-mul many r.gap in
-        omega (arith, g, b, product, fits)
+    one : packet_time before ≡ time
+    one = ap (λ gap. min gap 20480) added.gap ∙ is_time
 
-adds : (many : ℕ) (r : ResendInterval) (now : ℕ) → now * 4096 + many * r.gap < 2 ^ 64 → Adds many r (resent_many r now many) now
+    by : (n : ℕ) → many ≡ n → now * 4096 + suc many * time ≤ (resent_at before now).busy
+    by zero is =
+        let product : suc many * time ≡ time = suc-mul many time ∙ subst (λ n. n * time + time ≡ time) (sym is) (omega arith) in
+        omega (arith, one, product, fits)
+    by (suc n) is =
+        let b = added.busy (omega (arith, is)) in
+        let product = suc-mul many time in
+        omega (arith, one, b, product, fits)
+
+adds : (many time : ℕ) (r : ResendInterval) (now : ℕ) → packet_time r ≡ time → now * 4096 + many * time < 2 ^ 64 → Adds many time r (resent_many r now many) now
 unfolding resent_many
-adds zero r now fits = record { answer = refl; gap = refl; busy = λ some. absurd (omega (arith, some)) }
-adds (suc many) r now fits =
-    let product = suc-mul many r.gap in
-    one_adds many r (resent_many r now many) now fits (adds many r now (omega (arith, fits, product)))
+adds zero time r now is_time fits = record { answer = refl; gap = refl; busy = λ some. absurd (omega (arith, some)) }
+adds (suc many) time r now is_time fits =
+    let product = suc-mul many time in
+    one_adds many time r (resent_many r now many) now is_time fits (adds many time r now is_time (omega (arith, fits, product)))
 
 -- so much is still taken behind packets that left at once
-taken : (r : ResendInterval) (now many : ℕ) → now * 4096 + many * r.gap < 2 ^ 64 → many * r.gap / 4096 ≤ queued_at (resent_many r now many) now
-taken r now many fits = by many refl (adds many r now fits).busy
+taken : (r : ResendInterval) (now many time : ℕ) → packet_time r ≡ time → now * 4096 + many * time < 2 ^ 64 → many * time / 4096 ≤ queued_at (resent_many r now many) now
+taken r now many time is_time fits = by many refl (adds many time r now is_time fits).busy
   where
-    by : (n : ℕ) → many ≡ n → (0 < many → now * 4096 + many * r.gap ≤ (resent_many r now many).busy) → many * r.gap / 4096 ≤ queued_at (resent_many r now many) now
+    by : (n : ℕ) → many ≡ n → (0 < many → now * 4096 + many * time ≤ (resent_many r now many).busy) → many * time / 4096 ≤ queued_at (resent_many r now many) now
     by zero none busy =
-        let product : many * r.gap ≡ 0 = subst (λ n. n * r.gap ≡ 0) (sym none) (omega arith) in
+        let product : many * time ≡ 0 = subst (λ n. n * time ≡ 0) (sym none) (omega arith) in
         omega (arith, product)
     by (suc n) some busy = let b = busy (omega (arith, some)) in omega (arith, b, fits)
 
-pub behind : (r : ResendInterval) (answer now many least : ℕ) → r.answer ≡ Some answer → now * 4096 + many * r.gap < 2 ^ 64
-    → answer < 2 * (many * r.gap / 4096) → answer + many * r.gap / 4096 < 2 ^ 64 → answer + many * r.gap / 4096 ≤ interval_at (resent_many r now many) least now
-behind r answer now many least is fits some short =
+behind_by : (r : ResendInterval) (answer now many least time : ℕ) → packet_time r ≡ time → r.answer ≡ Some answer → now * 4096 + many * time < 2 ^ 64
+    → answer < 2 * (many * time / 4096) → answer + many * time / 4096 < 2 ^ 64 → answer + many * time / 4096 ≤ interval_at (resent_many r now many) least now
+behind_by r answer now many least time is_time is fits some short =
     let after = resent_many r now many in
-    let still = taken r now many fits in
+    let still = taken r now many time is_time fits in
     let at = taken_of answer (least_at after now) (queued_at after now) (omega (arith, still, some)) in
-    subst (λ a. answer + many * r.gap / 4096 ≤ interval_with a (least_at after now) (queued_at after now) least) (sym ((adds many r now fits).answer ∙ is))
-    (subst (λ queue. answer + many * r.gap / 4096 ≤ max least queue) (sym at) (omega (arith, still, short)))
+    subst (λ a. answer + many * time / 4096 ≤ interval_with a (least_at after now) (queued_at after now) least) (sym ((adds many time r now is_time fits).answer ∙ is))
+    (subst (λ queue. answer + many * time / 4096 ≤ max least queue) (sym at) (omega (arith, still, short)))
+
+pub behind : (r : ResendInterval) (answer now many least : ℕ) → r.answer ≡ Some answer → now * 4096 + many * packet_time r < 2 ^ 64
+    → answer < 2 * (many * packet_time r / 4096) → answer + many * packet_time r / 4096 < 2 ^ 64
+    → answer + many * packet_time r / 4096 ≤ interval_at (resent_many r now many) least now
+behind r answer now many least = behind_by r answer now many least (packet_time r) refl

@@ -2,7 +2,7 @@
 use Rattle.std.specs.Prelude.{ℕ, ◌+◌, ◌-◌, Bool, true, ◌||◌, ◌&&◌, nat_le, nat_lt, Option, Some, None, if◌then◌else◌}
 use Rattle.timing.specs.Capped.{capped}
 use Rattle.timing.specs.Lately.{seen_none, seen_at, greatest_at}
-use Rattle.timing.specs.Silence.{lead_of}
+use Rattle.timing.specs.Silence.{is_long, lead_of}
 use Rattle.timing.specs.declared.arrivals.Arrivals.{Arrivals}
 use Rattle.timing.specs.declared.silence.Silence.{Silence}
 
@@ -26,7 +26,7 @@ is_longer None cursor s = true
 is_longer (Some old) cursor s = is_over old cursor || nat_le old.length s.length
 
 abbrev pub longer : Arrivals → (cursor : Option ℕ) → (least : ℕ) → Silence → Arrivals
-longer a cursor least s = if is_longer a.silence cursor s && nat_le least s.length then record a { silence = Some s } else a
+longer a cursor least s = if is_longer a.silence cursor s && nat_le least s.length && is_long s then record a { silence = Some s } else a
 
 -- a packet above all others ends a silence
 abbrev pub kept_since : Arrivals → (last highest cursor : Option ℕ) → (least place now : ℕ) → Arrivals

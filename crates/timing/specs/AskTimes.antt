@@ -1,5 +1,5 @@
 -- When missing places are asked for, so that as many asks as can be answered in time are made. All times are in milliseconds.
-use Rattle.std.specs.Prelude.{ℕ, ◌+◌, ◌-◌, ◌*◌, ◌/◌, ◌==◌, min, max, if◌then◌else◌}
+use Rattle.std.specs.Prelude.{ℕ, Bool, ◌+◌, ◌-◌, ◌*◌, ◌/◌, ◌==◌, min, max, if◌then◌else◌}
 use Rattle.timing.specs.Capped.{capped}
 use Rattle.timing.specs.declared.ask_times.AskTimes.{AskTimes}
 use Rattle.timing.specs.declared.round_trip.Smoothed.{Smoothed}
@@ -17,9 +17,13 @@ idle_answer least reordering = capped (capped (least + reordering) + 5)
 abbrev pub spacing_of : Smoothed → (least reordering : ℕ) → ℕ
 spacing_of s least reordering = min (answer_of s) (idle_answer least reordering)
 
+-- The same without the variation, where many are lost: what has no answer by then was lost more likely than not.
+abbrev pub answer_where : (many : Bool) → Smoothed → ℕ
+answer_where many s = if many then capped (s.time / 8 + 5) else answer_of s
+
 -- No more than half of the patience, so that two asks have their answers in time, unless an answer takes longer where no queue is on the way.
-abbrev pub twice_of : Smoothed → (idle patience : ℕ) → ℕ
-twice_of s idle patience = min (answer_of s) (max idle (patience / 2))
+abbrev pub twice_of : (answer idle patience : ℕ) → ℕ
+twice_of answer idle patience = min answer (max idle (patience / 2))
 
 -- Asks that are `spacing` apart or more, of which the first has so much time that its answer is in time: how far apart they are, so
 -- that as many as fit are spread over that room. Where no second one fits, it comes when the place is given up.

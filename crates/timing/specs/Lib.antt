@@ -10,3 +10,4 @@ pub mod Path
 pub mod Sightings
 pub mod ResendInterval
 pub mod FeedbackBudget
+pub mod NackRoom

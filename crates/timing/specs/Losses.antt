@@ -1,5 +1,5 @@
 -- How much of a stream is lost, and how much only late. (The rules are this project's own.)
-use Rattle.std.specs.Prelude.{ℕ, Bool, ◌+◌, ◌-◌, ◌*◌, ◌/◌, ◌==◌, nat_le, nat_lt, Option, Some, None, if◌then◌else◌}
+use Rattle.std.specs.Prelude.{ℕ, Bool, ◌+◌, ◌-◌, ◌*◌, ◌/◌, ◌==◌, ◌&&◌, nat_le, nat_lt, Option, Some, None, if◌then◌else◌}
 use Rattle.timing.specs.Capped.{capped}
 use Rattle.timing.specs.declared.losses.Losses.{Losses}
 use Rattle.timing.specs.declared.losses.Tally.{Tally}
@@ -52,6 +52,10 @@ needless_at l now = record (turned_at l now) { recent = record (turned_at l now)
 -- of the retransmissions the share that was not needless
 abbrev pub lost_of : Tally → ℕ
 lost_of t = if t.measured == 0 then t.repaired else capped (t.repaired * (t.measured - t.needless)) / t.measured
+
+-- four were lost at least, and more than one in eight
+abbrev pub are_many : Tally → Bool
+are_many t = nat_le 4 (lost_of t) && nat_lt t.taken (capped (lost_of t * 8))
 
 -- how many asks are to fit where so many of those that were taken were lost
 abbrev pub asks_where : (lost taken : ℕ) → ℕ

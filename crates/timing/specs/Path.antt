@@ -2,9 +2,9 @@
 use Rattle.std.specs.Prelude.{ℕ, Bool, true, false, ◌+◌, ◌-◌, ◌/◌, ◌==◌, ◌&&◌, nat_lt, nat_le, max, min, Option, Some, None, if◌then◌else◌}
 use Rattle.timing.specs.Arrivals.{none_came}
 use Rattle.timing.specs.Capped.{capped}
-use Rattle.timing.specs.AskTimes.{ask_times, idle_answer, spacing_of, twice_of}
+use Rattle.timing.specs.AskTimes.{answer_of, answer_where, ask_times, idle_answer, spacing_of, twice_of}
 use Rattle.timing.specs.Lately.{seen_none, seen_at, greatest_at}
-use Rattle.timing.specs.Losses.{asks_for, both, needless_at, none_lost, repaired_at, taken_at, turned_at}
+use Rattle.timing.specs.Losses.{are_many, asks_for, both, needless_at, none_lost, repaired_at, taken_at, turned_at}
 use Rattle.timing.specs.RoundTrip.{heard_at, heard_original, least_of, measured_none, queued_in}
 use Rattle.timing.specs.declared.ask_times.AskTimes.{AskTimes}
 use Rattle.timing.specs.declared.losses.Losses.{Losses}
@@ -58,6 +58,10 @@ first_times patience reordering = if reordering == 0 then None else Some (record
 abbrev pub asks_at : Losses → (now : ℕ) → Option ℕ
 asks_at l now = asks_for (both (turned_at l now).recent (turned_at l now).before)
 
+-- many are lost
+abbrev pub many_at : Losses → (now : ℕ) → Bool
+many_at l now = are_many (both (turned_at l now).recent (turned_at l now).before)
+
 -- All that is late is waited for where hardly anything is lost, and an ask still has its answer in time then.
 abbrev pub waits_for_all : (asks answer patience reordering : ℕ) → Bool
 waits_for_all asks answer patience reordering = asks == 0 && nat_le (capped (reordering + answer)) patience
@@ -78,18 +82,18 @@ fitting_for asks s answer patience reordering =
 abbrev pub idle_where : (least reordering : ℕ) → ℕ
 idle_where least reordering = if least == 60000 then 0 else idle_answer least reordering
 
--- Where hardly any packet comes late, asks lie as far apart as an answer takes mostly, and so a queue that fills lays them farther apart; but
--- two have their answers in time, where they have them over a path without a queue. Where many do, they lie as close as the least that one took of
+-- Where hardly any packet comes late, asks lie as far apart as an answer takes mostly, and so a queue that fills lays them farther apart; or as
+-- one takes on the mean, where many are lost; the last one has its answer in time mostly, there too. But two have their answers in time, where they have them over a path without a queue. Where many do, they lie as close as the least that one took of
 -- late allows, and a queue takes its part of the patience.
-abbrev pub times_known : (asks : Option ℕ) → Smoothed → RoundTrip → (patience reordering now : ℕ) → AskTimes
-times_known None s t patience reordering now =
-    ask_times (twice_of s (idle_where (least_of t now) reordering) patience) patience (half_of s reordering) 1
-times_known (Some asks) s t patience reordering now =
+abbrev pub times_known : (asks : Option ℕ) → (many : Bool) → Smoothed → RoundTrip → (patience reordering now : ℕ) → AskTimes
+times_known None many s t patience reordering now =
+    ask_times (twice_of (answer_where many s) (idle_where (least_of t now) reordering) patience) (patience - (answer_of s - answer_where many s)) (half_of s reordering) 1
+times_known (Some asks) many s t patience reordering now =
     fitting_for asks s (spacing_of s (least_of t now) reordering) (patience - queued_in t now) reordering
 
 abbrev pub times_with : Option Smoothed → Path → (patience now : ℕ) → Option AskTimes
 times_with None p patience now = first_times patience (waited_for (greatest_at p.reordering now))
-times_with (Some s) p patience now = Some (times_known (asks_at p.losses now) s p.trip patience (waited_for (greatest_at p.reordering now)) now)
+times_with (Some s) p patience now = Some (times_known (asks_at p.losses now) (many_at p.losses now) s p.trip patience (waited_for (greatest_at p.reordering now)) now)
 
 -- the times of asks
 abbrev pub times_over : Path → (patience now : ℕ) → Option AskTimes

@@ -21,9 +21,13 @@ gap_after (Some last) mean now = mean_after mean (min (now - last) 100)
 abbrev pub sent_at : ResendInterval → (now : ℕ) → ResendInterval
 sent_at r now = record r { gap = gap_after r.last r.gap now; last = Some now }
 
+-- how long a path takes for a packet, in parts: as lies between two packets of media, on the mean, and 5 milliseconds at most
+abbrev pub packet_time : ResendInterval → ℕ
+packet_time r = min r.gap 20480
+
 -- A packet was retransmitted: what left before it, and then it, would be taken at the rate of the media.
 abbrev pub resent_at : ResendInterval → (now : ℕ) → ResendInterval
-resent_at r now = record r { busy = capped (max r.busy (capped (now * 4096)) + r.gap) }
+resent_at r now = record r { busy = capped (max r.busy (capped (now * 4096)) + packet_time r) }
 
 -- How long an answer takes, where one more took so long: what is shorter counts at once, and what is longer raises it by an eighth and
 -- a millisecond at most.

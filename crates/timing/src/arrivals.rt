@@ -39,7 +39,7 @@ impl Arrivals {
     }
 
     /// The media packet of a place came at the moment `now`, where the highest place was `highest`, and `cursor` the next one to play.
-    /// A silence is told that was no shorter than `least`. Moments and spans are in milliseconds.
+    /// A silence is told that was no shorter than `least`, nor than four of the stream's gaps ([`Silence::is_long`]). Moments and spans are in milliseconds.
     pub fn come(
         &mut self,
         highest: Option<Place>,
@@ -117,7 +117,7 @@ impl Arrivals {
             Some(old) => is_over(&old, cursor) || old.length <= silence.length,
             None => true,
         };
-        if is_kept && silence.length >= least {
+        if is_kept && silence.length >= least && silence.is_long() {
             self.silence = Some(silence);
         }
     }

@@ -1,6 +1,6 @@
 //! When missing places are asked for, so that as many asks as can be answered in time are made.
-ghost use Rattle.std.specs.Prelude.{◌≡◌, ◌<◌};
-ghost use Rattle.timing.specs.AskTimes.{ask_times, answer_of, idle_answer, spacing_of, twice_of};
+ghost use Rattle.std.specs.Prelude.{◌≡◌, ◌<◌, ◌≤◌};
+ghost use Rattle.timing.specs.AskTimes.{answer_of, answer_where, ask_times, idle_answer, spacing_of, twice_of};
 
 use crate::round_trip::Smoothed;
 
@@ -61,14 +61,28 @@ impl Smoothed {
         self.answer().min(idle_answer(least, reordering))
     }
 
-    /// The same where two asks are to have their answers in time: no more than half of the patience, unless an answer takes longer, `idle`, with no
-    /// queue on the way. What a full queue dropped is asked for again so, when that may have emptied, and the far side, which knows what it
-    /// sent and when, passes over what is asked for too soon.
-    pub fn twice(&self, idle: u64, patience: u64) -> u64
-        ensures { result ≡ twice_of self.now idle patience }
+    /// How long it takes mostly, or, where many are lost, on the mean: what has no answer by then was lost more likely than not, and the answer of one
+    /// more ask is worth more than one that comes twice.
+    pub fn answer_where(&self, many: bool) -> u64
+        ensures value { result ≡ answer_where many self.now }
+        ensures some_time { 0 < result }
+        ensures sooner { result ≤ answer_of self.now }
     {
-        self.answer().min(idle.max(patience / 2))
+        if many {
+            (self.time / 8).saturating_add(5)
+        } else {
+            self.answer()
+        }
     }
+}
+
+/// How long an answer is taken to take where two asks are to have theirs in time: no more than half of the patience, unless one takes longer, `idle`,
+/// with no queue on the way. What a full queue dropped is asked for again so, when that may have emptied, and the far side, which knows what it
+/// sent and when, passes over what is asked for too soon.
+pub(crate) fn twice(answer: u64, idle: u64, patience: u64) -> u64
+    ensures { result ≡ twice_of answer idle patience }
+{
+    answer.min(idle.max(patience / 2))
 }
 
 /// How long an answer takes where no queue is on the way, by the least that one took of late, and by what packets overtake each other by.

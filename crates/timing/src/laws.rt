@@ -1,5 +1,6 @@
 //! Laws on what is measured of a path and on the times of asks. These functions compute nothing: their contracts are the laws.
-ghost use Rattle.std.specs.Prelude.{◌≡◌, ◌<◌, ◌≤◌, ◌+◌, ◌-◌, ◌*◌, ◌/◌, ◌^◌, ◌∷◌, [], ◌⊎◌, ℕ, List, length, min, Option, Some, None, false, true, IsSomeAnd};
+ghost use Rattle.std.specs.Prelude.{◌≡◌, ◌↔◌, ◌<◌, ◌≤◌, ◌+◌, ◌-◌, ◌*◌, ◌/◌, ◌^◌, ◌∷◌, [], ◌⊎◌, ℕ, Bool, List, length, max, min, Option, Some, None, false, true, IsSomeAnd};
+ghost use Rattle.timing.specs.declared.arrivals.Arrivals.{Arrivals};
 ghost use Rattle.timing.specs.declared.feedback_budget.FeedbackBudget.{FeedbackBudget};
 ghost use Rattle.timing.specs.declared.losses.Tally.{Tally};
 ghost use Rattle.timing.specs.declared.round_trip.Probe.{Probe};
@@ -8,13 +9,15 @@ ghost use Rattle.timing.specs.declared.round_trip.Smoothed.{Smoothed};
 ghost use Rattle.timing.specs.declared.playout.Playout.{Playout};
 ghost use Rattle.timing.specs.declared.resend_interval.ResendInterval.{ResendInterval};
 ghost use Rattle.timing.specs.declared.silence.Silence.{Silence};
-ghost use Rattle.timing.specs.AskTimes.{ask_times, answer_of, twice_of};
+ghost use Rattle.timing.specs.AskTimes.{answer_of, answer_where, ask_times, twice_of};
 ghost use Rattle.timing.specs.FeedbackBudget.{Passed, HadRoom, budget_after, many_came, many_left, nothing_earned, octets_came, octets_left, worth_came};
+ghost use Rattle.timing.specs.NackRoom.{fewer_in};
 ghost use Rattle.timing.specs.Lately.{greatest_at};
-ghost use Rattle.timing.specs.Losses.{asks_for, asks_where, lost_of};
+ghost use Rattle.timing.specs.Losses.{are_many, asks_for, asks_where, lost_of};
 ghost use Rattle.timing.specs.Playout.{AllOdd, heard_all, heard_at, is_beyond, ms_of, release_at, ticks_of};
-ghost use Rattle.timing.specs.ResendInterval.{answers_heard, heard_after, interval_at, least_at, resent_many, TakeAtLeast};
+ghost use Rattle.timing.specs.ResendInterval.{answers_heard, heard_after, interval_at, least_at, packet_time, resent_at, resent_many, TakeAtLeast};
 ghost use Rattle.timing.specs.RoundTrip.{doubted, given_up_at, heard_again, heard_at as taken_at, least_of, probed};
+ghost use Rattle.timing.specs.Arrivals.{longer};
 ghost use Rattle.timing.specs.Silence.{lead_of};
 ghost use Rattle.timing.specs.Sightings.{Sighting, seen_of, IsInOrder, AreWithin, AreLatelyWithin};
 
@@ -54,16 +57,21 @@ pub fn answers_that_come_twice_are_measured()
 {}
 
 /// Of asks over a path on which a queue seems to take more time than there is for two.
-#[tactic(auto, using(crate::proofs::TwoAsks::fit, crate::proofs::TwoAsks::no_longer, crate::proofs::TwoAsks::usual, crate::proofs::TwoAsks::idle_at_least))]
+#[tactic(auto, using(crate::proofs::TwoAsks::fit, crate::proofs::TwoAsks::no_longer, crate::proofs::TwoAsks::usual, crate::proofs::TwoAsks::idle_at_least, crate::proofs::TwoAsks::some_time, crate::proofs::TwoAsks::no_less, crate::proofs::TwoAsks::sooner))]
 pub fn places_are_asked_for_twice()
     // The second ask has its answer in time, where an answer takes so long with no queue on the way that two have.
-    ensures twice { (s : Smoothed) (idle patience : ℕ) → 2 ≤ patience → patience < 2 ^ 64 → 2 * idle ≤ patience
-        → (ask_times (twice_of s idle patience) patience 0 1).retry + twice_of s idle patience ≤ patience }
+    ensures twice { (answer idle patience : ℕ) → 0 < answer → 2 ≤ patience → patience < 2 ^ 64 → 2 * idle ≤ patience
+        → (ask_times (twice_of answer idle patience) patience 0 1).retry + twice_of answer idle patience ≤ patience }
     // An answer is taken for no longer than it seems to take, and for no shorter where that is in time twice,
-    ensures no_longer { (s : Smoothed) (idle patience : ℕ) → twice_of s idle patience ≤ answer_of s }
-    ensures usual { (s : Smoothed) (idle patience : ℕ) → 2 * answer_of s ≤ patience → twice_of s idle patience ≡ answer_of s }
+    ensures no_longer { (answer idle patience : ℕ) → twice_of answer idle patience ≤ answer }
+    ensures usual { (answer idle patience : ℕ) → 2 * answer ≤ patience → twice_of answer idle patience ≡ answer }
     // nor for shorter than it takes with no queue on the way.
-    ensures least { (s : Smoothed) (idle patience : ℕ) → idle ≤ answer_of s → idle ≤ twice_of s idle patience }
+    ensures least { (answer idle patience : ℕ) → idle ≤ answer → idle ≤ twice_of answer idle patience }
+    // It seems to take some time, and no less than the smoothed time, but for less than a millisecond of that; and where many are lost no more than
+    // where few are.
+    ensures some { (many : Bool) (s : Smoothed) → 0 < answer_where many s }
+    ensures smoothed { (many : Bool) (s : Smoothed) → s.time < 2 ^ 64 → s.time / 8 ≤ answer_where many s }
+    ensures many { (s : Smoothed) → answer_where true s ≤ answer_where false s }
 {}
 
 /// Of places that are measured, and given up without an answer.
@@ -81,7 +89,7 @@ pub fn answers_that_never_come_are_measured()
 {}
 
 /// Of how many asks go before waiting for what may be late, by what of so many packets was lost.
-#[tactic(auto, using(crate::proofs::Few::stay_lost, crate::proofs::Few::no_more, crate::proofs::Few::all_needless, crate::proofs::Few::all_needed))]
+#[tactic(auto, using(crate::proofs::Few::stay_lost, crate::proofs::Few::no_more, crate::proofs::Few::all_needless, crate::proofs::Few::all_needed, crate::proofs::Few::many))]
 pub fn few_stay_lost()
     // Where each ask, or its answer, is lost as often as a packet is, no more than one in 512 stays lost behind so many asks, if they are no more than
     // two; three are made where more is lost.
@@ -92,6 +100,8 @@ pub fn few_stay_lost()
     ensures usual { (t : Tally) → t.late * 16 ≤ t.taken → asks_for t ≡ None }
     // What came behind its retransmission was not lost.
     ensures needless { (t : Tally) → 0 < t.measured → t.measured ≤ t.needless → lost_of t ≡ 0 }
+    // Many are lost where four are, and more than one in eight.
+    ensures many { (t : Tally) → lost_of t * 8 < 2 ^ 64 → (are_many t ≡ true) ↔ ((4 ≤ lost_of t) × (t.taken < lost_of t * 8)) }
     ensures needed { (t : Tally) → t.needless ≡ 0 → t.repaired * t.measured < 2 ^ 64 → lost_of t ≡ t.repaired }
 {}
 
@@ -105,6 +115,8 @@ pub fn feedback_is_earned()
     // In any span of that no more than what came in it earned, and the longest NACK has.
     ensures span { (b : FeedbackBudget) (passed : List Passed) → b.octets ≤ 268 → HadRoom b passed → octets_left passed ≤ worth_came passed + 268 }
     ensures saved { (passed : List Passed) → (budget_after nothing_earned passed).octets ≤ 268 }
+    // As many places have room in so many octets, a pair each, as are asked for then, and one more has not.
+    ensures fewer { (room : ℕ) → 12 ≤ room → (12 + 4 * fewer_in room ≤ room) × (room < 12 + 4 * (fewer_in room + 1)) }
 {}
 
 /// Of the greatest of what was seen, at moments that don't fall.
@@ -117,12 +129,14 @@ pub fn the_greatest_is_of_late()
 {}
 
 /// Of when packets were sent that were lost in a silence.
-#[tactic(auto, using(crate::proofs::Leads::none_before, crate::proofs::Leads::in_order, crate::proofs::Leads::no_slower))]
+#[tactic(auto, using(crate::proofs::Leads::none_before, crate::proofs::Leads::in_order, crate::proofs::Leads::few, crate::proofs::Leads::no_slower))]
 pub fn losses_were_sent_in_order()
     // None was sent before the silence began.
     ensures none_before { (s : Silence) (place : ℕ) → lead_of s place ≤ s.length }
     // Each was sent no later than those behind it.
     ensures in_order { (s : Silence) (place later : ℕ) → s.below < place → place ≤ later → lead_of s later ≤ lead_of s place }
+    // A silence in which fewer than four packets would have come at the peak's rate tells nothing: a packet of a slow stream may be lost in it.
+    ensures few { (a : Arrivals) (cursor : Option ℕ) (least : ℕ) (s : Silence) → s.length * s.peak < 4000 → longer a cursor least s ≡ a }
     // At the peak's rate no more packets are sent from then on than there were: so a pause of the stream is not taken for its packets.
     ensures no_slower { (s : Silence) (place : ℕ) → place < s.above → lead_of s place * s.peak ≤ (s.above - place) * 1000 }
 {}
@@ -158,7 +172,10 @@ pub fn answers_are_waited_for()
     ensures doubled { (r : ResendInterval) (before longer : ℕ) (a b c d e f g h : ℕ × ℕ) → r.answer ≡ Some before → longer < 2 ^ 64
         → TakeAtLeast (a ∷ b ∷ c ∷ d ∷ e ∷ f ∷ g ∷ h ∷ []) longer
         → IsSomeAnd (answers_heard r (a ∷ b ∷ c ∷ d ∷ e ∷ f ∷ g ∷ h ∷ [])).answer (λ after. min longer (2 * before) ≤ after) }
-    // Behind packets that left at once, which take longer than half of an answer by the mean gap of the media, it is that and an answer.
-    ensures behind { (r : ResendInterval) (answer now many least : ℕ) → r.answer ≡ Some answer → now * 4096 + many * r.gap < 2 ^ 64
-        → answer < 2 * (many * r.gap / 4096) → answer + many * r.gap / 4096 < 2 ^ 64 → answer + many * r.gap / 4096 ≤ interval_at (resent_many r now many) least now }
+    // Behind packets that left at once, which the path takes longer for than half of an answer, it is that and an answer.
+    ensures behind { (r : ResendInterval) (answer now many least : ℕ) → r.answer ≡ Some answer → now * 4096 + many * packet_time r < 2 ^ 64
+        → answer < 2 * (many * packet_time r / 4096) → answer + many * packet_time r / 4096 < 2 ^ 64
+        → answer + many * packet_time r / 4096 ≤ interval_at (resent_many r now many) least now }
+    // It takes no longer for each than lies between two packets of media, on the mean, nor than five milliseconds.
+    ensures brief { (r : ResendInterval) (now : ℕ) → (resent_at r now).busy ≤ max r.busy (now * 4096) + min r.gap (5 * 4096) }
 {}

@@ -9,6 +9,7 @@ mod feedback_budget;
 mod lately;
 mod laws;
 mod losses;
+mod nack_room;
 mod path;
 mod playout;
 mod resend_interval;
@@ -25,6 +26,9 @@ pub use laws::{
     the_greatest_is_of_late,
 };
 pub use losses::{Losses, Tally};
+pub use nack_room::{
+    LONGEST_NACK, earn_feedback, feedback_room, fewer_in, renew_feedback, spend_feedback,
+};
 pub use path::Path;
 pub use playout::{Playout, Stamp};
 pub use resend_interval::ResendInterval;

@@ -1,9 +1,12 @@
 //! How much of a stream is lost, and how much only late.
 ghost use Rattle.std.specs.Prelude.{◌≡◌};
-ghost use Rattle.timing.specs.Losses.{asks_for, both, lost_of, needless_at, none_lost, repaired_at, taken_at, tally_none, turned_at};
+ghost use Rattle.timing.specs.Losses.{are_many, asks_for, both, lost_of, needless_at, none_lost, repaired_at, taken_at, tally_none, turned_at};
 
 /// How long packets are counted together, in milliseconds; what was counted in the span before is known beside them.
 const SPAN: u64 = 5000;
+
+/// Of fewer that were lost no share is told.
+const MANY: u64 = 4;
 
 /// What came in one span.
 #[derive(Clone, Copy, Debug, PartialEq, Eq)]
@@ -63,6 +66,14 @@ impl Tally {
         } else {
             self.repaired.saturating_mul(needed) / self.measured
         }
+    }
+
+    /// Whether four were lost, and more than one in eight.
+    fn are_many(&self) -> bool
+        ensures { result ≡ are_many self.now }
+    {
+        let lost = self.lost();
+        lost >= MANY && lost.saturating_mul(8) > self.taken
     }
 
     /// How many asks for one place are worth more than to wait for what may be late.
@@ -136,6 +147,15 @@ impl Losses {
     {
         let turned = self.turned(now);
         turned.recent.with(&turned.before).asks()
+    }
+
+    /// Whether many are lost: four, and more than one in eight. What has no answer by when one comes, on the mean, was lost more likely than not,
+    /// then.
+    pub fn are_many(&self, now: u64) -> bool
+        ensures { result ≡ are_many (both (turned_at self.now now).recent (turned_at self.now now).before) }
+    {
+        let turned = self.turned(now);
+        turned.recent.with(&turned.before).are_many()
     }
 
     /// What is remembered at the moment `now`.

@@ -1,9 +1,9 @@
 //! What was measured of a path.
 ghost use Rattle.std.specs.Prelude.{◌≡◌, IfSome, ◌<◌};
-ghost use Rattle.timing.specs.Path.{asks_at, first_times, found_needless, new_path, path_repaired, path_seen, path_taken, idle_where, reordered, times_known, times_over, waited_for};
+ghost use Rattle.timing.specs.Path.{asks_at, first_times, many_at, found_needless, new_path, path_repaired, path_seen, path_taken, idle_where, reordered, times_known, times_over, waited_for};
 
 use crate::arrivals::Arrivals;
-use crate::ask_times::{AskTimes, idle_answer};
+use crate::ask_times::{AskTimes, idle_answer, twice};
 use crate::lately::Lately;
 use crate::losses::Losses;
 use crate::round_trip::{LONGEST, RoundTrip, Smoothed};
@@ -94,15 +94,17 @@ impl Path {
     }
 
     /// The same where a round-trip time was measured. Where hardly any packet comes late, asks lie as far apart as an answer takes mostly, and a
-    /// queue that fills lays them farther apart; but two have their answers in time, where they have them over a path without a queue.
+    /// queue that fills lays them farther apart; or as one takes on the mean, where many are lost. But two have their answers in time, where they have them over a path without a queue.
     fn times_known(&self, smoothed: &Smoothed, patience: u64, reordering: u64, now: u64) -> AskTimes
-        ensures value { result ≡ times_known (asks_at self.now.losses now) smoothed.now self.now.trip patience reordering now }
+        ensures value { result ≡ times_known (asks_at self.now.losses now) (many_at self.now.losses now) smoothed.now self.now.trip patience reordering now }
         ensures some_time { 0 < result.retry }
     {
         let half = reordering.min(smoothed.time / 16);
         let Some(asks) = self.losses.asks(now) else {
             let idle = idle(self.trip.least(now), reordering);
-            return AskTimes::fitting(smoothed.twice(idle, patience), patience, half, 1);
+            let answer = smoothed.answer_where(self.losses.are_many(now));
+            let left = patience.saturating_sub(smoothed.answer() - answer);
+            return AskTimes::fitting(twice(answer, idle, patience), left, half, 1);
         };
         let answer = smoothed.spacing(self.trip.least(now), reordering);
         let left = patience.saturating_sub(self.trip.queued(now));

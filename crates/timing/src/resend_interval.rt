@@ -13,6 +13,10 @@ const LONGEST: u64 = 60_000;
 /// Into so many parts a millisecond is divided, for gaps that are shorter.
 const PARTS: u64 = 4096;
 
+/// A path takes so long for a packet at most, in parts: five milliseconds. A stream of sound, or of small pictures, has longer gaps, and no path
+/// that has room for so few packets alone.
+const LONGEST_PACKET: u64 = 5 * PARTS;
+
 /// How soon a packet that was retransmitted may be retransmitted again, as its sender sees it: what is asked for again while its answer waits
 /// in a queue is passed over (RFC 6298 and RFC 8985 have it of TCP's segments). Two things tell of a queue.
 ///
@@ -22,7 +26,7 @@ const PARTS: u64 = 4096;
 ///   it by an eighth at most (the gain of RFC 6298, section 2), and what is shorter counts at once. What it has beyond twice the least of
 ///   the last ten to thirty seconds is a queue: jitter and reordering alone seldom have so much.
 /// - **What left together may fill a queue** before any NACK tells of it. A path that has room for the media alone takes as long for a
-///   retransmission as lies between two packets of media, on the mean; while what it would still take is more than half of an answer long, an
+///   retransmission as lies between two packets of media, on the mean, and five milliseconds at most; while what it would still take is more than half of an answer long, an
 ///   answer may take so much longer than answers do. Of a few that left nothing is feared.
 ///
 /// Moments and spans are in milliseconds.
@@ -76,7 +80,7 @@ impl ResendInterval {
         self.busy = self
             .busy
             .max(now.saturating_mul(PARTS))
-            .saturating_add(self.gap);
+            .saturating_add(self.gap.min(LONGEST_PACKET));
     }
 
     /// A NACK named a packet for the first time at the moment `now`, so long after the one right behind it was sent.

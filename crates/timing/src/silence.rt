@@ -1,6 +1,6 @@
 //! A silence in which packets were lost, and when they were sent.
 ghost use Rattle.std.specs.Prelude.{◌≡◌, ◌<◌, ◌^◌};
-ghost use Rattle.timing.specs.Silence.{lead_of};
+ghost use Rattle.timing.specs.Silence.{is_long, lead_of};
 
 use places::Place;
 
@@ -17,7 +17,18 @@ pub struct Silence {
     pub peak: u64,
 }
 
+/// In a silence that tells something so many packets would have come, at the rate of its peak.
+const LEAST_PACKETS: u64 = 4;
+
 impl Silence {
+    /// Whether it is so long that four packets would have come in it at the rate of its peak. In a shorter one a packet of a slow stream may
+    /// be lost, and the next one be in time.
+    pub fn is_long(&self) -> bool
+        ensures { result ≡ is_long self.now }
+    {
+        self.length.saturating_mul(self.peak) >= LEAST_PACKETS * 1000
+    }
+
     /// How long before its end the packet of a place that was lost in it was sent, in milliseconds: as the packets lie that were sent
     /// evenly over all of it, or at the rate of its peak right before its end, whichever is shorter. So a stream that paused was not
     /// sent in its pause. 0 for any other place, and where no peak is known.

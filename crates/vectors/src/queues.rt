@@ -44,6 +44,37 @@ fn places_are_asked_for_twice(_rt: HostRuntime) -> Result<(), Fail> {
     }
 }
 
+/// A path of an answer of 100, with a variation of 50, over which so many packets came, and so many retransmissions beside that one.
+fn lossy(taken: u64, repaired: u64) -> Path {
+    let mut path = Path::new();
+    for _ in 0..taken {
+        path.take(100);
+    }
+    path.trip.ask(Place::first(1), 0);
+    let _ = path.repair(Place::first(1), 100);
+    for _ in 0..repaired {
+        let _ = path.repair(Place::first(2), 100);
+    }
+    path
+}
+
+#[test]
+fn many_losses_are_asked_for_sooner(_rt: HostRuntime) -> Result<(), Fail> {
+    // Of 32 four are lost, which is few: an answer takes 155, and two more asks have theirs in time.
+    let few = over(&lossy(28, 3), 600, 100) == (0, 222);
+    // Of 31 they are many: it takes 105, and four have, the last one also if it takes 155.
+    let many = over(&lossy(27, 3), 600, 100) == (0, 111);
+    // Three are none.
+    let still_few = over(&lossy(9, 2), 600, 100) == (0, 222);
+    // What was lost long ago is none.
+    let forgotten = over(&lossy(27, 3), 600, 20000) == (0, 222);
+    if few && many && still_few && forgotten {
+        Ok(())
+    } else {
+        Err(Fail::from("asks where many are lost"))
+    }
+}
+
 #[test]
 fn a_second_answer_tells_of_the_path_without_a_queue(_rt: HostRuntime) -> Result<(), Fail> {
     let mut path = Path::new();

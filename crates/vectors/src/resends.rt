@@ -2,13 +2,20 @@
 use std::test::Fail;
 use timing::ResendInterval;
 
-/// Packets each ten milliseconds, up to 990.
-fn each_ten() -> ResendInterval {
+/// So many packets, this far apart.
+fn sent_each(gap: u64, packets: u64) -> ResendInterval {
     let mut interval = ResendInterval::new();
-    for step in 0..100u64 {
-        interval.send(step * 10);
+    for step in 0..packets {
+        interval.send(step.saturating_mul(gap));
     }
     interval
+}
+
+/// So many leave at one moment.
+fn resend_many(interval: &mut ResendInterval, many: u8, now: u64) {
+    for _ in 0..many {
+        interval.resend(now);
+    }
 }
 
 #[test]
@@ -39,7 +46,7 @@ fn answers_that_took_longer(_rt: HostRuntime) -> Result<(), Fail> {
         // 74
         (300, 14),
     ];
-    let mut interval = each_ten();
+    let mut interval = sent_each(5, 199);
     let mut are_right = interval.at(10, 990) == 10;
     for (took, told) in rows {
         interval.hear(took, 990);
@@ -56,48 +63,60 @@ fn answers_that_took_longer(_rt: HostRuntime) -> Result<(), Fail> {
 
 #[test]
 fn what_left_together(_rt: HostRuntime) -> Result<(), Fail> {
-    let mut interval = each_ten();
+    let mut interval = sent_each(5, 199);
     interval.hear(40, 1000);
-    // Five at once take five gaps, behind which an answer comes forty later, while more than twenty of it are left; and the next one is behind
+    // Ten at once take ten gaps, behind which an answer comes forty later, while more than twenty of it are left; and the next two are behind
     // them.
-    for _ in 0..5u8 {
-        interval.resend(1000);
-    }
-    let five = interval.at(10, 1000) == 90
+    resend_many(&mut interval, 10, 1000);
+    let ten = interval.at(10, 1000) == 90
         && interval.at(10, 1029) == 61
         && interval.at(10, 1030) == 10;
-    interval.resend(1020);
-    let six = interval.at(10, 1020) == 80
+    resend_many(&mut interval, 2, 1020);
+    let twelve = interval.at(10, 1020) == 80
         && interval.at(10, 1039) == 61
         && interval.at(10, 1040) == 10;
-    // Later nothing is behind them any more, and two take no more than half of an answer.
-    interval.resend(2000);
-    interval.resend(2000);
-    let two = interval.at(10, 2000) == 10 && interval.at(60, 2000) == 60;
-    interval.resend(2000);
-    let later = two && interval.at(10, 2000) == 70;
-    if five && six && later {
+    // Later nothing is behind them any more, and four take no more than half of an answer.
+    resend_many(&mut interval, 4, 2000);
+    let four = interval.at(10, 2000) == 10 && interval.at(60, 2000) == 60;
+    resend_many(&mut interval, 2, 2000);
+    let later = four && interval.at(10, 2000) == 70;
+    if ten && twelve && later {
         Ok(())
     } else {
         Err(Fail::from("the intervals"))
     }
 }
 
-/// A pause of five seconds is a gap of 100 milliseconds, which counts for a sixty-fourth: 9.84 and 1.56 are 11.4. Before an answer was heard
+/// A pause of five seconds is a gap of 100 milliseconds, which counts for a sixty-fourth: 1.97 and 1.56 are 3.53. Before an answer was heard
 /// nothing is waited for.
 #[test]
 fn a_pause_is_no_gap(_rt: HostRuntime) -> Result<(), Fail> {
-    let mut interval = each_ten();
+    let mut interval = sent_each(2, 496);
     interval.send(5990);
     interval.resend(6000);
-    let before = interval.at(10, 6000) == 10;
-    interval.hear(20, 6000);
-    let one = interval.at(10, 6000) == 31;
-    for _ in 0..9u8 {
-        interval.resend(6000);
-    }
-    let ten = interval.at(10, 6000) == 134;
+    let before = interval.at(1, 6000) == 1;
+    interval.hear(5, 6000);
+    let one = interval.at(1, 6000) == 8;
+    resend_many(&mut interval, 9, 6000);
+    let ten = interval.at(1, 6000) == 40;
     if before && one && ten {
+        Ok(())
+    } else {
+        Err(Fail::from("the intervals"))
+    }
+}
+
+/// Sound comes each twenty milliseconds, and a path takes five for one of its packets at most: four are half of an answer of forty, and five
+/// are more.
+#[test]
+fn a_slow_stream_is_no_slow_path(_rt: HostRuntime) -> Result<(), Fail> {
+    let mut interval = sent_each(20, 50);
+    interval.hear(40, 1000);
+    resend_many(&mut interval, 4, 1000);
+    let four = interval.at(10, 1000) == 10;
+    resend_many(&mut interval, 1, 1000);
+    let five = interval.at(10, 1000) == 65;
+    if four && five {
         Ok(())
     } else {
         Err(Fail::from("the intervals"))

@@ -47,18 +47,27 @@ const LATER: [(u64, u64, u64, u64); 5] = [
     (70449, 70440, 70451, 9020),
     // A packet that comes late.
     (70451, 70440, 70445, 9030),
-    // One behind 20 milliseconds, when all of those were passed.
-    (70451, 70452, 70453, 9040),
+    // One behind 90 milliseconds, when all of those were passed: four could have come, and none was late.
+    (70451, 70452, 70453, 9110),
     // It paused for five seconds.
     (70453, 70454, 70456, 14040),
 ];
+
+/// From how long on something is late in a silence, in milliseconds.
+const LEAST: u64 = 100;
 
 /// They come, up to so many of these.
 fn come(arrivals: &mut Arrivals, later: usize) -> Result<(), Fail> {
     let mut highest = None;
     for i in 0..200_u64 {
         let next = place(70000_u64.saturating_add(i))?;
-        arrivals.come(highest, Some(next.value()), 30, next, i.saturating_mul(20));
+        arrivals.come(
+            highest,
+            Some(next.value()),
+            LEAST,
+            next,
+            i.saturating_mul(20),
+        );
         highest = Some(next);
     }
     for (index, (highest, cursor, value, now)) in LATER.iter().enumerate() {
@@ -66,7 +75,7 @@ fn come(arrivals: &mut Arrivals, later: usize) -> Result<(), Fail> {
             arrivals.come(
                 Some(place(*highest)?),
                 Some(*cursor),
-                30,
+                LEAST,
                 place(*value)?,
                 *now,
             );
@@ -99,6 +108,32 @@ fn the_longest_silence_is_told(_rt: HostRuntime) -> Result<(), Fail> {
     let short = lead(4, 70452)? == 0;
     let paused = lead(5, 70454)? == 40 && lead(5, 70455)? == 20;
     if nothing && told && still && late && short && paused && lead_anew(70454)? == 0 {
+        Ok(())
+    } else {
+        Err(Fail::from("what a silence tells"))
+    }
+}
+
+/// How long before its notice the last packet was sent that was lost before this one, of a stream of thirty packets a second.
+fn lead_of_frames(lost: u64) -> Result<u64, Fail> {
+    let mut arrivals = Arrivals::new();
+    let mut highest = None;
+    for i in 0..60_u64 {
+        let next = place(70000_u64.saturating_add(i))?;
+        arrivals.come(highest, Some(next.value()), 50, next, i.saturating_mul(33));
+        highest = Some(next);
+    }
+    let next = place(70060_u64.saturating_add(lost))?;
+    let now = 60_u64.saturating_add(lost).saturating_mul(33);
+    arrivals.come(highest, Some(70060), 50, next, now);
+    Ok(arrivals.lead(next.value().saturating_sub(1)))
+}
+
+/// Where pictures come one a packet, one that is lost is no silence, nor are two in a row. Behind three the next one lies four gaps later.
+#[test]
+fn a_lost_picture_is_no_silence(_rt: HostRuntime) -> Result<(), Fail> {
+    let few = lead_of_frames(1)? == 0 && lead_of_frames(2)? == 0;
+    if few && lead_of_frames(3)? == 32 {
         Ok(())
     } else {
         Err(Fail::from("what a silence tells"))

@@ -237,7 +237,10 @@ fn losses_say_how_many_asks_go_first(_rt: HostRuntime) -> Result<(), Fail> {
     let rows = [
         // No more than one in sixteen came late: half of a round trip is waited for.
         (62, 0, (20, 140), (20, 115)),
-        (62, 500, (20, 140), (20, 115)),
+        (62, 125, (20, 140), (20, 115)),
+        // And where more than one in eight was lost, an answer takes 45, and the last one 65.
+        (62, 126, (20, 55), (20, 57)),
+        (62, 500, (20, 55), (20, 57)),
         // More did, and one in a thousand was lost: what is late is waited for, where an ask still has its answer in time.
         (63, 0, (20, 140), (125, 200)),
         (63, 1, (20, 140), (125, 200)),
