@@ -31,7 +31,7 @@ use Rattle.endpoint.specs.declared.heard.Heard.TheVariants.{Control, Media, Repa
 use Rattle.endpoint.specs.Demultiplex.{is_control}
 use Rattle.endpoint.specs.Probation.{ahead}
 use Rattle.endpoint.specs.Receiving.{AfterHeld, Ends, Handed, HearsKind, HearsUnless, HearsWanted, HoldsBack, as_heard, held_answer, held_ends, kept_at, kept_in, run_before, skipped_at, skipped_by, spare_before, wants_more}
-use Rattle.endpoint.specs.Events.{Endpoint, Event, RunsOver, Steps, asked, begun_at, heard, played, restarted_by_call, timed}
+use Rattle.endpoint.specs.Events.{Endpoint, Event, RunsOver, Steps, asked, begun_at, heard, played, restarted_by_call, unlearnt_by_call, timed}
 use Rattle.endpoint.specs.OneStream.{GoesOn, IsOneStream, or_else, passed_in, start_of, starts_in}
 
 -- The next place to play has the number of the first one and so many passed ones; and so many slots from it on reach above place 0.
@@ -320,6 +320,8 @@ stepped p (begun_at first) before old new at goes steps =
     (begins_so (start_of before) old.ends.core.span.cursor old.ends.core.learnt old.ends.core.span first (sum_by passed_in before) (sum_by passed_in (begun_at first ∷ before)) (length old.ends.core.span.slots) steps.unstarted at
     (sum_by-cons passed_in (begun_at first) before))
 stepped p restarted_by_call before old new at goes steps = absurd goes
+stepped p unlearnt_by_call before old new at goes steps =
+    at_as (start_of before) _ _ _ _ _ _ _ (else_none (start_of before)) (ap (λ (r : Receiving). r.span.cursor) steps.core) (none_passed _ _ (sum_by-cons passed_in unlearnt_by_call before)) (ap (λ (r : Receiving). length r.span.slots) steps.core) at
 stepped p (timed patience delay retry) before old new at goes steps =
     at_as (start_of before) _ _ _ _ _ _ _ (else_none (start_of before)) (ap (λ (r : Receiving). r.span.cursor) steps.core) (none_passed _ _ (sum_by-cons passed_in (timed patience delay retry) before)) (ap (λ (r : Receiving). length r.span.slots) steps.core) at
 

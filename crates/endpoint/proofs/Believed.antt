@@ -15,8 +15,8 @@ use Rattle.endpoint.specs.declared.heard.Heard.TheVariants.{HeldBack, Restarted}
 use Rattle.endpoint.specs.Demultiplex.{is_control}
 use Rattle.endpoint.specs.Probation.{goes_on as near, wanted_of_run}
 use Rattle.endpoint.specs.Receiving.{Ends, Handed, AfterHeld, Believes, HearsWanted, HoldsBack, HearsPacket, HearsKind, HearsUnless, follows, spare_before, run_before, run_after, run_refused, wants_more, as_heard, held_answer, held_ends, kept_in, skipped_at}
-use Rattle.endpoint.specs.Events.{Event, Endpoint, Steps, RunsOver, heard, played, asked, begun_at, restarted_by_call, timed}
-use Rattle.endpoint.specs.Ledger.{Deed, takes, plays, asks, begins, sets, IsPlain, Does, Reached, Ledger, at_core, noted, held_before, ledger}
+use Rattle.endpoint.specs.Events.{Event, Endpoint, Steps, RunsOver, heard, played, asked, begun_at, restarted_by_call, unlearnt_by_call, timed}
+use Rattle.endpoint.specs.Ledger.{Deed, takes, plays, asks, begins, forgets, sets, IsPlain, Does, Reached, Ledger, at_core, noted, held_before, ledger}
 
 -- what is held back, where something is
 abbrev HeldSo : (capacity : ℕ) → List Deed → (count : ℕ) → Receiving → Type 0
@@ -207,6 +207,8 @@ module _ (capacity : ℕ) where
         core_room = ap (λ (r : Receiving). r.span.capacity) steps.core ∙ agrees.core_room;
         spare_room = ap (λ (r : Receiving). r.span.capacity) steps.spare ∙ agrees.spare_room;
       }
+  stepped p unlearnt_by_call l old new agrees steps =
+      core_so forgets l old.ends new.ends agrees steps.core (ap (λ (r : Receiving). r.span.capacity) steps.core) steps.rest.spare steps.rest.run
   stepped p (timed patience delay retry) l old new agrees steps =
       record {
         core = record { old = old.ends.core; before = agrees.core; does = steps.core };

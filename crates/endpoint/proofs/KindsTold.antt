@@ -40,7 +40,7 @@ module _ (cells : List (Option ℕ)) (s : Streams) (octets : List ℕ) where
     told_media highest fault Usual is packet spelled other = refl
 
     module _ (one_repair : OneRepair) (one_near : OneNear) where
-      same_place : (h p q : ℕ) → IsRepairOf s h octets p → IsRepairOf s h octets q → p ≡ q
+      pub same_place : (h p q : ℕ) → IsRepairOf s h octets p → IsRepairOf s h octets q → p ≡ q
       same_place h p q a b =
           let packets = one a.packet b.packet octets a.spelled b.spelled in
           let repairs = one_repair a.original.repair b.original.repair b.packet (subst (IsRepair a.original.repair) packets a.original.is) b.original.is in

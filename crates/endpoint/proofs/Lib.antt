@@ -21,3 +21,4 @@ pub mod PaddingTold
 pub mod RepairsFound
 pub mod PairCounts
 pub mod LastPair
+pub mod Fallen

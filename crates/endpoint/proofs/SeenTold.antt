@@ -13,7 +13,7 @@ use Rattle.receiver.specs.declared.fault.ReceiveFault.TheVariants as refused
 use Rattle.endpoint.specs.declared.heard.Heard.{Heard}
 use Rattle.endpoint.specs.declared.probation.Probation.{Probation}
 use Rattle.endpoint.specs.declared.seen_packets.SeenPacket.{SeenPacket}
-use Rattle.endpoint.specs.Events.{Event, Endpoint, RunsOver, heard, played, asked, begun_at, restarted_by_call, timed}
+use Rattle.endpoint.specs.Events.{Event, Endpoint, RunsOver, heard, played, asked, begun_at, restarted_by_call, unlearnt_by_call, timed}
 use Rattle.endpoint.specs.Receiving.{Believes, Ends, HearsPacket, HearsUnless, media_number_of, wanted_at}
 use Rattle.endpoint.specs.Seen.{is_packet, is_repeat, seen_after, timestamp_in, was_seen, with_packet}
 use Rattle.endpoint.specs.SeenRuns.{seen_of}
@@ -53,6 +53,7 @@ remembered c capacity p (played now answer ∷ before) e runs = runs.steps.rest.
 remembered c capacity p (asked now most answer places ∷ before) e runs = runs.steps.rest.seen ∙ remembered c capacity p before runs.old runs.before
 remembered c capacity p (begun_at first ∷ before) e runs = runs.steps.rest.seen ∙ remembered c capacity p before runs.old runs.before
 remembered c capacity p (restarted_by_call ∷ before) e runs = runs.steps.seen ∙ remembered c capacity p before runs.old runs.before
+remembered c capacity p (unlearnt_by_call ∷ before) e runs = runs.steps.rest.seen ∙ remembered c capacity p before runs.old runs.before
 remembered c capacity p (timed patience delay retry ∷ before) e runs = runs.steps.seen ∙ remembered c capacity p before runs.old runs.before
 
 same_packet : (number timestamp : ℕ) → is_packet (Some (record { number = number; timestamp = timestamp })) number timestamp ≡ true

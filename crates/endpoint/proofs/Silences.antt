@@ -18,7 +18,7 @@ use Rattle.endpoint.specs.declared.heard.Heard.TheVariants.{Control, Media, Repa
 use Rattle.endpoint.specs.Demultiplex.{is_control}
 use Rattle.endpoint.specs.Probation.{goes_on, wanted_of_run, wanted_now, is_silent}
 use Rattle.endpoint.specs.Receiving.{Ends, AfterHeld, HoldsBack, HearsWanted, HearsUnless, HearsKind, follows, run_before, run_after, run_refused, wants_more, as_heard, held_answer, held_ends, none_held, kept_in, skipped_at}
-use Rattle.endpoint.specs.Events.{Event, Endpoint, RunsOver, heard, played, asked, begun_at, restarted_by_call, timed}
+use Rattle.endpoint.specs.Events.{Event, Endpoint, RunsOver, heard, played, asked, begun_at, restarted_by_call, unlearnt_by_call, timed}
 use Rattle.endpoint.specs.Silence.{last_taken, IsFounded}
 
 -- what a run says of the events before: when media was last taken, and how many it wants
@@ -134,6 +134,7 @@ module _ (c : Config) (capacity : ℕ) (p : Probation) (span : ℕ) (by_stream :
   known (asked now most answer places ∷ before) e runs = let k = knows_as p before runs.old.ends.run e.ends.run runs.steps.rest.run (known before runs.old runs.before) in record { last = k.last; wanted = k.wanted }
   known (begun_at first ∷ before) e runs = let k = knows_as p before runs.old.ends.run e.ends.run runs.steps.rest.run (known before runs.old runs.before) in record { last = k.last; wanted = k.wanted }
   known (restarted_by_call ∷ before) e runs = knows_as p (restarted_by_call ∷ before) _ e.ends.run runs.steps.run (record { last = refl; wanted = inl refl })
+  known (unlearnt_by_call ∷ before) e runs = let k = knows_as p before runs.old.ends.run e.ends.run runs.steps.rest.run (known before runs.old runs.before) in record { last = k.last; wanted = k.wanted }
   known (timed patience delay retry ∷ before) e runs = let k = knows_as p before runs.old.ends.run e.ends.run runs.steps.run (known before runs.old runs.before) in record { last = k.last; wanted = k.wanted }
 
   pub founded : (before : List Event) (octets : List ℕ) (now : ℕ) (answer : Result Heard ReceiveFault) (e : Endpoint) → RunsOver c capacity p (heard octets now answer ∷ before) e → IsFounded p span before now answer

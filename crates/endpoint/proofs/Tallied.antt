@@ -20,7 +20,7 @@ use Rattle.endpoint.specs.declared.heard.Heard.TheVariants.{Control, Media, Repa
 use Rattle.endpoint.specs.declared.receive_counts.ReceiveCounts.{ReceiveCounts}
 use Rattle.endpoint.specs.Counts.{count_in_64, more}
 use Rattle.endpoint.specs.ReceiveCounts.{count_heard, count_played, count_ask, NamesMany, CountsAsk}
-use Rattle.endpoint.specs.Events.{Event, Endpoint, Steps, RunsOver, heard, played, asked, begun_at, restarted_by_call, timed}
+use Rattle.endpoint.specs.Events.{Event, Endpoint, Steps, RunsOver, heard, played, asked, begun_at, restarted_by_call, unlearnt_by_call, timed}
 use Rattle.endpoint.specs.Tally.{tally, media_in, repairs_in, held_in, restarts_in, control_in, refused_as, refused_else, overrun_in, abandoned_in, skipped_in, played_in, gaps_in, asks_in, places_in}
 use Rattle.endpoint.proofs.Adding.{pair, adds}
 
@@ -97,6 +97,7 @@ stepped p (asked now most answer places) before old new so steps =
     asked_so now before _ _ _ most answer places new.counts steps.asks steps.named (subst (λ (c : ReceiveCounts). CountsAsk answer c new.counts) so steps.counts)
 stepped p (begun_at first) before old new so steps = steps.counts ∙ so
 stepped p restarted_by_call before old new so steps = steps.counts ∙ so
+stepped p unlearnt_by_call before old new so steps = steps.counts ∙ so
 stepped p (timed patience delay retry) before old new so steps = steps.counts ∙ so
 
 pub counted : (c : Config) (capacity : ℕ) (p : Probation) (events : List Event) (e : Endpoint) → RunsOver c capacity p events e → e.counts ≡ tally events

@@ -1,5 +1,5 @@
 -- A receiving endpoint that knows what it asked for, over all its calls. Lists have the newest first, so "before" is the tail.
-use Rattle.std.specs.Prelude.{◌≡◌, ℕ, ◌%◌, ◌==◌, ◌||◌, List, [], ◌∷◌, length, Option, Some, None, Result, Ok, Err, if◌then◌else◌}
+use Rattle.std.specs.Prelude.{◌≡◌, ℕ, ◌%◌, ◌==◌, ◌||◌, Bool, false, List, [], ◌∷◌, length, Option, Some, None, Result, Ok, Err, if◌then◌else◌}
 use Rattle.arrayvec.specs.ArrayVec.{ArrayVec}
 use Rattle.stores.specs.Span.{highest_of}
 use Rattle.fbwire.specs.Nack.{Nack, NackSpells}
@@ -16,7 +16,8 @@ use Rattle.endpoint.specs.declared.kind_counts.KindCounts.{KindCounts}
 use Rattle.endpoint.specs.declared.probation.Probation.{Probation}
 use Rattle.endpoint.specs.Asked.{RemembersAsk, kept_after, none_asked, places_named}
 use Rattle.endpoint.specs.Kinds.{IsKind, count_kind, no_kinds}
-use Rattle.endpoint.specs.Receiving.{Ends, HearsDatagram, fresh, no_run}
+use Rattle.endpoint.specs.Receiving.{Ends, fresh, no_run}
+use Rattle.endpoint.specs.Rivals.{HearsWeighed}
 use Rattle.endpoint.specs.declared.seen_packets.SeenPacket.{SeenPacket}
 use Rattle.endpoint.specs.Tally.{one_if}
 
@@ -32,6 +33,7 @@ pub record Asking : Type 0 where
   pub ends : Ends
   pub cells : List (Option ℕ)
   pub kinds : KindCounts
+  pub doubted : Bool
 
 -- the places that a NACK names, made at this highest place
 abbrev pub NamesPlaces : (highest : Option ℕ) → Option (ArrayVec ℕ) → (places : List ℕ) → Type 0
@@ -43,7 +45,7 @@ NamesPlaces (Some h) (Some datagram) places = (nack : Nack) → NackSpells nack 
 pub record HearStep (p : Probation) (octets : List ℕ) (answer : Result Heard ReceiveFault) (kind : Kind) (old new : Asking) : Type 0 where
   pub now : ℕ
   pub seen : List (Option SeenPacket)
-  pub hears : HearsDatagram p seen old.ends octets now answer new.ends
+  pub hears : HearsWeighed p seen old.ends old.doubted octets now answer new.ends new.doubted
   pub kind_is : IsKind old.cells old.ends.core.config.session (highest_of old.ends.core.span) octets answer kind
   pub cells : new.cells ≡ kept_after answer old.cells
   pub kinds : new.kinds ≡ count_kind kind answer old.kinds
@@ -56,15 +58,18 @@ pub record AskStep (places : List ℕ) (old new : Asking) : Type 0 where
   pub named : NamesPlaces (highest_of old.ends.core.span) answer places
   pub cells : RemembersAsk (highest_of old.ends.core.span) answer old.cells new.cells
   pub kinds : new.kinds ≡ old.kinds
+  pub doubted : new.doubted ≡ old.doubted
 
 pub record RestartStep (old new : Asking) : Type 0 where
   pub core : new.ends.core ≡ restarted old.ends.core
   pub cells : new.cells ≡ none_asked (length old.cells)
   pub kinds : new.kinds ≡ old.kinds
+  pub doubted : new.doubted ≡ false
 
 pub record OtherStep (old new : Asking) : Type 0 where
   pub cells : new.cells ≡ old.cells
   pub kinds : new.kinds ≡ old.kinds
+  pub doubted : new.doubted ≡ old.doubted
 
 abbrev pub Steps : Probation → Event → (old new : Asking) → Type 0
 Steps p (heard octets answer kind) old new = HearStep p octets answer kind old new
@@ -82,6 +87,7 @@ pub record Begins (c : Config) (capacity : ℕ) (a : Asking) : Type 0 where
   pub ends : a.ends ≡ record { core = fresh c capacity; spare = fresh c capacity; run = no_run }
   pub cells : a.cells ≡ none_asked capacity
   pub kinds : a.kinds ≡ no_kinds
+  pub doubted : a.doubted ≡ false
 
 -- These calls left the endpoint so, since it was made.
 abbrev pub RunsOver : Config → (capacity : ℕ) → Probation → List Event → Asking → Type 0

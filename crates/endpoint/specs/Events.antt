@@ -5,7 +5,7 @@ use Rattle.receiver.specs.declared.answer.Played.{Played}
 use Rattle.receiver.specs.declared.fault.ReceiveFault.{ReceiveFault}
 use Rattle.receiver.specs.Asks.{AsksMost}
 use Rattle.receiver.specs.Config.{Config}
-use Rattle.receiver.specs.Receiver.{Stays, begun, restarted, state_of, with_times}
+use Rattle.receiver.specs.Receiver.{Stays, begun, restarted, state_of, unlearnt, with_times}
 use Rattle.receiver.specs.Window.{PlaysAny}
 use Rattle.endpoint.specs.declared.heard.Heard.{Heard}
 use Rattle.endpoint.specs.declared.probation.Probation.{Probation}
@@ -21,6 +21,7 @@ pub data Event : Type 0 where
   asked : (now most : ℕ) → Option (ArrayVec ℕ) → (places : ℕ) → Event  -- an ask that names so many places
   begun_at : (first : ℕ) → Event
   restarted_by_call : Event
+  unlearnt_by_call : Event
   timed : (patience delay retry : ℕ) → Event
 
 -- an endpoint, but for its probation
@@ -66,6 +67,11 @@ pub record Restarts (old new : Endpoint) : Type 0 where
   pub counts : new.counts ≡ old.counts
   pub seen : new.seen ≡ old.seen
 
+pub record Forgets (old new : Endpoint) : Type 0 where
+  pub core : new.ends.core ≡ unlearnt old.ends.core
+  pub rest : ChangesCore old new
+  pub counts : new.counts ≡ old.counts
+
 pub record Sets (old : Endpoint) (patience delay retry : ℕ) (new : Endpoint) : Type 0 where
   pub core : new.ends.core ≡ with_times old.ends.core patience delay retry
   pub spare : new.ends.spare ≡ with_times old.ends.spare patience delay retry
@@ -85,6 +91,7 @@ Steps p (played now answer) old new = Plays old now answer new
 Steps p (asked now most answer places) old new = Asks old now most answer places new
 Steps p (begun_at first) old new = Begins old first new
 Steps p restarted_by_call old new = Restarts old new
+Steps p unlearnt_by_call old new = Forgets old new
 Steps p (timed patience delay retry) old new = Sets old patience delay retry new
 
 -- one event after those before it

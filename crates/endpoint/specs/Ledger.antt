@@ -6,12 +6,12 @@ use Rattle.receiver.specs.Config.{Config}
 use Rattle.receiver.specs.declared.answer.Taken.{Taken}
 use Rattle.receiver.specs.declared.answer.Played.{Played}
 use Rattle.receiver.specs.Asks.{AsksMost}
-use Rattle.receiver.specs.Receiver.{Receiving, Stays, begun, state_of, with_times}
+use Rattle.receiver.specs.Receiver.{Receiving, Stays, begun, state_of, unlearnt, with_times}
 use Rattle.receiver.specs.Window.{PlaysAny}
 use Rattle.endpoint.specs.declared.heard.Heard.TheVariants.{Media, Repair, HeldBack, Restarted}
 use Rattle.endpoint.specs.Padding.{IsStripped}
 use Rattle.endpoint.specs.Receiving.{Handed, fresh}
-use Rattle.endpoint.specs.Events.{Event, heard, played, asked, begun_at, restarted_by_call, timed}
+use Rattle.endpoint.specs.Events.{Event, heard, played, asked, begun_at, restarted_by_call, unlearnt_by_call, timed}
 
 -- one call of a receiver
 pub data Deed : Type 0 where
@@ -19,6 +19,7 @@ pub data Deed : Type 0 where
   plays : (now : ℕ) → Deed
   asks : (now most : ℕ) → Deed
   begins : (first : ℕ) → Deed
+  forgets : Deed
   sets : (patience delay retry : ℕ) → Deed
 
 -- the octets, or those without the padding that they are all of
@@ -47,6 +48,7 @@ Does (takes octets now) old new = TakesIt octets now old new
 Does (plays now) old new = PlaysIt now old new
 Does (asks now most) old new = AsksIt now most old new
 Does (begins first) old new = new ≡ begun old (65536 + first)
+Does forgets old new = new ≡ unlearnt old
 Does (sets patience delay retry) old new = new ≡ with_times old patience delay retry
 
 -- a receiver that took nothing
@@ -88,6 +90,7 @@ noted (played now answer) l = at_core (plays now) l
 noted (asked now most answer places) l = at_core (asks now most) l
 noted (begun_at first) l = at_core (begins first) l
 noted restarted_by_call l = record { core = []; held = [] }
+noted unlearnt_by_call l = at_core forgets l
 noted (timed patience delay retry) l = record { core = sets patience delay retry ∷ l.core; held = sets patience delay retry ∷ l.held }
 
 abbrev pub ledger : List Event → Ledger

@@ -14,6 +14,7 @@ pub mod Padding
 pub mod Probation
 pub mod ReceiveCounts
 pub mod Receiving
+pub mod Rivals
 pub mod SendCounts
 pub mod SendTally
 pub mod Sending

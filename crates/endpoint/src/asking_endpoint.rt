@@ -1,5 +1,5 @@
 //! The receiving endpoint that knows what it asked for.
-ghost use Rattle.std.specs.Prelude.{◌≡◌, ◌↔◌, ◌+◌, ◌<◌, ◌≤◌, length, None, Ok, Err, IsOk, IsNone, IfOk, OnOk, OnErr};
+ghost use Rattle.std.specs.Prelude.{◌≡◌, ◌↔◌, ◌+◌, ◌<◌, ◌≤◌, length, false, None, Ok, Err, IsOk, IsNone, IfOk, OnOk, OnErr};
 ghost use Rattle.stores.specs.Span.{highest_of};
 ghost use Rattle.receiver.specs.Asks.{AsksMost, AsksMostInto};
 ghost use Rattle.receiver.specs.Peeking.{play_of, receiver_passed};
@@ -7,8 +7,9 @@ ghost use Rattle.receiver.specs.Receiver.{Stays, begun, restarted, state_of, wit
 ghost use Rattle.receiver.specs.Window.{PlaysAny};
 ghost use Rattle.endpoint.specs.Asked.{RemembersAsk, RemembersAskInto, kept_after, none_asked};
 ghost use Rattle.endpoint.specs.Kinds.{IsKind, count_kind, no_kinds};
-ghost use Rattle.endpoint.specs.Receiving.{ends_of, fresh, HearsDatagram, no_run};
+ghost use Rattle.endpoint.specs.Receiving.{ends_of, fresh, no_run};
 ghost use Rattle.endpoint.specs.ReceiveCounts.{count_heard, count_passed, count_played, CountsAsk, CountsAskInto, no_counts};
+ghost use Rattle.endpoint.specs.Rivals.{Doubts, HearsWeighed, Weighs};
 ghost use Rattle.endpoint.specs.Seen.{none_seen, seen_after};
 
 use crate::asked_places::AskedPlaces;
@@ -18,6 +19,7 @@ use crate::kind_counts::KindCounts;
 use crate::passed::Passed;
 use crate::probation::Probation;
 use crate::receiving::ReceivingEndpoint;
+use crate::rivals::would_repair;
 use receiver::{HasStarted, Played, ReceiveFault, ReceiverConfig};
 use rtpwire::{ConfigFault, Datagram, TooShort};
 use std::alloc::Global;
@@ -26,11 +28,17 @@ use stores::{OutOfMemory, Window};
 /// A [`ReceivingEndpoint`] that tells what answers no ask of its own as what it is ([`Kind`]), and counts that apart
 /// ([`KindCounts`]). It remembers as many of the places that it asked for last as its window keeps ([`AskedPlaces`]), and forgets
 /// them when the stream restarts. What it answers is what the endpoint below answers. No call but `new` takes memory.
+///
+/// **Where the SSRC of the retransmissions is learnt**, the one that was learnt falls to another one that repairs: after two datagrams in a row
+/// that were refused for their SSRC (31), and would have repaired places that were asked for, the next one is learnt anew. So a stranger who is
+/// heard first is heard for so long alone. A retransmission that is taken meanwhile shows that the SSRC is right.
 #[derive(Drop)]
 pub struct AskingEndpoint<W: Window> {
     endpoint: ReceivingEndpoint<W>,
     asked: AskedPlaces,
     kinds: KindCounts,
+    /// Whether the last that was refused for its SSRC, and would have repaired, came since a retransmission was taken.
+    doubted: bool,
 }
 
 impl<W: Window> AskingEndpoint<W> {
@@ -46,7 +54,7 @@ impl<W: Window> AskingEndpoint<W> {
         requires nonzero { 0 < capacity }
         requires limit { capacity ≤ 8192 }
         ensures { IfOk result (λ made. (made.endpoint.core ≡ fresh config capacity) × (made.endpoint.spare ≡ fresh config capacity) × (made.endpoint.probation ≡ probation)
-            × (made.endpoint.run ≡ no_run) × (made.endpoint.counts ≡ no_counts) × (made.endpoint.seen ≡ none_seen 8192) × (made.asked ≡ none_asked capacity) × (made.kinds ≡ no_kinds)) }
+            × (made.endpoint.run ≡ no_run) × (made.endpoint.counts ≡ no_counts) × (made.endpoint.seen ≡ none_seen 8192) × (made.asked ≡ none_asked capacity) × (made.kinds ≡ no_kinds) × (made.doubted ≡ false)) }
     {
         let endpoint = ReceivingEndpoint::new(alloc, config, probation, capacity)?;
         let asked = AskedPlaces::new(alloc, capacity)?;
@@ -54,6 +62,7 @@ impl<W: Window> AskingEndpoint<W> {
             endpoint,
             asked,
             kinds: KindCounts::NONE,
+            doubted: false,
         })
     }
 
@@ -61,8 +70,8 @@ impl<W: Window> AskingEndpoint<W> {
     ///
     /// The refusals are those.
     pub fn on_datagram(&mut self, octets: &[u8], now: u64) -> (Result<Heard, ReceiveFault>, Kind)
-        ensures hears { HearsDatagram self.old.endpoint.probation self.old.endpoint.seen (ends_of self.old.endpoint.core self.old.endpoint.spare self.old.endpoint.run) octets.now now result.0
-            (ends_of self.new.endpoint.core self.new.endpoint.spare self.new.endpoint.run) }
+        ensures hears { HearsWeighed self.old.endpoint.probation self.old.endpoint.seen (ends_of self.old.endpoint.core self.old.endpoint.spare self.old.endpoint.run) self.old.doubted octets.now now result.0
+            (ends_of self.new.endpoint.core self.new.endpoint.spare self.new.endpoint.run) self.new.doubted }
         ensures probation { self.new.endpoint.probation ≡ self.old.endpoint.probation }
         ensures counts { self.new.endpoint.counts ≡ count_heard result.0 self.old.endpoint.counts }
         ensures seen { self.new.endpoint.seen ≡ seen_after result.0 octets.now self.old.endpoint.seen }
@@ -77,7 +86,34 @@ impl<W: Window> AskingEndpoint<W> {
         let kind = kind_of(&self.asked, &session, highest, octets, &answer);
         self.kinds.count(kind, &answer);
         keep_after(&mut self.asked, &answer);
+        self.weigh(octets, &answer);
         (answer, kind)
+    }
+
+    /// Weighs whether the SSRC that was learnt is the one of the retransmissions, by the answer to a datagram.
+    fn weigh(&mut self, octets: &[u8], answer: &Result<Heard, ReceiveFault>)
+        ensures weighs { Weighs self.old.doubted octets.now answer.now self.old.endpoint.core self.new.doubted self.new.endpoint.core }
+        ensures rest { self.new ≡ record self.old { endpoint = record self.old.endpoint { core = self.new.endpoint.core }; doubted = self.new.doubted } }
+    {
+        match answer {
+            Ok(Heard::Repair(_)) | Ok(Heard::Restarted(_)) => self.doubted = false,
+            Err(ReceiveFault::UnknownSource) => self.doubt(octets),
+            _ => {}
+        }
+    }
+
+    /// A datagram was refused for its SSRC. By itself, as none of the session is.
+    #[inline(never)]
+    fn doubt(&mut self, octets: &[u8])
+        ensures doubts { Doubts self.old.doubted octets.now self.old.endpoint.core self.new.doubted self.new.endpoint.core }
+        ensures rest { self.new ≡ record self.old { endpoint = record self.old.endpoint { core = self.new.endpoint.core }; doubted = self.new.doubted } }
+    {
+        if would_repair(self.endpoint.core(), octets) {
+            if self.doubted {
+                self.endpoint.forget_source();
+            }
+            self.doubted = !self.doubted;
+        }
     }
 
     /// [`ReceivingEndpoint::play`].
@@ -184,10 +220,12 @@ impl<W: Window> AskingEndpoint<W> {
         ensures core { self.new.endpoint.core ≡ restarted self.old.endpoint.core }
         ensures run { self.new.endpoint.run ≡ no_run }
         ensures asked { self.new.asked ≡ none_asked (length self.old.asked) }
-        ensures rest { self.new ≡ record self.old { endpoint = record self.old.endpoint { core = self.new.endpoint.core; run = self.new.endpoint.run }; asked = self.new.asked } }
+        ensures doubted { self.new.doubted ≡ false }
+        ensures rest { self.new ≡ record self.old { endpoint = record self.old.endpoint { core = self.new.endpoint.core; run = self.new.endpoint.run }; asked = self.new.asked; doubted = self.new.doubted } }
     {
         self.endpoint.restart();
         self.asked.forget();
+        self.doubted = false;
     }
 
     /// [`ReceivingEndpoint::set_times`].

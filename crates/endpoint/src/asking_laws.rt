@@ -1,6 +1,6 @@
 //! Laws on what an endpoint that knows what it asked for is over all its calls. These functions compute nothing: their contracts
 //! are the laws.
-ghost use Rattle.std.specs.Prelude.{◌≡◌, ◌≢◌, ◌+◌, ◌%◌, ◌<◌, ◌≤◌, ℕ, List, Result, Some, Ok, Err, true, false};
+ghost use Rattle.std.specs.Prelude.{◌≡◌, ◌≢◌, ◌+◌, ◌%◌, ◌<◌, ◌≤◌, ℕ, List, None, Result, Some, Ok, Err, true, false};
 ghost use Rattle.std.specs.List.{sum_by};
 ghost use Rattle.places.specs.Among.{is_among};
 ghost use Rattle.places.specs.Place.{number};
@@ -23,6 +23,9 @@ ghost use Rattle.endpoint.specs.Counts.{IsInFull, more};
 ghost use Rattle.endpoint.specs.Demultiplex.{is_control};
 ghost use Rattle.endpoint.specs.Kinds.{IsRepairOf};
 ghost use Rattle.endpoint.specs.Padding.{IsStripped};
+ghost use Rattle.endpoint.specs.Rivals.{WouldRepair};
+ghost use Rattle.receiver.specs.declared.answer.Taken.{Taken};
+ghost use Rattle.endpoint.specs.declared.heard.Heard.TheVariants as heard;
 ghost use Rattle.endpoint.specs.AskingRuns.{Asking, Event, HearStep, RunsOver, first_with, in_turn, named, padding_in, unasked_in, usual_as, usual_else};
 
 use places::near_is_determined;
@@ -64,6 +67,24 @@ pub fn kinds_are_told()
     ensures counted { (c : Config) (capacity : ℕ) (p : Probation) (events : List Event) (a : Asking) → RunsOver c capacity p events a
         → IsInFull a.kinds.padding (sum_by padding_in events) × IsInFull a.kinds.unasked (sum_by unasked_in events)
         × IsInFull a.kinds.late (sum_by (usual_as 35) events) × IsInFull a.kinds.duplicate (sum_by (usual_as 36) events) × IsInFull a.kinds.refused (sum_by usual_else events) }
+{
+    spelling_is_determined();
+    repair_is_determined();
+    near_is_determined();
+}
+
+/// When the SSRC of the retransmissions that was learnt falls.
+pub fn a_source_falls_to_one_that_repairs()
+    // Two datagrams in a row that are refused for their SSRC, and would have repaired what was asked for, have it learnt anew.
+    ensures two { (p : Probation) (a b : Kind) (old mid new : Asking) (first second : List ℕ)
+        → HearStep p first (Err refused.UnknownSource) a old mid → HearStep p second (Err refused.UnknownSource) b mid new
+        → old.doubted ≡ false → WouldRepair old.ends.core first → WouldRepair mid.ends.core second → new.ends.core.learnt ≡ None }
+    // One alone changes no receiver,
+    ensures one { (p : Probation) (kind : Kind) (old new : Asking) (octets : List ℕ) → HearStep p octets (Err refused.UnknownSource) kind old new
+        → old.doubted ≡ false → new.ends.core ≡ old.ends.core }
+    // and a retransmission that is taken takes it back.
+    ensures repaired { (p : Probation) (kind : Kind) (old new : Asking) (octets : List ℕ) (taken : Taken) → HearStep p octets (Ok (heard.Repair taken)) kind old new
+        → new.doubted ≡ false }
 {
     spelling_is_determined();
     repair_is_determined();

@@ -1,14 +1,16 @@
 //! Hearing a packet: one that is believed goes to the receiver, and one that is not is held back.
-ghost use Rattle.std.specs.Prelude.{◌≡◌, Ok};
+ghost use Rattle.std.specs.Prelude.{◌≡◌, ℕ, List, None, Ok};
+ghost use Rattle.rtpwire.specs.Rtp.{RtpSpells};
 ghost use Rattle.receiver.specs.Receiver.{Receiving};
 ghost use Rattle.stores.specs.Span.{highest_of};
-ghost use Rattle.endpoint.specs.Receiving.{ends_of, Handed, AfterHeld, Believes, HearsWanted, HoldsBack, follows, is_awaited, kept_in, none_held, run_refused, skipped_at, skipped_by, wanted_at};
+ghost use Rattle.endpoint.specs.Receiving.{ends_of, Handed, AfterHeld, Believes, HearsWanted, HoldsBack, as_heard, follows, is_awaited, kept_in, none_held, run_after, run_before, run_refused, skipped_at, skipped_by, spare_before, wanted_at};
 
 use crate::asked_places::asked_at;
 use crate::heard::{Heard, Restart};
 use crate::probation::Probation;
 use places::Place;
 use receiver::{ReceiveFault, Receiver, Taken};
+use rtpwire::RtpView;
 use std::mem;
 use stores::{SlotRef, Window};
 
@@ -49,6 +51,23 @@ impl Run {
             Run::none_held(self.last)
         } else {
             self
+        }
+    }
+
+    /// What the answer to a packet that was believed leaves of it. Media that is taken ends what is held back.
+    fn after(
+        self,
+        probation: &Probation,
+        number: Option<u16>,
+        taken: &Result<Taken, ReceiveFault>,
+        now: u64,
+    ) -> Run
+        ensures { result ≡ run_after probation.now.silence number taken.now now self }
+    {
+        match (number, taken) {
+            (None, _) => self,
+            (Some(_), Ok(_)) => Run::none_held(now),
+            (Some(_), Err(_)) => self.refused(probation),
         }
     }
 
@@ -101,16 +120,31 @@ pub(crate) fn hear_wanted<W: Window>(
     probation: &Probation,
     wanted: u16,
     number: Option<u16>,
-    octets: &[u8],
+    packet: &RtpView<'_>,
     now: u64,
 ) -> Result<Heard, ReceiveFault>
-    ensures { HearsWanted probation.now (ends_of core.old spare.old run.old) wanted number octets.now now result (ends_of core.new spare.new run.new) }
+    ensures { (octets : List ℕ) → RtpSpells packet.now octets
+        → HearsWanted probation.now (ends_of core.old spare.old run.old) wanted number octets now result (ends_of core.new spare.new run.new) }
 {
     match number {
         Some(seq) if wanted > 0 => {
-            hold_back(core, spare, run, probation, wanted, seq, octets, now)
+            hold_back(core, spare, run, probation, wanted, seq, packet, now)
         }
-        _ => believe(core, run, probation, number, octets, now),
+        _ => believe(core, run, probation, number, packet, now),
+    }
+}
+
+/// Hears octets that are no packet: the receiver refuses them, and says why.
+pub(crate) fn hear_unread<W: Window>(
+    core: &mut Receiver<W>,
+    octets: &[u8],
+    now: u64,
+) -> Result<Heard, ReceiveFault>
+    ensures { (probation : Probation) (spare : Receiving) (run : Run) → Believes probation (ends_of core.old spare run) None octets.now now result (ends_of core.new spare run) }
+{
+    match core.on_media(octets, now) {
+        Ok(taken) => Ok(Heard::Repair(taken)),
+        Err(fault) => Err(fault),
     }
 }
 
@@ -120,18 +154,21 @@ fn believe<W: Window>(
     run: &mut Run,
     probation: &Probation,
     number: Option<u16>,
-    octets: &[u8],
+    packet: &RtpView<'_>,
     now: u64,
 ) -> Result<Heard, ReceiveFault>
-    ensures { (spare : Receiving) → Believes probation.now (ends_of core.old spare run.old) number octets.now now result (ends_of core.new spare run.new) }
+    ensures { (octets : List ℕ) → RtpSpells packet.now octets
+        → (spare : Receiving) → Believes probation.now (ends_of core.old spare run.old) number octets now result (ends_of core.new spare run.new) }
 {
-    let taken = hand(core, octets, now);
-    if number.is_some() {
-        *run = match &taken {
-            Ok(_) => Run::none_held(now),
-            Err(_) => run.refused(probation),
-        };
-    }
+    let taken = hand(core, packet, now);
+    *run = run.after(probation, number, &taken, now);
+    as_heard(number, taken)
+}
+
+/// The answer of a receiver as the endpoint's: what it took is media, or else a retransmission.
+fn as_heard(number: Option<u16>, taken: Result<Taken, ReceiveFault>) -> Result<Heard, ReceiveFault>
+    ensures { result ≡ as_heard number taken }
+{
     match taken {
         Ok(taken) if number.is_some() => Ok(Heard::Media(taken)),
         Ok(taken) => Ok(Heard::Repair(taken)),
@@ -139,15 +176,15 @@ fn believe<W: Window>(
     }
 }
 
-/// Hands a receiver a datagram.
+/// Hands a receiver a packet.
 fn hand<W: Window>(
     receiver: &mut Receiver<W>,
-    octets: &[u8],
+    packet: &RtpView<'_>,
     now: u64,
 ) -> Result<Taken, ReceiveFault>
-    ensures { Handed receiver.old octets.now now result receiver.new }
+    ensures { (octets : List ℕ) → RtpSpells packet.now octets → Handed receiver.old octets now result receiver.new }
 {
-    receiver.on_media(octets, now)
+    receiver.on_packet(packet, now)
 }
 
 /// Hears a packet that is not believed: the spare receiver is handed it.
@@ -158,10 +195,32 @@ fn hold_back<W: Window>(
     probation: &Probation,
     wanted: u16,
     seq: u16,
-    octets: &[u8],
+    packet: &RtpView<'_>,
     now: u64,
 ) -> Result<Heard, ReceiveFault>
-    ensures { HoldsBack probation.now (ends_of core.old spare.old run.old) wanted seq octets.now now result (ends_of core.new spare.new run.new) }
+    ensures { (octets : List ℕ) → RtpSpells packet.now octets
+        → HoldsBack probation.now (ends_of core.old spare.old run.old) wanted seq octets now result (ends_of core.new spare.new run.new) }
+{
+    begin_unless_followed(spare, run, probation, wanted, seq);
+    match hand(spare, packet, now) {
+        Err(fault) => {
+            *run = run.refused(probation);
+            Err(fault)
+        }
+        Ok(taken) => Ok(count_held(core, spare, run, probation, seq, taken, now)),
+    }
+}
+
+/// What is held back before the packet with this number: the same, where that goes on with it, or nothing.
+fn begin_unless_followed<W: Window>(
+    spare: &mut Receiver<W>,
+    run: &mut Run,
+    probation: &Probation,
+    wanted: u16,
+    seq: u16,
+)
+    ensures spare { spare.new ≡ spare_before probation.now spare.old run.old seq }
+    ensures run { run.new ≡ run_before probation.now run.old (highest_of spare.old.span) wanted seq }
 {
     if !run.is_followed_by(probation, spare.window().highest(), seq) {
         spare.restart();
@@ -171,13 +230,6 @@ fn hold_back<W: Window>(
             next: seq,
             last: run.last,
         };
-    }
-    match hand(spare, octets, now) {
-        Err(fault) => {
-            *run = run.refused(probation);
-            Err(fault)
-        }
-        Ok(taken) => Ok(count_held(core, spare, run, probation, seq, taken, now)),
     }
 }
 

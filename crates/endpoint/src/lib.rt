@@ -25,6 +25,7 @@ mod receiving;
 mod resend_counts;
 mod resend_meter;
 mod resend_rule;
+mod rivals;
 mod seen_packets;
 mod send_counts;
 mod sending;
@@ -35,10 +36,13 @@ mod told;
 
 pub use asked_places::AskedPlaces;
 pub use asking_endpoint::AskingEndpoint;
-pub use asking_laws::{kinds_are_told, what_was_asked_is_remembered};
+pub use asking_laws::{
+    a_source_falls_to_one_that_repairs, kinds_are_told, what_was_asked_is_remembered,
+};
 pub use config_laws::new_receivers_are_as_configured;
 pub use demultiplex::is_control;
 pub use heard::{Heard, Restart};
+pub use judging::media_number;
 pub use kind::Kind;
 pub use kind_counts::KindCounts;
 pub use laws::{

@@ -241,7 +241,7 @@ fn probe<W: Window>(trip: &mut RoundTrip, core: &Receiver<W>, highest: Place, na
 }
 
 /// How often a place was asked for, if it is missing.
-fn asks_for<W: Window>(core: &Receiver<W>, place: Place) -> Option<u8>
+pub(crate) fn asks_for<W: Window>(core: &Receiver<W>, place: Place) -> Option<u8>
     ensures { result ≡ asks_of (slot_at core.now.span place) }
 {
     match core.window().slot(place) {

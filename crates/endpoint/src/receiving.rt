@@ -1,25 +1,26 @@
 //! The receiving endpoint.
-ghost use Rattle.std.specs.Prelude.{◌≡◌, ◌↔◌, ◌+◌, ◌<◌, ◌≤◌, ℕ, length, None, Ok, Err, IsOk, IsNone, IfOk, OnOk, OnErr};
+ghost use Rattle.std.specs.Prelude.{◌≡◌, ◌↔◌, ◌+◌, ◌<◌, ◌≤◌, ◌&&◌, nat_lt, ℕ, length, None, Ok, Err, IsOk, IsNone, IfOk, OnOk, OnErr};
+ghost use Rattle.rtpwire.specs.Rtp.{RtpSpells};
 ghost use Rattle.receiver.specs.Asks.{AsksMost, AsksMostInto};
 ghost use Rattle.receiver.specs.Peeking.{play_of, receiver_passed};
-ghost use Rattle.receiver.specs.Receiver.{Stays, begun, restarted, state_of, with_times};
+ghost use Rattle.receiver.specs.Receiver.{Stays, begun, restarted, state_of, unlearnt, with_times};
 ghost use Rattle.receiver.specs.Window.{PlaysAny};
 ghost use Rattle.endpoint.specs.Receiving.{ends_of, fresh, HearsDatagram, HearsPacket, no_run};
 ghost use Rattle.endpoint.specs.ReceiveCounts.{count_heard, count_passed, count_played, CountsAsk, CountsAskInto, no_counts};
-ghost use Rattle.endpoint.specs.Seen.{none_seen, seen_after};
+ghost use Rattle.endpoint.specs.Seen.{is_repeat, none_seen, seen_after};
 
 use crate::asking::places_in;
 use crate::demultiplex::is_control;
 use crate::heard::Heard;
-use crate::holding::{Run, hear_wanted, wanted_at};
-use crate::judging::media_number;
+use crate::holding::{Run, hear_unread, hear_wanted, wanted_at};
+use crate::judging::number_in;
 use crate::padding::without_padding;
 use crate::passed::Passed;
 use crate::probation::Probation;
 use crate::receive_counts::ReceiveCounts;
 use crate::seen_packets::{SEEN, SeenPackets, is_repeat};
 use receiver::{HasStarted, Played, ReceiveFault, Receiver, ReceiverConfig};
-use rtpwire::{ConfigFault, Datagram, TooShort};
+use rtpwire::{ConfigFault, Datagram, RtpView, TooShort};
 use std::alloc::Global;
 use stores::{OutOfMemory, PutFault, Window};
 
@@ -109,10 +110,29 @@ impl<W: Window> ReceivingEndpoint<W> {
         ensures counts { self.new.counts ≡ self.old.counts }
         ensures seen { self.new.seen ≡ self.old.seen }
     {
+        match RtpView::read(octets) {
+            Ok(packet) => self.hear_read(&packet, octets, now),
+            Err(_) => hear_unread(&mut self.core, octets, now),
+        }
+    }
+
+    /// The same of octets that were read as this packet.
+    fn hear_read(
+        &mut self,
+        packet: &RtpView<'_>,
+        octets: &[u8],
+        now: u64,
+    ) -> Result<Heard, ReceiveFault>
+        requires { RtpSpells packet.now octets.now }
+        ensures hears { HearsPacket self.old.probation self.old.seen (ends_of self.old.core self.old.spare self.old.run) octets.now now result (ends_of self.new.core self.new.spare self.new.run) }
+        ensures probation { self.new.probation ≡ self.old.probation }
+        ensures counts { self.new.counts ≡ self.old.counts }
+        ensures seen { self.new.seen ≡ self.old.seen }
+    {
         let session = self.core.config().session();
-        let number = media_number(&session, octets);
+        let number = number_in(&session, packet);
         let wanted = wanted_at(&self.core, &self.probation, number);
-        if wanted > 0 && is_repeat(&self.seen, number, octets) {
+        if is_held_repeat(&self.seen, wanted, number, octets) {
             return Err(ReceiveFault::Put(PutFault::Late));
         }
         hear_wanted(
@@ -122,7 +142,7 @@ impl<W: Window> ReceivingEndpoint<W> {
             &self.probation,
             wanted,
             number,
-            octets,
+            packet,
             now,
         )
     }
@@ -252,6 +272,14 @@ impl<W: Window> ReceivingEndpoint<W> {
         self.run = Run::NONE;
     }
 
+    /// [`Receiver::forget_source`] of what was believed.
+    pub fn forget_source(&mut self)
+        ensures core { self.new.core ≡ unlearnt self.old.core }
+        ensures rest { self.new ≡ record self.old { core = self.new.core } }
+    {
+        self.core.forget_source();
+    }
+
     /// [`Receiver::set_times`], for what is held back too.
     ///
     /// `BadLimit` (53): `retry` is 0. The endpoint is then as it was.
@@ -266,4 +294,11 @@ impl<W: Window> ReceivingEndpoint<W> {
         self.core.set_times(patience, delay, retry)?;
         self.spare.set_times(patience, delay, retry)
     }
+}
+
+/// Whether a packet would be held back, as so many of them are wanted, and was taken before.
+fn is_held_repeat(seen: &SeenPackets, wanted: u16, number: Option<u16>, octets: &[u8]) -> bool
+    ensures { result ≡ (nat_lt 0 wanted && is_repeat seen.now number octets.now) }
+{
+    wanted > 0 && is_repeat(seen, number, octets)
 }

@@ -18,39 +18,28 @@ pub struct Awaited {
     pub noticed: u64,
 }
 
-/// The missing place that a packet with these octets has, if it is media.
-fn place_missed<W: Window>(core: &Receiver<W>, octets: &[u8]) -> Option<Awaited>
-    ensures { IsWaitedFor core.now.span octets.now result }
+/// The place near the highest one that the sequence number in these octets stands for, and the same place if it is missing.
+fn place_of<W: Window>(core: &Receiver<W>, octets: &[u8]) -> (Option<Place>, Option<Awaited>)
+    ensures place { IsNumbered (highest_of core.now.span) octets.now result.0 }
+    ensures awaited { IsWaitedFor core.now.span octets.now result.1 }
 {
-    let highest = core.window().highest()?;
+    let Some(highest) = core.window().highest() else {
+        return (None, None);
+    };
     if octets.len() < 4 {
-        return None;
+        return (None, None);
     }
     let Ok(place) = near(highest, u16_at(octets, 2)) else {
-        return None;
+        return (None, None);
     };
     match core.window().slot(place) {
-        Some(SlotRef::Missing { noticed, .. }) => Some(Awaited { place, noticed }),
-        _ => None,
-    }
-}
-
-/// The place near the highest one that the sequence number in these octets stands for.
-fn place_of<W: Window>(core: &Receiver<W>, octets: &[u8]) -> Option<Place>
-    ensures { IsNumbered (highest_of core.now.span) octets.now result }
-{
-    let highest = core.window().highest()?;
-    if octets.len() < 4 {
-        return None;
-    }
-    match near(highest, u16_at(octets, 2)) {
-        Ok(place) => Some(place),
-        Err(_) => None,
+        Some(SlotRef::Missing { noticed, .. }) => (Some(place), Some(Awaited { place, noticed })),
+        _ => (Some(place), None),
     }
 }
 
 /// The place of the original that a retransmission with these octets repeats.
-fn original_of<W: Window>(core: &Receiver<W>, octets: &[u8]) -> Option<Place>
+pub(crate) fn original_of<W: Window>(core: &Receiver<W>, octets: &[u8]) -> Option<Place>
     ensures { IsOriginal core.now.config.session (highest_of core.now.span) octets.now result }
 {
     match core.window().highest() {
@@ -107,12 +96,13 @@ impl Standing {
     pub fn before<W: Window>(core: &Receiver<W>, octets: &[u8]) -> Standing
         ensures { IsStanding core.now octets.now result }
     {
+        let (place, awaited) = place_of(core, octets);
         Standing {
             highest: core.window().highest(),
             cursor: core.window().cursor(),
             least: least_silence(core.config().patience()),
-            awaited: place_missed(core, octets),
-            place: place_of(core, octets),
+            awaited,
+            place,
             original: original_of(core, octets),
         }
     }

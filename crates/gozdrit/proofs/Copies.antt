@@ -1,8 +1,9 @@
 -- A NACK has 268 octets at most, so that there is room for a copy of it; and an ask behind it writes that.
-use Rattle.std.proofs.Common.{◌≡◌, ℕ, ◌+◌, ◌*◌, ◌≤◌, ◌==◌, ◌&&◌, nat_lt, min, Bool, true, false, List, [], ◌∷◌, ◌++◌, drop, length, take, Option, Some, None, Result, Ok, Err, refl, sym, ap, subst, arith, ◌∙◌, if◌then◌else◌}
+use Rattle.std.proofs.Common.{◌≡◌, ℕ, ◌+◌, ◌*◌, ◌<◌, ◌≤◌, ◌==◌, ◌&&◌, nat_lt, min, Bool, true, false, List, [], ◌∷◌, ◌++◌, drop, length, take, Option, Some, None, Result, Ok, Err, refl, sym, ap, subst, arith, ◌∙◌, if◌then◌else◌}
 use Rattle.std.specs.Prelude.{◌||◌, not, IsSome}
 use Rattle.std.specs.List.{flat_map}
 use Rattle.std.proofs.lemmas.List.{length-append, length-take-le, take_at}
+use Rattle.std.proofs.lemmas.Bool.Decides.{nat_tests}
 use Rattle.std.proofs.lemmas.Option.{none-some}
 use Rattle.std.proofs.Math.Nat.{min-le_left, min-le_right}
 use Rattle.arrayvec.specs.ArrayVec.{ArrayVec}
@@ -25,7 +26,8 @@ use Rattle.timing.specs.FeedbackBudget.{room_of}
 use Rattle.timing.specs.RoundTrip.{doubted, passed_at, probed}
 use Rattle.gozdrit.specs.Ends.{Receiver}
 use Rattle.timing.specs.declared.feedback_budget.FeedbackBudget.{FeedbackBudget}
-use Rattle.gozdrit.specs.Budget.{budget_without, fewer_in, is_earned, room_in}
+use Rattle.timing.specs.NackRoom.{budget_without, fewer_in, room_in}
+use Rattle.gozdrit.specs.Budget.{is_earned}
 use Rattle.gozdrit.specs.Following.{AsksAgain, AsksAs, AsksEarned, AsksFront, AsksNext, AsksWithin, copied_where, core_of, leaves_twice, left_by, meter_of_ask}
 
 pairs_length : (pairs : List Pair) → length (flat_map pair_octets pairs) ≡ 4 * length pairs
@@ -204,3 +206,12 @@ earned_before b r mid now most len out out' none some next =
     let asks = subst (λ (it : Option FeedbackBudget). AsksEarned it r now most out (Ok (Some len)) out' first.0) some first.1 in
     let few = within_room (nat_lt (room_in (Some b)) 16) (room_in (Some b)) most r now out len out' first.0 asks in
     let least = min-le_left (room_of b) 268 in omega (arith, few, least)
+
+-- What is due is asked for where one place has room.
+pub asked_where_one_has_room : (b : FeedbackBudget) (r mid : Receiver) (now most : ℕ) (out out' : List ℕ) (answer : Result (Option ℕ) TooShort) → 0 < fewer_in (room_in (Some b)) → AsksEarned (Some b) r now most out answer out' mid
+    → AsksFront (min (length out) (room_in (Some b))) (min most (fewer_in (room_in (Some b)))) r now out answer out' mid
+asked_where_one_has_room b r mid now most out out' answer some asks =
+    subst (λ (little : Bool). AsksWithin little (room_in (Some b)) most r now out answer out' mid) (enough (room_in (Some b)) some) asks
+  where
+    enough : (room : ℕ) → 0 < fewer_in room → nat_lt room 16 ≡ false
+    enough room has = grind (arith, nat_tests, has)

@@ -21,12 +21,14 @@ use Rattle.endpoint.specs.declared.standing.Standing.{Standing}
 use Rattle.endpoint.specs.Asked.{RemembersAskInto, kept_after}
 use Rattle.endpoint.specs.Kinds.{IsKind, count_kind}
 use Rattle.endpoint.specs.Measuring.{IsStanding, left_at, meter_asked, meter_given_up, meter_heard, meter_passed, times_set}
-use Rattle.endpoint.specs.Receiving.{HearsDatagram, ends_of}
+use Rattle.endpoint.specs.Receiving.{ends_of}
+use Rattle.endpoint.specs.Rivals.{HearsWeighed}
 use Rattle.endpoint.specs.ReceiveCounts.{count_heard, count_played, passed_by, CountsAskInto}
 use Rattle.endpoint.specs.Seen.{seen_after}
 use Rattle.timing.specs.Path.{times_over}
 use Rattle.timing.specs.declared.feedback_budget.FeedbackBudget.{FeedbackBudget}
-use Rattle.gozdrit.specs.Budget.{budget_with, budget_without, fewer_in, is_earned, room_in}
+use Rattle.timing.specs.NackRoom.{budget_with, budget_without, fewer_in, room_in}
+use Rattle.gozdrit.specs.Budget.{is_earned}
 use Rattle.gozdrit.specs.Ends.{Receiver}
 
 -- its receiver that has what is believed
@@ -40,8 +42,8 @@ with_ends r core spare = record r { endpoint = record r.endpoint { endpoint = re
 -- what the endpoint's own call promises of a datagram
 pub record HearsOwn (before : Receiver) (octets : List ℕ) (now : ℕ) (answer : Result Heard ReceiveFault) (after : Receiver) : Type 0 where
   pub kind : Kind
-  pub hears : HearsDatagram before.endpoint.endpoint.probation before.endpoint.endpoint.seen (ends_of (core_of before) before.endpoint.endpoint.spare before.endpoint.endpoint.run) octets now answer
-      (ends_of (core_of after) after.endpoint.endpoint.spare after.endpoint.endpoint.run)
+  pub hears : HearsWeighed before.endpoint.endpoint.probation before.endpoint.endpoint.seen (ends_of (core_of before) before.endpoint.endpoint.spare before.endpoint.endpoint.run)
+      before.endpoint.doubted octets now answer (ends_of (core_of after) after.endpoint.endpoint.spare after.endpoint.endpoint.run) after.endpoint.doubted
   pub probation : after.endpoint.endpoint.probation ≡ before.endpoint.endpoint.probation
   pub counts : after.endpoint.endpoint.counts ≡ count_heard answer before.endpoint.endpoint.counts
   pub seen : after.endpoint.endpoint.seen ≡ seen_after answer octets before.endpoint.endpoint.seen

@@ -15,7 +15,7 @@ use Rattle.gozdrit.specs.declared.counts.ReceiverCounts.{ReceiverCounts}
 use Rattle.gozdrit.specs.declared.counts.ProbeCounts.{ProbeCounts}
 use Rattle.gozdrit.specs.declared.counts.SenderCounts.{SenderCounts}
 use Rattle.gozdrit.specs.declared.sizes.TheConstants.{PROBE_COUNTS, RECEIVE_COUNTS, SEND_COUNTS, TIMES}
-use Rattle.gozdrit.specs.Budget.{room_in}
+use Rattle.timing.specs.NackRoom.{room_in}
 use Rattle.gozdrit.specs.Codes.{ok, no_end, bad_size}
 use Rattle.gozdrit.specs.Counted.{receiver_counts, probe_counts, sender_counts}
 use Rattle.gozdrit.specs.Ends.{Receiver, Sender}

@@ -1,5 +1,5 @@
 -- What the calls of a receiver answer to C, by the endpoint that its handle held before and after, if it held one.
-use Rattle.std.specs.Prelude.{◌≡◌, ◌≢◌, ◌⊎◌, ◌+◌, ◌==◌, ℕ, zero, suc, ◌<◌, ◌≤◌, not, true, ℤ, pos, List, length, Option, Some, None, IsSome, IsSomeAnd, Result, Ok, Err}
+use Rattle.std.specs.Prelude.{◌≡◌, ◌≢◌, ◌⊎◌, ◌+◌, ◌==◌, ℕ, zero, suc, ◌<◌, ◌≤◌, not, true, false, ℤ, pos, List, length, Option, Some, None, IsSome, IsSomeAnd, Result, Ok, Err}
 use Rattle.rtpwire.specs.declared.fault.ConfigFault.{ConfigFault}
 use Rattle.rtpwire.specs.declared.fault.TooShort.{TooShort}
 use Rattle.rtpwire.specs.Fault.{config_number}
@@ -17,7 +17,7 @@ use Rattle.gozdrit.specs.declared.heard.ReceivedFields.{ReceivedFields}
 use Rattle.gozdrit.specs.declared.answers.PlayedPacket.{PlayedPacket}
 use Rattle.timing.specs.FeedbackBudget.{nothing_earned}
 use Rattle.timing.specs.declared.feedback_budget.FeedbackBudget.{FeedbackBudget}
-use Rattle.gozdrit.specs.Budget.{budget_anew}
+use Rattle.timing.specs.NackRoom.{budget_anew}
 use Rattle.gozdrit.specs.Ends.{Receiver}
 use Rattle.gozdrit.specs.Following.{AsksNext, HearsAs, PassesAs, core_of, next_play, with_ends}
 use Rattle.gozdrit.specs.Codes.{ok, no_end, is_held, out_of_memory, no_room, has_started, bad_limit, bad_size}
@@ -42,6 +42,7 @@ new_receiver f =
         };
         asked = none_asked f.window;
         kinds = no_kinds;
+        doubted = false;
       };
       meter = new_meter;
       follows = not (following_of f == 0);
@@ -107,7 +108,7 @@ pub record AnswersBegin (old : Option Receiver) (first : ℕ) (code : ℤ) (new 
 abbrev pub receiver_restarted : Receiver → Receiver
 receiver_restarted r =
     record r {
-      endpoint = record r.endpoint { endpoint = record r.endpoint.endpoint { core = restarted (core_of r); run = no_run }; asked = none_asked (length r.endpoint.asked) };
+      endpoint = record r.endpoint { endpoint = record r.endpoint.endpoint { core = restarted (core_of r); run = no_run }; asked = none_asked (length r.endpoint.asked); doubted = false };
       meter = meter_restarted r.meter;
       again = None;
       budget = budget_anew r.budget;

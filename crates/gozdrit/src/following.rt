@@ -11,15 +11,15 @@ ghost use Rattle.stores.specs.Asking.{has_come};
 ghost use Rattle.stores.specs.Lent.{slot_of};
 ghost use Rattle.stores.specs.Span.{front_of};
 ghost use Rattle.gozdrit.specs.Following.{AsksAgain, AsksAs, AsksEarned, AsksNext, HearsAs, HearsOwn, PassesAs, core_of, leaves_twice, left_behind, next_play, patience_of, timed_where};
-ghost use Rattle.gozdrit.specs.Budget.{budget_with, room_in};
+ghost use Rattle.timing.specs.NackRoom.{budget_with, room_in};
 
 use crate::again::{Again, MAX_NACK, copy_of, write_copy};
-use crate::budget::{MIN_NACK, earn, fewer_in, is_earned, room, spend};
+use crate::budget::{MIN_NACK, is_earned};
 use endpoint::{AskingEndpoint, Heard, Passed, PathMeter, Standing};
 use receiver::ReceiveFault;
 use rtpwire::TooShort;
 use stores::{RingWindow, SlotRef, Window};
-use timing::FeedbackBudget;
+use timing::{FeedbackBudget, earn_feedback, feedback_room, fewer_in, spend_feedback};
 
 /// A receiver, what it measured of the path, and whether the times of its asks follow that, and a place is given up by when its packet
 /// was sent. Where no times follow, nothing is measured. A NACK of it may leave twice.
@@ -60,7 +60,7 @@ impl MeteredReceiver {
         ensures again { self.new.again ≡ self.old.again }
         ensures budget { self.new.budget ≡ budget_with (length octets.now) self.old.budget }
     {
-        earn(&mut self.budget, octets);
+        earn_feedback(&mut self.budget, octets.len());
         self.endpoint.on_datagram(octets, now).0
     }
 
@@ -100,9 +100,9 @@ impl MeteredReceiver {
         requires { length nack.now ≤ MAX_NACK }
         ensures { self.new ≡ left_behind nack.now self.old }
     {
-        spend(&mut self.budget, nack.len());
+        spend_feedback(&mut self.budget, nack.len());
         if self.leaves_twice() && is_earned(&self.budget, nack.len()) {
-            spend(&mut self.budget, nack.len());
+            spend_feedback(&mut self.budget, nack.len());
             self.keep(nack);
         }
     }
@@ -141,7 +141,7 @@ impl MeteredReceiver {
         let mut space = out.len();
         let mut most = most;
         if self.budget.is_some() {
-            let room = room(&self.budget);
+            let room = feedback_room(&self.budget);
             if room < MIN_NACK {
                 return Ok(None);
             }
@@ -183,7 +183,7 @@ impl MeteredReceiver {
             return Some(0);
         }
         let core = self.endpoint.endpoint().core();
-        if room(&self.budget) < MIN_NACK {
+        if feedback_room(&self.budget) < MIN_NACK {
             return ready_from(core.window().front(), self.patience_left());
         }
         core.next_moment_within(self.patience_left())

@@ -1,5 +1,5 @@
 //! Laws on the configurations that C says, field by field. These functions compute nothing: their contracts are the laws.
-ghost use Rattle.std.specs.Prelude.{◌≡◌, ◌↔◌, ℕ, ◌+◌, ◌/◌, ◌<◌, ◌≤◌, true, false, List, [], ◌∷◌, ◌++◌, length, replicate, take, Option, Some, None, Result, Ok};
+ghost use Rattle.std.specs.Prelude.{◌≡◌, ◌↔◌, ℕ, ◌+◌, ◌/◌, ◌<◌, ◌≤◌, true, false, List, [], ◌∷◌, ◌++◌, length, min, replicate, take, Option, Some, None, Result, Ok};
 ghost use Rattle.rtpwire.specs.declared.fault.TooShort.{TooShort};
 ghost use Rattle.gozdrit.specs.declared.config.SessionFields.{SessionFields};
 ghost use Rattle.gozdrit.specs.declared.config.SenderFields.{SenderFields};
@@ -7,9 +7,10 @@ ghost use Rattle.gozdrit.specs.declared.config.ReceiverFields.{ReceiverFields};
 ghost use Rattle.gozdrit.specs.Config.{streams_of, sender_config, receiver_config, probation_of, rule_of};
 ghost use Rattle.timing.specs.FeedbackBudget.{room_of};
 ghost use Rattle.timing.specs.declared.feedback_budget.FeedbackBudget.{FeedbackBudget};
-ghost use Rattle.gozdrit.specs.Budget.{budget_without, is_earned};
+ghost use Rattle.timing.specs.NackRoom.{budget_without, fewer_in, room_in};
+ghost use Rattle.gozdrit.specs.Budget.{is_earned};
 ghost use Rattle.gozdrit.specs.Ends.{Receiver, Sender};
-ghost use Rattle.gozdrit.specs.Following.{AsksNext, leaves_twice};
+ghost use Rattle.gozdrit.specs.Following.{AsksEarned, AsksFront, AsksNext, leaves_twice};
 ghost use Rattle.gozdrit.specs.Sending.{IsNewSender, rule_now, set_to, told_at};
 ghost use Rattle.endpoint.specs.ResendMetering.{meter_fixed, meter_following};
 ghost use Rattle.endpoint.specs.Resending.{always};
@@ -97,6 +98,9 @@ pub fn nacks_leave_twice()
 
 /// Where NACKs are to be earned, none leaves that was not: it has no more octets than a budget of what came has room for.
 pub fn nacks_are_earned()
-    ensures { (b : FeedbackBudget) (r mid : Receiver) (now most len : ℕ) (out out' : List ℕ) → r.again ≡ None → r.budget ≡ Some b
+    ensures within { (b : FeedbackBudget) (r mid : Receiver) (now most len : ℕ) (out out' : List ℕ) → r.again ≡ None → r.budget ≡ Some b
         → AsksNext r.again r now most out (Ok (Some len)) out' mid → len ≤ room_of b }
+    // And what is due is asked for, as soon as one place has room.
+    ensures asked { (b : FeedbackBudget) (r mid : Receiver) (now most : ℕ) (out out' : List ℕ) (answer : Result (Option ℕ) TooShort) → let room = room_in (Some b) in
+        0 < fewer_in room → AsksEarned (Some b) r now most out answer out' mid → AsksFront (min (length out) room) (min most (fewer_in room)) r now out answer out' mid }
 {}

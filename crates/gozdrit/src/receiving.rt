@@ -6,7 +6,6 @@ ghost use Rattle.gozdrit.specs.Freeing.{AnswersFree};
 ghost use Rattle.gozdrit.specs.Receiving.{AnswersReceiverNew, AnswersReceive, AnswersPlay, AnswersNack, AnswersBegin, AnswersRestart, AnswersTimes, AnswersFollow, AnswersCopies, AnswersBudget};
 
 use crate::answers::PlayedPacket;
-use crate::budget::renew;
 use crate::code::{BAD_SIZE, HELD, NO_END, OK, OUT_OF_MEMORY};
 use crate::config::{MAX_FOLLOWS, ReceiverFields};
 use crate::following::MeteredReceiver;
@@ -18,7 +17,7 @@ use endpoint::{AskingEndpoint, PathMeter};
 use rtpwire::ConfigFault;
 use std::alloc::Global;
 use stores::Window;
-use timing::FeedbackBudget;
+use timing::{FeedbackBudget, renew_feedback};
 
 /// What C holds of a receiver.
 pub type ReceiverHandle = Handle<MeteredReceiver>;
@@ -151,7 +150,7 @@ pub(crate) fn restart(receiver: &mut ReceiverHandle) -> i32
     inside.endpoint.restart();
     inside.meter.restart();
     inside.again = None;
-    renew(&mut inside.budget);
+    renew_feedback(&mut inside.budget);
     OK
 }
 

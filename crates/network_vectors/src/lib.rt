@@ -26,6 +26,8 @@ mod resending;
 #[cfg(test)]
 mod restarts;
 #[cfg(test)]
+mod rivals;
+#[cfg(test)]
 mod sharing;
 #[cfg(test)]
 mod silences;

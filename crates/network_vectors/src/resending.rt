@@ -289,7 +289,7 @@ fn how_long_an_answer_takes(rt: HostRuntime) -> Result<(), Fail> {
 }
 
 /// The rule that holds where one has 10 milliseconds. An answer took ten, and then eight times 500: 12, 14, 16, 19, 22, 25, 29 and 33 are told,
-/// of which what is above twice ten counts. A retransmission takes as long as lies between two packets, which is 30, and the answer behind it 33.
+/// of which what is above twice ten counts. A path takes five milliseconds for a retransmission at most, and so 30 for six, and an answer behind them 33.
 #[test]
 fn a_rule_that_follows(rt: HostRuntime) -> Result<(), Fail> {
     let mut endpoint = timely(rt.alloc(), 0, None)?;
@@ -315,8 +315,10 @@ fn a_rule_that_follows(rt: HostRuntime) -> Result<(), Fail> {
             min_resend: 13,
             deadline: Some(300),
         };
-    follows.resend(530);
-    fixed.resend(530);
+    for _ in 0..6u8 {
+        follows.resend(530);
+        fixed.resend(530);
+    }
     let resent = follows.rule(rule, 530).min_resend == 63
         && follows.rule(rule, 543).min_resend == 50
         && follows.rule(rule, 544).min_resend == 13;

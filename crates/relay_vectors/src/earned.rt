@@ -107,8 +107,8 @@ fn a_new_address_earns_anew(rt: HostRuntime) -> Result<(), Fail> {
         (1, Far, FAR, Media(10, 1)),
         (2, Far, FAR, Media(11, 2)),
         (3, Far, FAR, Media(13, 4)),
-        // Three packets show it there, and are not heard; the fourth one is, 998 milliseconds behind the old address's last one. Of those three
-        // each was sent 249 milliseconds before it at least, as far as that silence tells, and is given up.
+        // Three packets show it there, and are not heard; the fourth one is. The stream has three in a second at most, so no silence tells that those
+        // are late, and they are missing since it came.
         (990, Far, OTHER, Media(14, 66)),
         (991, Far, OTHER, Media(15, 66)),
         (992, Far, OTHER, Media(16, 66)),
@@ -116,18 +116,35 @@ fn a_new_address_earns_anew(rt: HostRuntime) -> Result<(), Fail> {
         (1002, Far, OTHER, Media(19, 7)),
         (1010, Far, OTHER, Media(18, 6)),
     ];
-    // What is due at 53 has no room in the seven octets that are left. What is due at 1002 leaves once: it has room in the 26 that came from
-    // there, and a copy would have in these and the seven.
+    // What is due at 53 has no room in the seven octets that are left. What is due at 1001 has none in the 13 that came from there, and leaves once at
+    // 1002: it has room in 26, and a copy would have in these and the seven. What is still due at 1042 has room in 23, and at 1082 in none.
     const LEAVES: &[(usize, Passing)] = &[
         (0, (1, Near, PLAYER, Media(10, 1))),
         (1, (2, Near, PLAYER, Media(11, 2))),
         (2, (3, Far, FAR, Nack(12))),
         (3, (3, Far, FAR, Nack(12))),
         (4, (203, Near, PLAYER, Media(13, 4))),
-        (5, (1001, Near, PLAYER, Media(17, 5))),
-        (6, (1002, Far, OTHER, Nack(18))),
-        (7, (1010, Near, PLAYER, Media(18, 6))),
-        (8, (1010, Near, PLAYER, Media(19, 7))),
+        (
+            5,
+            (
+                1002,
+                Far,
+                OTHER,
+                These(b"\x81\xcd\x00\x03\x33\x33\x33\x33\x11\x11\x11\x11\x00\x0e\x00\x0b"),
+            ),
+        ),
+        (
+            6,
+            (
+                1042,
+                Far,
+                OTHER,
+                These(b"\x81\xcd\x00\x03\x33\x33\x33\x33\x11\x11\x11\x11\x00\x0e\x00\x03"),
+            ),
+        ),
+        (7, (1201, Near, PLAYER, Media(17, 5))),
+        (8, (1201, Near, PLAYER, Media(18, 6))),
+        (9, (1201, Near, PLAYER, Media(19, 7))),
     ];
     assert!(rt; leaves(rt.alloc(), 10, COMES, LEAVES)?);
     Ok(())

@@ -99,7 +99,7 @@ fn done_by(
     runs(&mut script, relay, leaves)
 }
 
-/// The same for three packets, of one that follows the path.
+/// The same for ten packets, of one that follows the path.
 fn following(
     alloc: Global,
     rule: ResendRule,
@@ -107,7 +107,7 @@ fn following(
     leaves: &[(usize, Passing)],
 ) -> Result<Told, Fail> {
     let mut script = Script::new(alloc, comes)?;
-    let mut relay = relay(alloc, 3, Pace::new(Rate::Free), rule)?;
+    let mut relay = relay(alloc, 10, Pace::new(Rate::Free), rule)?;
     relay.follow();
     runs(&mut script, relay, leaves)
 }
@@ -330,36 +330,46 @@ fn what_does_not_fit_the_time_is_passed_over(rt: HostRuntime) -> Result<(), Fail
     Ok(())
 }
 
-/// The second packet leaves 40 behind the first, so a path with room for the media alone takes as long for a retransmission, and an answer came
-/// 15 behind it. The same NACK 27 after a retransmission comes too soon, as that would be taken for 13 more, and 28 after it it does not; by
-/// the rule alone, which has 10, the first is answered.
+/// Packets leave five apart, so a path with room for the media alone takes as long for a retransmission, and forty for eight; and an answer came
+/// 15 behind the last of them. A NACK that names the first again 27 after its retransmission comes too soon, as that would be taken for 13 more, and 28
+/// after it it does not; by the rule alone, which has 10, the first is answered.
 #[test]
 fn an_answer_on_its_way_is_waited_for(rt: HostRuntime) -> Result<(), Fail> {
+    const EIGHT: &[u8] = b"\x81\xcd\x00\x03\x33\x33\x33\x33\x11\x11\x11\x11\xff\xff\x00\x7f";
+    const NINTH: Packet = These(b"\x80\xff\x00\x0f\x00\x00\x00\x64\x22\x22\x22\x22\xff\xff\xaa");
+    const TENTH: Packet = These(b"\x80\x21\x00\x08\x00\x00\x00\xc8\x11\x11\x11\x11\xbb");
     const COMES: &[Passing] = &[
         (5, Near, APPLICATION, FIRST),
+        (10, Near, APPLICATION, SECOND),
+        (15, Near, APPLICATION, SECOND),
+        (20, Near, APPLICATION, SECOND),
+        (25, Near, APPLICATION, SECOND),
+        (30, Near, APPLICATION, SECOND),
+        (35, Near, APPLICATION, SECOND),
+        (40, Near, APPLICATION, SECOND),
         (45, Near, APPLICATION, SECOND),
-        (60, Far, FAR, NACK),
+        (60, Far, FAR, These(EIGHT)),
         (87, Far, FAR, NACK),
         (88, Far, FAR, NACK),
         (90, Near, APPLICATION, SECOND),
     ];
     const LEAVES: &[(usize, Passing)] = &[
-        (2, (60, Far, FAR, REPAIRED_FIRST)),
-        (3, (88, Far, FAR, REPAIRED_AGAIN)),
-        (4, (90, Far, FAR, SENT_AGAIN)),
+        (9, (60, Far, FAR, REPAIRED_FIRST)),
+        (17, (88, Far, FAR, NINTH)),
+        (18, (90, Far, FAR, TENTH)),
     ];
     const LEAVES_BY_RULE: &[(usize, Passing)] = &[
-        (2, (60, Far, FAR, REPAIRED_FIRST)),
-        (3, (87, Far, FAR, REPAIRED_AGAIN)),
-        (4, (90, Far, FAR, SENT_AGAIN)),
+        (9, (60, Far, FAR, REPAIRED_FIRST)),
+        (17, (87, Far, FAR, NINTH)),
+        (18, (90, Far, FAR, TENTH)),
     ];
     let rule = ResendRule {
         min_resend: 10,
         deadline: None,
     };
     let followed = following(rt.alloc(), rule, COMES, LEAVES)?;
-    assert!(rt; followed.has_left && followed.gone == 6 && followed.early == 1);
-    let ruled = done_by(rt.alloc(), 3, Rate::Free, rule, COMES, LEAVES_BY_RULE)?;
-    assert!(rt; ruled.has_left && ruled.gone == 6 && ruled.early == 1);
+    assert!(rt; followed.has_left && followed.gone == 20 && followed.early == 1);
+    let ruled = done_by(rt.alloc(), 10, Rate::Free, rule, COMES, LEAVES_BY_RULE)?;
+    assert!(rt; ruled.has_left && ruled.gone == 20 && ruled.early == 1);
     Ok(())
 }

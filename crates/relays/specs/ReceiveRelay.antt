@@ -30,7 +30,8 @@ use Rattle.endpoint.specs.Measuring.{IsStanding, left_at, meter_asked, meter_giv
 use Rattle.endpoint.specs.ReceiveCounts.{count_heard, count_played, CountsAsk, no_counts}
 use Rattle.endpoint.specs.Seen.{none_seen, seen_after}
 use Rattle.endpoint.specs.declared.seen_packets.SeenPacket.{SeenPacket}
-use Rattle.endpoint.specs.Receiving.{ends_of, fresh, HearsDatagram, IsMediaNumber, IsSpelledWhere, no_run}
+use Rattle.endpoint.specs.Receiving.{ends_of, fresh, IsMediaNumber, IsSpelledWhere, no_run}
+use Rattle.endpoint.specs.Rivals.{HearsWeighed}
 use Rattle.relays.specs.declared.bounds.Bounds.{Bounds}
 use Rattle.relays.specs.declared.outside.Side.{Side}
 use Rattle.relays.specs.declared.outside.Side.TheVariants.{Near, Far}
@@ -48,7 +49,8 @@ use Rattle.timing.specs.Path.{times_over}
 use Rattle.timing.specs.RoundTrip.{time_of}
 use Rattle.timing.specs.declared.playout.Playout.{Playout}
 use Rattle.relays.specs.Holding.{asking_time, clock_after, held_by, timestamp_of, wait_by}
-use Rattle.relays.specs.Feedback.{after_move, after_nack, after_octets, leaves_twice, room_for}
+use Rattle.timing.specs.NackRoom.{budget_anew, budget_with, fewer_in, room_in}
+use Rattle.relays.specs.Feedback.{after_nack, leaves_twice}
 use Rattle.relays.specs.Leaving.{GoesTo, octets_of}
 use Rattle.relays.specs.Moving.{next_of}
 use Rattle.relays.specs.FarSide.{Shows, heard_at, is_quiet, left, new_far_side}
@@ -63,6 +65,7 @@ pub record ReceiveSide : Type 0 where
   pub counts : ReceiveCounts
   pub asked : List (Option ℕ)  -- which places its endpoint asked for, as far as that remembers, and of which kind what came was
   pub kinds : KindCounts
+  pub doubted : Bool  -- whether the SSRC of the retransmissions that its endpoint learnt is in doubt
   pub seen : List (Option SeenPacket)  -- what its endpoint took, as far as that remembers
   pub far : FarSide  -- where the far side is, and what shows it at another address
   pub reach : ℕ  -- by how much less a number may lie ahead that shows the far side at another address
@@ -94,6 +97,7 @@ new_receive_side config capacity far player numbering hold bounds =
       counts = no_counts;
       asked = none_asked capacity;
       kinds = no_kinds;
+      doubted = false;
       seen = none_seen 8192;
       far = new_far_side far;
       reach = dropout_of capacity;
@@ -144,15 +148,15 @@ Moves s from octets now answer far = (next : Option ℕ) × GoesOn s octets next
 
 -- The endpoint hears a datagram of the far side; and what it took measures the path, by where its receiver stood.
 pub record HearsFrom (old : ReceiveSide) (from : SocketAddr) (octets : List ℕ) (now : ℕ) (answer : Result Heard ReceiveFault) (kind : Kind) (new : ReceiveSide) : Type 0 where
-  pub hears : HearsDatagram old.probation old.seen (ends_of old.core old.spare old.run) octets now answer (ends_of new.core new.spare new.run)
+  pub hears : HearsWeighed old.probation old.seen (ends_of old.core old.spare old.run) old.doubted octets now answer (ends_of new.core new.spare new.run) new.doubted
   pub standing : Standing
   pub stood : IsStanding old.core octets standing
   pub is_kind : IsKind old.asked old.core.config.session (highest_of old.core.span) octets answer kind
-  pub rest : new ≡ record old { core = new.core; spare = new.spare; run = new.run; counts = count_heard answer old.counts; asked = kept_after answer old.asked; kinds = count_kind kind answer old.kinds; seen = seen_after answer octets old.seen; far = heard_at from now old.far; numbering = numbering_after answer old.numbering; hold = clock_after answer (timestamp_of octets) now old.hold; meter = meter_heard answer standing now old.meter; budget = after_octets (length octets) old.budget }
+  pub rest : new ≡ record old { core = new.core; spare = new.spare; run = new.run; counts = count_heard answer old.counts; asked = kept_after answer old.asked; kinds = count_kind kind answer old.kinds; doubted = new.doubted; seen = seen_after answer octets old.seen; far = heard_at from now old.far; numbering = numbering_after answer old.numbering; hold = clock_after answer (timestamp_of octets) now old.hold; meter = meter_heard answer standing now old.meter; budget = budget_with (length octets) old.budget }
 
 -- a far side that moved has earned nothing where it is now, and what was asked for is not asked for there a second time
 abbrev pub moved : ReceiveSide → FarSide → ReceiveSide
-moved s far = record s { far = left far; copy = None; budget = after_move s.budget }
+moved s far = record s { far = left far; copy = None; budget = budget_anew s.budget }
 
 -- What is done with a datagram from another address than the far side's: the endpoint hears what shows the far side there, which is its address
 -- from then on, and nobody else's. Of what shows nothing yet no more is kept than that.
@@ -200,10 +204,6 @@ next_play s now = held_by s.hold s.core.config.patience now (play_of (patience_l
 abbrev pub NothingDue : ReceiveSide → (now : ℕ) → Type 0
 NothingDue old now = AsksMost old.core.config (state_of old.core) now 256 None (state_of old.core)
 
--- How many places have room in so many octets with a pair each, and so are asked for where those of one datagram, 256, have not.
-abbrev pub fewer_in : (room : ℕ) → ℕ
-fewer_in room = (room - 12) / 4
-
 -- its endpoint writes a NACK of so many places at most that are due, which has these octets and no more than there is room for
 pub record AsksOf (room most : ℕ) (old : ReceiveSide) (now len : ℕ) (out : List ℕ) (new : ReceiveSide) : Type 0 where
   pub asks : AsksMost old.core.config (state_of old.core) now most (Some (record { items = take len out })) (state_of new.core)
@@ -242,7 +242,7 @@ copy_for octets false = None
 
 -- places that are due are asked for at the far side, within what was earned
 pub record AsksFar (old : ReceiveSide) (now : ℕ) (d : Departure) (out : List ℕ) (new : ReceiveSide) : Type 0 where
-  pub asks : AsksWithin (room_for old.budget) old now d.len out new
+  pub asks : AsksWithin (room_in old.budget) old now d.len out new
   pub goes : GoesTo d Far old.far.at
   pub rest : new ≡ record old { core = new.core; counts = new.counts; asked = new.asked; meter = meter_asked new.core.span (octets_of d out) now old.meter; copy = copy_for (octets_of d out) (leaves_twice d.len old.budget); budget = after_nack d.len old.budget }
 
@@ -277,7 +277,7 @@ SpeaksAs old now n leaves out new = ⊥
 
 -- nothing is asked for: a NACK has no room in what was earned, or none is written
 pub record NothingAsked (old : ReceiveSide) (now : ℕ) : Type 0 where
-  pub either : (room_for old.budget < 16) ⊎ AsksNot (room_for old.budget) old now
+  pub either : (room_in old.budget < 16) ⊎ AsksNot (room_in old.budget) old now
 
 abbrev pub Speaks : ReceiveSide → (now : ℕ) → Option Turn → (out : List ℕ) → ReceiveSide → Type 0
 Speaks old now None out new = (old.meter.is_new ≡ false) × (next_play old now ≡ Wait) × (old.copy ≡ None) × NothingAsked old now × (new ≡ old)

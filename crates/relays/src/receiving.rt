@@ -19,15 +19,15 @@ mod asking;
 use crate::bounds::Bounds;
 use crate::dropout::{dropout, probation};
 use crate::far_side::FarSide;
-use crate::feedback::{earn, renew};
 use crate::holding::{asking_time, hear_clock, release, wait};
-use crate::moving::{media_number, next_of};
+use crate::moving::next_of;
 use crate::numbering::Numbering;
 use crate::outside::Side;
 use crate::relay::{Departure, Note, Relay, Turn, silent};
 use crate::writing::write;
 use endpoint::{
     AskingEndpoint, Heard, Kind, KindCounts, Passed, PathMeter, ReceiveCounts, Standing,
+    media_number,
 };
 use places::Place;
 use receiver::{HasStarted, Peeked, ReceiveFault, Receiver, ReceiverConfig};
@@ -36,7 +36,7 @@ use std::alloc::Global;
 use std::marker::Model;
 use std::net::SocketAddr;
 use stores::{OutOfMemory, SlotRef, Window, sooner};
-use timing::{FeedbackBudget, Playout};
+use timing::{FeedbackBudget, Playout, earn_feedback, renew_feedback};
 
 /// It takes a session from a network, asks the far side for what is lost, and hands what is played to a player as RTP of one SSRC,
 /// whose sequence numbers have holes only where places were given up or overrun, or a jump of the stream passed over them. How long it
@@ -68,7 +68,7 @@ impl<W: Window> Model for ReceiveRelay<W> {
 
     ghost Value = { ReceiveSide };
 
-    ghost view = { λ r. record { core = r.endpoint.endpoint.core; spare = r.endpoint.endpoint.spare; run = r.endpoint.endpoint.run; probation = r.endpoint.endpoint.probation; counts = r.endpoint.endpoint.counts; asked = r.endpoint.asked; kinds = r.endpoint.kinds; seen = r.endpoint.endpoint.seen; far = r.far; reach = r.reach; player = r.player; numbering = r.numbering; hold = r.hold; meter = r.meter; last = r.last; copy = r.copy; budget = r.budget; bounds = r.bounds } };
+    ghost view = { λ r. record { core = r.endpoint.endpoint.core; spare = r.endpoint.endpoint.spare; run = r.endpoint.endpoint.run; probation = r.endpoint.endpoint.probation; counts = r.endpoint.endpoint.counts; asked = r.endpoint.asked; kinds = r.endpoint.kinds; doubted = r.endpoint.doubted; seen = r.endpoint.endpoint.seen; far = r.far; reach = r.reach; player = r.player; numbering = r.numbering; hold = r.hold; meter = r.meter; last = r.last; copy = r.copy; budget = r.budget; bounds = r.bounds } };
 }
 
 impl<W: Window> ReceiveRelay<W> {
@@ -266,7 +266,7 @@ impl<W: Window> ReceiveRelay<W> {
     {
         self.far.leave();
         self.copy = None;
-        renew(&mut self.budget);
+        renew_feedback(&mut self.budget);
     }
 
     /// Hears a datagram of the far side, which is at this address, and measures the path by it.
@@ -280,7 +280,7 @@ impl<W: Window> ReceiveRelay<W> {
     {
         let standing = Standing::before(self.core(), octets);
         self.far.hear(from, now);
-        earn(&mut self.budget, octets);
+        earn_feedback(&mut self.budget, octets.len());
         let (answer, kind) = self.endpoint.on_datagram(octets, now);
         renumber(&mut self.numbering, &answer);
         hear_clock(&mut self.hold, &answer, octets, now);

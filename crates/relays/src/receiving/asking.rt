@@ -4,15 +4,16 @@ ghost use Rattle.relays.specs.declared.relay.Note.TheVariants as note;
 ghost use Rattle.rtpwire.specs.declared.limits.TheConstants.{MAX_DATAGRAM};
 ghost use Rattle.stores.specs.Asking.{has_come};
 ghost use Rattle.relays.specs.Passing.{IsWithin};
-ghost use Rattle.relays.specs.ReceiveRelay.{Asks, AsksAgain, AsksIn, AsksNot, AsksWithin, fewer_in, NothingAsked, NothingDue, StaysBut};
+ghost use Rattle.relays.specs.ReceiveRelay.{Asks, AsksAgain, AsksIn, AsksNot, AsksWithin, NothingAsked, NothingDue, StaysBut};
 
 use super::ReceiveRelay;
-use crate::feedback::{room_for, spend};
+use crate::feedback::spend;
 use crate::outside::Side;
 use crate::relay::{Departure, Note, Turn};
 use crate::writing::copy_of;
 use rtpwire::TooShort;
 use stores::{AskRule, Window, window_by_place};
+use timing::{feedback_room, fewer_in};
 
 /// How many places one ask names at most.
 const MOST: usize = 256;
@@ -25,7 +26,7 @@ impl<W: Window> ReceiveRelay<W> {
     pub(super) fn ask_moment(&self) -> Option<u64>
         ensures { (now : ℕ) → now < 2 ^ 64 → has_come result now ≡ false → NothingAsked self.now now }
     {
-        if room_for(&self.budget) < SHORTEST {
+        if feedback_room(&self.budget) < SHORTEST {
             return None;
         }
         self.due_moment()
@@ -54,7 +55,7 @@ impl<W: Window> ReceiveRelay<W> {
         ensures within { IfSome result IsWithin }
         ensures room { length out.new ≡ MAX_DATAGRAM }
     {
-        let room = room_for(&self.budget);
+        let room = feedback_room(&self.budget);
         if room < SHORTEST {
             return None;
         }
@@ -144,11 +145,4 @@ impl<W: Window> ReceiveRelay<W> {
             }),
         })
     }
-}
-
-/// How many places have room in a NACK of so many octets, with a pair each (RFC 4585, section 6.2.1).
-fn fewer_in(room: usize) -> usize
-    ensures { result ≡ fewer_in room }
-{
-    room.saturating_sub(12) / 4
 }

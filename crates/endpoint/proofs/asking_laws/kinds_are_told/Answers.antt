@@ -31,7 +31,7 @@ returns g =
       padding = λ p octets plain answer kind old new steps rtp_not stripped packet spelled is.
           let empty = ap (λ (q : RtpPacket). q.payload) (g.spelling_is_determined.ensures.one packet stripped.empty.packet plain spelled stripped.empty.spelled) ∙ stripped.empty.empty in
           let short = padding_short g.spelling_is_determined.ensures.one g.spelling_is_determined.ensures.refused g.repair_is_determined.ensures.long plain packet spelled empty
-          p steps.seen old.ends new.ends steps.now answer is octets stripped rtp_not steps.hears in
+          p steps.seen old.ends (record new.ends { core = steps.hears.mid }) steps.now answer is octets stripped rtp_not steps.hears.hears in
           let told = told_padding old.cells old.ends.core.config.session octets (highest_of old.ends.core.span) kind
           (subst (λ (a : Result Heard ReceiveFault). IsKind old.cells old.ends.core.config.session (highest_of old.ends.core.span) octets a kind) short steps.kind_is) (plain, stripped) in
           (short, told, steps.kinds ∙ ap (λ (k : Kind). count_kind k answer old.kinds) told);
