@@ -275,10 +275,11 @@ typedef struct gozdrit_receiver_config {
 #define GOZDRIT_ADAPTIVE_OFF 0 /* all times stay as they are set; in a configuration whose `nack_interval` is 0, as GOZDRIT_ADAPTIVE_SEND_TIME */
 /* `reorder_delay` and `nack_interval` hold until a round trip was measured, and follow the path from then on: the first
  * NACK waits as long as packets were seen to come behind later ones, and as many NACKs follow as have their answers within
- * the latency, no closer than the round trip with its variation (RFC 6298, section 2). */
+ * the latency, no closer than the round trip with its variation (RFC 6298, section 2), or without it where many are lost. */
 #define GOZDRIT_ADAPTIVE_NACKS 1
 /* That, and a packet is given up by when it was sent: one that was lost in a silence, longer than the latency by a quarter
- * or more, is waited for that much less than the latency as it was sent before the silence ended, at the rate before. */
+ * or more and than four of the stream's gaps, is waited for that much less than the latency as it was sent before the
+ * silence ended, at the rate before. */
 #define GOZDRIT_ADAPTIVE_SEND_TIME 2
 
 /* What a packet carries beside its payload (RFC 3550, sections 5.1 and 5.3.1). */
@@ -578,7 +579,8 @@ int32_t gozdrit_receiver_free(gozdrit_receiver *receiver);
  * A packet that is all padding is taken as one with an empty payload.
  *
  * A receiver that learns takes as a retransmission what a NACK of its named, under any SSRC but the media's and its own;
- * the SSRC of the first that it takes is the one of the retransmissions from then on, until the receiver is reset.
+ * the SSRC of the first that it takes is the one of the retransmissions from then on, until the receiver is reset, or two
+ * in a row are refused for their SSRC that would have repaired what a NACK of its named: then it learns anew.
  *
  * received->refusal, where received->kind is GOZDRIT_REFUSED, is the first of:
  *

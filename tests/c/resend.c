@@ -89,13 +89,15 @@ static void test_no_rule(void) {
     ANSWERS(GOZDRIT_OK, gozdrit_sender_free(&sender));
 }
 
-/* The second packet is sent 40 behind the first, so a path with room for the media alone takes as long for a retransmission, and
- * an answer came 15 behind it. Named 27 after its retransmission the first comes too soon, as that would be taken for 13
- * more, and 38 after it it does not; by min_resend alone, which is 10, both are answered. Where nothing is said (2), the path is followed. */
+/* Packets are sent five apart, so a path with room for the media alone takes as long for a retransmission, and forty for eight;
+ * and an answer came 15 behind the last of them. Named 27 after its retransmission the first comes too soon, as that would be
+ * taken for 13 more, and 38 after it it does not; by min_resend alone, which is 10, both are answered. Where nothing is said (2),
+ * the path is followed. */
 static void test_waits_for_answers(uint8_t adaptive) {
     gozdrit_sender_config config = CONFIG;
     gozdrit_sender sender = {NULL, 0};
     ANSWERS(GOZDRIT_EMPTY_HANDLE, gozdrit_sender_set_adaptive(&sender, 1));
+    config.history = 16;
     config.min_resend = 10;
     config.deadline = 0;
     ANSWERS(GOZDRIT_OK, gozdrit_sender_new(&config, &sender));
@@ -104,11 +106,10 @@ static void test_waits_for_answers(uint8_t adaptive) {
         ANSWERS(GOZDRIT_OK, gozdrit_sender_set_adaptive(&sender, 1));
         ANSWERS(GOZDRIT_OK, gozdrit_sender_set_adaptive(&sender, adaptive));
     }
-    sends(&sender, 1005, 65736);
-    sends(&sender, 1045, 65737);
+    for (uint64_t i = 0; i < 9; i++) sends(&sender, 1005 + 5 * i, 65736 + i);
     at(&sender, 1060);
-    names(&sender, 200, 0);
-    repeats(&sender, 1060, 65736);
+    names(&sender, 200, 0x7f);
+    for (uint64_t i = 0; i < 8; i++) repeats(&sender, 1060, 65736 + i);
     at(&sender, 1087);
     names(&sender, 200, 0);
     repeats(&sender, 1087, adaptive ? 0 : 65736);

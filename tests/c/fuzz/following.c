@@ -1,7 +1,7 @@
 /* The model of a sender whose rule follows the path (docs/PROTOCOL.md, "The sender's history", 7): in sums that stop at 2^64 - 1. */
 #include "sender.h"
 
-enum { PARTS = 4096, PAUSE = 100, SPAN = 10000, MINUTE = 60000 };
+enum { PARTS = 4096, PAUSE = 100, LONGEST_PACKET = 5 * PARTS, SPAN = 10000, MINUTE = 60000 };
 
 static uint64_t sum(uint64_t one, uint64_t other) { return one > UINT64_MAX - other ? UINT64_MAX : one + other; }
 
@@ -28,11 +28,11 @@ void follow_send(struct sender *it) {
     path->last = it->now;
 }
 
-/* One was retransmitted: it is taken behind what is being taken. */
+/* One was retransmitted: it is taken behind what is being taken, for as long as a gap is, or five milliseconds. */
 void follow_resend(struct sender *it) {
     struct path *path = &it->path;
     uint64_t now = times(it->now, PARTS);
-    path->busy = sum(path->busy > now ? path->busy : now, path->gap);
+    path->busy = sum(path->busy > now ? path->busy : now, path->gap < LONGEST_PACKET ? path->gap : LONGEST_PACKET);
 }
 
 /* What is remembered of the last ten to thirty seconds turns, once ten have passed. */
