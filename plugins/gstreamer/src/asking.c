@@ -36,11 +36,9 @@ static guint64 latency_of(const GstGozdritRecv *self) {
     return (guint64)MAX(latency + offset, 0);
 }
 
-/* What follows the path where no property says how long an answer is waited for. A packet is given up by when it was sent, too; but not where a
- * latency has few packets, as the silence that a lost one makes is longer then, and it would be given up at once. */
+/* What follows the path where no property says how long an answer is waited for. A packet is given up by when it was sent, too. */
 static guint8 adaptive_of(const GstGozdritRecv *self) {
-    if (!asks(self) || self->settings.retry >= 0) return GOZDRIT_ADAPTIVE_OFF;
-    return self->stream->came.is_sparse ? GOZDRIT_ADAPTIVE_NACKS : GOZDRIT_ADAPTIVE_SEND_TIME;
+    return asks(self) && self->settings.retry < 0 ? GOZDRIT_ADAPTIVE_SEND_TIME : GOZDRIT_ADAPTIVE_OFF;
 }
 
 /* Until something was measured two asks fit into the latency, however short that is: else none had its answer in time, and nothing was
@@ -53,8 +51,8 @@ void asking_set_stream(GstGozdritRecv *self) {
     gozdrit_set_adaptive(&self->stream->end, adaptive_of(self));
 }
 
-/* More than one in so many packets of a second is much; and fewer than so many in a latency are few. */
-enum { MUCH = 8, FEW = 4 };
+/* More than one in so many packets of a second is much. */
+enum { MUCH = 8 };
 
 void asking_see(GstGozdritRecv *self, guint64 now) {
     last_second *before = &self->stream->came;
@@ -64,15 +62,9 @@ void asking_see(GstGozdritRecv *self, guint64 now) {
     last_second seen = {.is_known = TRUE, .since = now, .lost = counts.retransmissions + counts.gaps};
     seen.all = seen.lost + counts.media;
     /* one session, and a clock that goes on */
-    if (before->is_known && before->since < now && before->lost <= seen.lost && before->all < seen.all) {
-        seen.rate = (seen.all - before->all) * 1000 / (now - before->since);
+    if (before->is_known && before->since < now && before->lost <= seen.lost && before->all < seen.all)
         seen.loses_much = MUCH * (seen.lost - before->lost) > seen.all - before->all;
-        /* in the second before, too: else an outage is taken for a slow stream */
-        seen.is_sparse = MAX(seen.rate, before->rate) * latency_of(self) < FEW * 1000;
-    }
-    gboolean differs = seen.is_sparse != before->is_sparse;
     *before = seen;
-    if (differs) gozdrit_set_adaptive(&self->stream->end, adaptive_of(self));
 }
 
 void asking_set(GstGozdritRecv *self) {

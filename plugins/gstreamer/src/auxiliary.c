@@ -91,6 +91,8 @@ static GstEvent *make_request(GstGozdritRecv *self, guint16 number, guint64 now)
     set_uint(told, "deadline", self->settings.latency);
     set_uint(told, "avg-rtt", times.known ? times.round_trip : times.nack_interval);
     at->count = (guint8)MIN(at->count + 1, 255);
+    GST_LOG_OBJECT(self, "SSRC %08x: %u is asked for by event %u, %" G_GUINT64_FORMAT " ms behind the first", self->stream->session.media_ssrc,
+                   number, at->count, now > at->first ? now - at->first : 0);
     return gst_event_new_custom(GST_EVENT_CUSTOM_UPSTREAM, told);
 }
 

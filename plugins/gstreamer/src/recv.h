@@ -143,9 +143,7 @@ typedef struct drop_messages {
 typedef struct last_second {
     gboolean is_known; /* there was such a moment */
     guint64 since, lost, all;
-    guint64 rate; /* packets a second, of both */
     gboolean loses_much;
-    gboolean is_sparse; /* a latency has few packets */
 } last_second;
 
 /* One stream, and what of it is to go out. */

@@ -79,14 +79,22 @@ static gboolean knows_rtx_ssrc(const recv_stream *stream, guint32 *ssrc) {
     return known.known;
 }
 
-/* How likely a retransmission is the stream's: it has the SSRC that is known of its retransmissions, or the stream has asked for its number, and
- * knows none (RFC 4588, section 5.3). Who has taken the SSRC of another one's is told by the timestamp. */
+/* How likely a retransmission is the stream's. Who has taken the SSRC of another one's is told by the timestamp. */
+enum {
+    IS_NOT,
+    MAY_REPAIR, /* the stream has asked for its number, and knows another SSRC: the library sees which of both repairs */
+    HAS_SSRC,
+    HAS_ASKED, /* it has asked for its number, and knows no SSRC of its retransmissions (RFC 4588, section 5.3) */
+    IS_ITS
+};
+
 static guint likeness(GstGozdritRecv *self, const guint8 *octets, gint number, guint64 now) {
-    guint32 known;
-    if (!self->stream->end.held) return 0;
-    gboolean near = is_near(self->stream, PACKET_TIMESTAMP(octets));
-    if (knows_rtx_ssrc(self->stream, &known)) return known != PACKET_SSRC(octets) ? 0 : near ? 3 : 1;
-    return number >= 0 && near && auxiliary_has_asked(self, (guint16)number, now) ? 2 : 0;
+    guint32 ssrc;
+    if (!self->stream->end.held) return IS_NOT;
+    gboolean near = is_near(self->stream, PACKET_TIMESTAMP(octets)), is_known = knows_rtx_ssrc(self->stream, &ssrc);
+    if (is_known && ssrc == PACKET_SSRC(octets)) return near ? IS_ITS : HAS_SSRC;
+    if (number < 0 || !near || !auxiliary_has_asked(self, (guint16)number, now)) return IS_NOT;
+    return is_known ? MAY_REPAIR : HAS_ASKED;
 }
 
 /* The number that a retransmission stands for, or -1 where it has none: it is padding. */
@@ -99,7 +107,7 @@ static gint original(const guint8 *octets, gsize length) {
  * its own, and else through, as what is not known does. */
 static destiny rtx_destiny(GstGozdritRecv *self, const guint8 *octets, gsize length, guint64 now) {
     recv_stream *best = NULL;
-    guint most = 0;
+    guint most = IS_NOT;
     gboolean is_learning = FALSE;
     guint32 known;
     gint number = original(octets, length);
@@ -116,7 +124,7 @@ static destiny rtx_destiny(GstGozdritRecv *self, const guint8 *octets, gsize len
         return DESTINY_NOWHERE;
     }
     self->stream = best;
-    if (most == 2) GST_DEBUG_OBJECT(self, "SSRC %08x has asked for %d, which SSRC %08x brings", best->session.media_ssrc, number, PACKET_SSRC(octets));
+    if (most == HAS_ASKED) GST_DEBUG_OBJECT(self, "SSRC %08x has asked for %d, which SSRC %08x brings", best->session.media_ssrc, number, PACKET_SSRC(octets));
     return DESTINY_STREAM;
 }
 

@@ -338,6 +338,32 @@ static void test_same_rtx_ssrc(void) {
     drop_bundle(&r);
 }
 
+/* A stranger answers a stream's first ask. Its SSRC falls with the second retransmission that would have repaired, and the third is taken. */
+static void test_source_falls(void) {
+    receiver r = make_bundle(ANY_CAPS);
+    for (guint stream = 0; stream < 2; stream++) {
+        for (guint16 i = 10; i < 13; i += 2) bundle_send(&r, stream, i);
+        CHECK(bundle_goes_out(&r, stream, 10));
+        TICKS(&r, 20 + 20 * stream);
+        CHECK(bundle_asks(&r, stream, 11));
+        bundle_repair_as(&r, stream, 11, stream == 0 ? 77 : bundle_rtx(stream));
+        CHECK(bundle_goes_out(&r, stream, 11) && bundle_goes_out(&r, stream, 12));
+    }
+    for (guint16 i = 14; i < 19; i += 2) bundle_send(&r, 0, i);
+    TICKS(&r, 60);
+    for (guint16 i = 13; i < 18; i += 2) CHECK(bundle_asks(&r, 0, i));
+    for (guint16 i = 13; i < 16; i += 2) {
+        bundle_repair(&r, 0, i);
+        CHECK(bundle_count(&r, 0, "retransmissions") == 1);
+    }
+    bundle_repair(&r, 0, 17);
+    CHECK(bundle_count(&r, 0, "retransmissions") == 2 && bundle_count(&r, 0, "played") == 3);
+    for (guint16 i = 13; i < 16; i += 2) bundle_repair(&r, 0, i);
+    for (guint i = 0; i < 2000 && bundle_count(&r, 0, "played") < 9; i++) g_usleep(1000);
+    CHECK(bundle_count(&r, 0, "retransmissions") == 4 && bundle_count(&r, 0, "played") == 9);
+    drop_bundle(&r);
+}
+
 /* What is told of one stream alone is so of the first, whichever packet came last. */
 static void test_first(void) {
     receiver r = make_bundle("application/x-rtp,clock-rate=90000");
@@ -418,4 +444,5 @@ void test_bundle(void) {
     test_strangers();
     test_collisions();
     test_same_rtx_ssrc();
+    test_source_falls();
 }
