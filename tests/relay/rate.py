@@ -224,10 +224,9 @@ def media_first(checks, stage):
     sender.stop()
 
 
-def named_again(stage, *words):
-    """Between two packets lie 80 milliseconds, so a path with room for the media alone takes as long for a retransmission. How often the
-    first is retransmitted that is named twenty milliseconds behind the second, again thirty later, and again once all has been taken; and the
-    relay."""
+def named_again(stage, again, *words):
+    """Between two packets lie 80 milliseconds, and a path takes 5 at most for a retransmission. How often the first is retransmitted that is
+    named twenty milliseconds behind the second, again seconds later as `again` says, and again once all has been taken; and the relay."""
     far = End(stage)
     sender = stage.send(far.at, "--packets", 2, *words)
     app, at = App(stage, sender.at, ssrc=MEDIA, number=0), ("127.0.0.1", sender.source[1])
@@ -235,7 +234,7 @@ def named_again(stage, *words):
     for one, pause in zip(plain(2, 100), (0.08, 0.02)):
         app.send(one)
         time.sleep(pause)
-    for pause in (0.03, 0.3, 0.1):  # the last packet's own retransmission is taken meanwhile, as the stream is silent
+    for pause in (again, 0.3, 0.1):  # the last packet's own retransmission is taken meanwhile, as the stream is silent
         far.send(nack(MEDIA, [0]), at)
         time.sleep(pause)
         came.append(sum(one.ssrc != MEDIA and original(one)[0] == 0 for one in far.packets()))
@@ -245,8 +244,8 @@ def named_again(stage, *words):
 @on_time(0.01)
 def queued(checks, stage):
     """What is named again while its answer may wait in a queue is not retransmitted, and what is named later is."""
-    came, sender = named_again(stage)
-    checks.same(came, [1, 1, 2], "a queue: retransmissions of the first packet")
+    came, sender = named_again(stage, 0.001)
+    checks.same(came[1:], [1, 2], "a queue: retransmissions of the first packet")
     ends(checks, "a queue", sender)
     checks.same(sender.counts().get("early"), 1, "a queue: what was passed over")
 
@@ -254,7 +253,7 @@ def queued(checks, stage):
 @on_time(0.01)
 def ruled(checks, stage):
     """Where a time is given it is that alone."""
-    came, sender = named_again(stage, "--min-resend", "20")
+    came, sender = named_again(stage, 0.03, "--min-resend", "20")
     checks.same(came, [1, 2, 3], "a given time: retransmissions of the first packet")
     ends(checks, "a given time", sender)
     checks.same(sender.counts().get("early"), 0, "a given time: what was passed over")
