@@ -306,6 +306,11 @@ fn packets_that_come_late(rt: HostRuntime) -> Result<(), Fail> {
         (98, Media(6)),
         (120, Media(6)),
         (120, Knows(40, false)),
+        // Of nine packets one was lost, of which one in eight is: two asks go first, behind half of a round trip.
+        (130, Media(9)),
+        (160, Media(8)),
+        (160, Follows(200)),
+        (160, Times(200, 20, 115)),
     ];
     assert_eq!(rt; wrong_step(rt.alloc(), STEPS)?, None);
     Ok(())

@@ -43,14 +43,14 @@ fn losses_lie_evenly_or_right_before_the_end(_rt: HostRuntime) -> Result<(), Fai
 const LATER: [(u64, u64, u64, u64); 5] = [
     // Five seconds, in which 249 were lost.
     (70199, 70200, 70449, 8980),
-    // One more is lost, while places of that silence are waited for.
-    (70449, 70440, 70451, 9020),
+    // A tenth of a second and more, in which five were lost, while places of that silence are waited for.
+    (70449, 70440, 70455, 9100),
     // A packet that comes late.
-    (70451, 70440, 70445, 9030),
+    (70455, 70440, 70445, 9110),
     // One behind 90 milliseconds, when all of those were passed: four could have come, and none was late.
-    (70451, 70452, 70453, 9110),
+    (70455, 70456, 70457, 9190),
     // It paused for five seconds.
-    (70453, 70454, 70456, 14040),
+    (70457, 70458, 70460, 14120),
 ];
 
 /// From how long on something is late in a silence, in milliseconds.
@@ -95,7 +95,7 @@ fn lead(later: usize, place: u64) -> Result<u64, Fail> {
 fn lead_anew(place: u64) -> Result<u64, Fail> {
     let mut arrivals = Arrivals::new();
     come(&mut arrivals, 5)?;
-    arrivals.restart(14050);
+    arrivals.restart(14130);
     Ok(arrivals.lead(place))
 }
 
@@ -103,11 +103,11 @@ fn lead_anew(place: u64) -> Result<u64, Fail> {
 fn the_longest_silence_is_told(_rt: HostRuntime) -> Result<(), Fail> {
     let nothing = lead(0, 70199)? == 0;
     let told = lead(1, 70439)? == 200 && lead(1, 70200)? == 4980;
-    let still = lead(2, 70439)? == 200 && lead(2, 70450)? == 0;
+    let still = lead(2, 70439)? == 200 && lead(2, 70454)? == 0;
     let late = lead(3, 70439)? == 200;
-    let short = lead(4, 70452)? == 0;
-    let paused = lead(5, 70454)? == 40 && lead(5, 70455)? == 20;
-    if nothing && told && still && late && short && paused && lead_anew(70454)? == 0 {
+    let short = lead(4, 70456)? == 0;
+    let paused = lead(5, 70458)? == 40 && lead(5, 70459)? == 20;
+    if nothing && told && still && late && short && paused && lead_anew(70458)? == 0 {
         Ok(())
     } else {
         Err(Fail::from("what a silence tells"))
