@@ -1,15 +1,14 @@
 -- The checks of a packet, one after another.
-use Rattle.std.proofs.Common.{◌≡◌, ℕ, not, Bool, List, Option, Some, None, refl, sym, ap, subst, ◌∙◌}
+use Rattle.std.proofs.Common.{◌≡◌, ℕ, ◌+◌, ◌*◌, not, Bool, List, Option, Some, None, refl, sym, ap, subst, ◌∙◌}
 use Rattle.std.specs.Option.{option_map}
 use Rattle.std.proofs.lemmas.Bool.{eq-eqb, ne_eqb}
 use Rattle.srtp.specs.Fault.{of_replay, or_else, fault_if}
 use Rattle.srtp.specs.Header.{header_fault, sequence_of, ssrc_of}
 use Rattle.srtp.specs.Replay.{replay_fault, Remembers}
-use Rattle.srtp.specs.Seal.{tag_of, rollover_octets, same_octets}
-use Rattle.srtp.specs.Stream.{Context, IsStream, index_of, index_in, guess_fault, packet_fault, body_of, tag_in, unprotect_fault}
+use Rattle.srtp.specs.Stream.{Context, IsStream, index_of, index_in, index_at, guess_fault, packet_fault, packet_fault_at, body_of, tag_fault, unprotect_fault, unprotect_fault_at}
 use Rattle.srtp.specs.declared.stream.Stream.{Stream}
 use Rattle.srtp.specs.declared.fault.SrtpFault.{SrtpFault}
-use Rattle.srtp.specs.declared.fault.SrtpFault.TheVariants.{WrongSource, WrongTag}
+use Rattle.srtp.specs.declared.fault.SrtpFault.TheVariants.{WrongSource}
 use Rattle.srtp.specs.declared.replay.ReplayFault.{ReplayFault}
 
 pub by_header : (context : Context) (octets : List ℕ) (fault : SrtpFault) → Some fault ≡ header_fault octets → Some fault ≡ packet_fault context octets
@@ -51,15 +50,49 @@ by_packet context packet body fault b e =
     let first : packet_fault context (body_of packet) ≡ Some fault = sym (e ∙ ap (packet_fault context) b) in
     rw first refl
 
-pub by_tag : (context : Context) (packet body tag expected behind : List ℕ) (index : ℕ) (same : Bool) → body ≡ body_of packet → tag ≡ tag_in packet
-    → None ≡ packet_fault context body → index ≡ index_in context body → behind ≡ rollover_octets index
-    → expected ≡ tag_of context.keys body behind → same ≡ same_octets expected tag → fault_if (not same) WrongTag ≡ unprotect_fault context packet
+pub by_tag : (context : Context) (packet body : List ℕ) (index : ℕ) (answer : Option SrtpFault) → body ≡ body_of packet → None ≡ packet_fault context body
+    → index ≡ index_in context body → answer ≡ tag_fault context index packet → answer ≡ unprotect_fault context packet
 unfolding unprotect_fault
-by_tag context packet body tag expected behind index same b t none at rollover made is =
+by_tag context packet body index answer b none at is =
     let passed : None ≡ packet_fault context (body_of packet) = none ∙ ap (packet_fault context) b in
-    let counter : behind ≡ rollover_octets (index_in context (body_of packet)) = rollover ∙ ap rollover_octets (at ∙ ap (index_in context) b) in
-    let right : expected ≡ tag_of context.keys (body_of packet) (rollover_octets (index_in context (body_of packet))) =
-    made ∙ (λ i. tag_of context.keys (b i) (counter i)) in
-    let told : same ≡ same_octets (tag_of context.keys (body_of packet) (rollover_octets (index_in context (body_of packet)))) (tag_in packet) =
-    is ∙ (λ i. same_octets (right i) (t i)) in
-    λ i. or_else (passed i) (fault_if (not (told i)) WrongTag)
+    let place : index ≡ index_in context (body_of packet) = at ∙ ap (index_in context) b in
+    rw (← passed, ← place) is
+
+-- the same where the packet has an index that is said
+
+pub by_header_at : (context : Context) (index : ℕ) (octets : List ℕ) (fault : SrtpFault) → Some fault ≡ header_fault octets
+    → Some fault ≡ packet_fault_at context index octets
+unfolding packet_fault_at
+by_header_at context index octets fault e = rw (← e) refl
+
+pub by_source_at : (context : Context) (index : ℕ) (octets : List ℕ) → None ≡ header_fault octets → (ssrc_of octets ≡ context.ssrc → ⊥)
+    → Some WrongSource ≡ packet_fault_at context index octets
+unfolding packet_fault_at
+by_source_at context index octets e other = rw (← e, ne_eqb (ssrc_of octets) context.ssrc other) refl
+
+pub by_replay_at : (len index : ℕ) (context : Context) (octets : List ℕ) (rollover seq : ℕ) (answer : Option ReplayFault) → context.len ≡ len
+    → seq ≡ sequence_of octets → index ≡ 65536 * rollover + seq → None ≡ header_fault octets → ssrc_of octets ≡ context.ssrc
+    → answer ≡ replay_fault len context.taken index → option_map of_replay answer ≡ packet_fault_at context (index_at rollover octets) octets
+unfolding packet_fault_at
+by_replay_at len index context octets rollover seq answer same number is e source replay =
+    let told : answer ≡ replay_fault context.len context.taken (index_at rollover octets) =
+    replay ∙ (λ i. replay_fault (sym same i) context.taken ((is ∙ ap (λ n. 65536 * rollover + n) number) i)) in
+    rw (← e, eq-eqb (ssrc_of octets) context.ssrc source, told) refl
+
+pub by_packet_at : (context : Context) (packet body : List ℕ) (rollover : ℕ) (fault : SrtpFault) → body ≡ body_of packet
+    → Some fault ≡ packet_fault_at context (index_at rollover body) body → Some fault ≡ unprotect_fault_at context (index_at rollover (body_of packet)) packet
+unfolding unprotect_fault_at
+by_packet_at context packet body rollover fault b e =
+    let first : Some fault ≡ packet_fault_at context (index_at rollover (body_of packet)) (body_of packet) =
+    e ∙ ap (λ o. packet_fault_at context (index_at rollover o) o) b in
+    rw (← first) refl
+
+pub by_tag_at : (context : Context) (packet body : List ℕ) (rollover index : ℕ) (answer : Option SrtpFault) → body ≡ body_of packet
+    → None ≡ packet_fault_at context (index_at rollover body) body → index ≡ index_at rollover body → answer ≡ tag_fault context index packet
+    → answer ≡ unprotect_fault_at context (index_at rollover (body_of packet)) packet
+unfolding unprotect_fault_at
+by_tag_at context packet body rollover index answer b none at is =
+    let passed : None ≡ packet_fault_at context (index_at rollover (body_of packet)) (body_of packet) =
+    none ∙ ap (λ o. packet_fault_at context (index_at rollover o) o) b in
+    let place : index ≡ index_at rollover (body_of packet) = at ∙ ap (index_at rollover) b in
+    rw (← passed, ← place) is

@@ -1,5 +1,4 @@
 pub mod Xor
-pub mod Filled
 pub mod Keystream
 pub mod Taken
 pub mod SameOctets
@@ -8,4 +7,12 @@ pub mod Checks
 pub mod RtcpChecks
 pub mod Opened
 pub mod Inverses
+pub mod Each
+pub mod LaneBits
+pub mod BitMoves
+pub mod Crossing
+pub mod Packing
+pub mod ByTower
+pub mod States
+pub mod Mixing
 pub mod RtcpOpened

@@ -10,7 +10,7 @@ use Rattle.srtp.specs.Derivation.{Keys}
 use Rattle.srtp.specs.Seal.{enciphered, tag_of, rollover_octets}
 use Rattle.srtp.specs.Fault.{or_else, fault_if}
 use Rattle.srtp.specs.Header.{is_extended, sources_end, header_len, header_fault, sequence_of, ssrc_of}
-use Rattle.srtp.specs.Stream.{Context, index_of, index_in, guess_fault, packet_fault, turned, protected, body_of, tag_in, IsOpened}
+use Rattle.srtp.specs.Stream.{Context, index_of, index_in, guess_fault, packet_fault, turned, protected, body_of, tag_in, tag_fault, IsOpened}
 use Rattle.srtp.specs.declared.fault.SrtpFault.{SrtpFault}
 use Rattle.srtp.specs.declared.fault.SrtpFault.TheVariants.{Short, Version, Header, WrongSource}
 use Rattle.srtp.specs.Replay.{replay_fault}
@@ -183,6 +183,14 @@ cut front tag ten =
     let at : length front ≡ length (front ++ tag) - 10 = omega arith in
     (sym (take_at front tag _ at), sym (drop_at front tag _ at))
 
+-- a tag that is that of these keys passes
+tagged : (context : Context) (packet body tag : List ℕ) (index : ℕ) → body ≡ body_of packet → tag ≡ tag_in packet
+    → tag ≡ tag_of context.keys body (rollover_octets index) → None ≡ tag_fault context index packet
+tagged context packet body tag index b t made =
+    let right : tag_in packet ≡ tag_of context.keys (body_of packet) (rollover_octets index) =
+    sym t ∙ made ∙ ap (λ o. tag_of context.keys o (rollover_octets index)) b in
+    rw (right, same_itself (tag_of context.keys (body_of packet) (rollover_octets index))) refl
+
 -- what comes is what was sent, where both find one index for it
 pub opens : (sending receiving : Context) (packet : List ℕ) → sending.keys ≡ receiving.keys
     → index_in sending packet ≡ index_in receiving packet → packet_fault receiving packet ≡ None
@@ -199,9 +207,8 @@ opens sending receiving packet keys at passed =
     same_header body packet (length-enciphered sending.keys clear ssrc index packet fits) (take-enciphered sending.keys clear ssrc index packet fits) in
     let found : index ≡ index_in receiving body = at ∙ sym (same_index receiving body packet head) in
     record {
-      taken = sym (by_tag receiving (body ++ tag) body tag tag (rollover_octets index) index true parts.0 parts.1
-          (sym passed ∙ sym (same_fault receiving body packet head)) found refl (ap (λ k. tag_of k body (rollover_octets index)) keys)
-          (sym (same_itself tag)));
+      taken = sym (by_tag receiving (body ++ tag) body index None parts.0 (sym passed ∙ sym (same_fault receiving body packet head)) found
+          (tagged receiving (body ++ tag) body tag index parts.0 parts.1 (ap (λ k. tag_of k body (rollover_octets index)) keys)));
       same = ap (λ (b : List ℕ). turned receiving (index_in receiving b) b) (sym parts.0)
           ∙ (λ i. enciphered (sym keys i) (head.len i) (head.ssrc i) (sym found i) body)
           ∙ enciphered_twice sending.keys clear ssrc index packet fits;

@@ -1,7 +1,9 @@
 pub mod Octets
 pub mod Hmac
 pub mod Field
+pub mod Tower
 pub mod Aes
+pub mod Lanes
 pub mod Counter
 pub mod Derivation
 pub mod Index

@@ -76,6 +76,12 @@ pub record Receiving : Type 0 where
 abbrev pub index_said : List ℕ → ℕ
 index_said octets = big_number 4 octets % 2 ^ 31
 
+-- whether a protected packet has the tag that keys make of it and its trailer
+abbrev pub is_rtcp_tagged : Keys → List ℕ → Bool
+is_rtcp_tagged keys packet =
+    let front = body_of packet in
+    same_octets (tag_of keys (before_trailer front) (trailer_in front)) (tag_in packet)
+
 -- the check of a trailer: whether E is as the keys have it, and the index may be taken
 unfoldable pub trailer_fault : Receiving → List ℕ → Option SrtpFault
 trailer_fault receiving octets =
@@ -87,8 +93,7 @@ unfoldable pub receiving_fault : Receiving → List ℕ → Option SrtpFault
 receiving_fault receiving packet =
     let front = body_of packet in
     or_else (rtcp_fault receiving.ssrc (before_trailer front))
-    (or_else (trailer_fault receiving (trailer_in front))
-    (fault_if (not (same_octets (tag_of receiving.keys (before_trailer front) (trailer_in front)) (tag_in packet))) WrongTag))
+    (or_else (trailer_fault receiving (trailer_in front)) (fault_if (not (is_rtcp_tagged receiving.keys packet)) WrongTag))
 
 -- what was sent is taken as this packet
 pub record IsRtcpOpened (receiving : Receiving) (packet sent : List ℕ) : Type 0 where

@@ -1,5 +1,5 @@
 -- What protects the packets of one SSRC, and what it refuses (RFC 3711, sections 3.2.1 and 3.3).
-use Rattle.std.specs.Prelude.{◌≡◌, ℕ, ◌+◌, ◌-◌, ◌*◌, ◌^◌, ◌==◌, not, nat_lt, List, ◌∷◌, ◌++◌, length, take, drop, Option, None, if◌then◌else◌}
+use Rattle.std.specs.Prelude.{◌≡◌, ℕ, Bool, ◌+◌, ◌-◌, ◌*◌, ◌/◌, ◌^◌, ◌==◌, not, nat_lt, List, ◌∷◌, ◌++◌, length, take, drop, Option, None, if◌then◌else◌}
 use Rattle.std.specs.Option.{option_map}
 use Rattle.srtp.specs.Derivation.{Keys, AreKeys}
 use Rattle.srtp.specs.Fault.{of_replay, or_else, fault_if}
@@ -23,6 +23,10 @@ pub record Context : Type 0 where
 -- the context once a packet with this index is taken
 abbrev pub with_taken : Context → ℕ → Context
 with_taken context index = record context { taken = index ∷ context.taken }
+
+-- the rollover counter of the highest index that was taken, or of the first packet
+abbrev pub rollover_of : Context → ℕ
+rollover_of context = if next_of context.taken == 0 then context.rollover else (next_of context.taken - 1) / 65536
 
 -- the index of a packet with this number: of the first one by the rollover counter that was given, and then as it is guessed
 unfoldable pub index_of : (rollover : ℕ) (taken : List ℕ) → ℕ → ℕ
@@ -66,12 +70,31 @@ body_of packet = take (length packet - 10) packet
 abbrev pub tag_in : List ℕ → List ℕ
 tag_in packet = drop (length packet - 10) packet
 
+-- whether a protected packet has the tag that keys make of it with the rollover counter of an index
+abbrev pub is_tagged : Keys → ℕ → List ℕ → Bool
+is_tagged keys index packet = same_octets (tag_of keys (body_of packet) (rollover_octets index)) (tag_in packet)
+
+-- the check of a protected packet's tag
+abbrev pub tag_fault : Context → ℕ → List ℕ → Option SrtpFault
+tag_fault context index packet = fault_if (not (is_tagged context.keys index packet)) WrongTag
+
 -- the first check that a protected packet fails: those of a packet, and then that of its tag
 unfoldable pub unprotect_fault : Context → List ℕ → Option SrtpFault
 unprotect_fault context packet =
-    let index = index_in context (body_of packet) in
-    or_else (packet_fault context (body_of packet))
-    (fault_if (not (same_octets (tag_of context.keys (body_of packet) (rollover_octets index)) (tag_in packet))) WrongTag)
+    or_else (packet_fault context (body_of packet)) (tag_fault context (index_in context (body_of packet)) packet)
+
+-- the index of these octets by a rollover counter that is said, and not guessed
+abbrev pub index_at : (rollover : ℕ) → List ℕ → ℕ
+index_at rollover octets = 65536 * rollover + sequence_of octets
+
+-- the first check that a packet fails without its tag, and with it, where it has this index
+unfoldable pub packet_fault_at : Context → ℕ → List ℕ → Option SrtpFault
+packet_fault_at context index octets =
+    or_else (header_fault octets)
+    (or_else (fault_if (not (ssrc_of octets == context.ssrc)) WrongSource) (option_map of_replay (replay_fault context.len context.taken index)))
+
+unfoldable pub unprotect_fault_at : Context → ℕ → List ℕ → Option SrtpFault
+unprotect_fault_at context index packet = or_else (packet_fault_at context index (body_of packet)) (tag_fault context index packet)
 
 -- what was sent is taken as this packet
 pub record IsOpened (receiving : Context) (packet sent : List ℕ) : Type 0 where

@@ -21,6 +21,7 @@ impl HmacSha1 {
     ghost use Rattle.srtp.specs.Hmac.{IsKeyed, hmac_sha1};
 
     /// The key of so many octets; a longer one than 64 octets is hashed first, as RFC 2104, section 2, has it.
+    #[inline(never)]
     pub fn new(key: &[u8]) -> HmacSha1
         ensures { IsKeyed result key.now }
     {
@@ -32,6 +33,7 @@ impl HmacSha1 {
     }
 
     /// The code of 20 octets of a text that comes in two pieces.
+    #[inline(never)]
     pub fn code(&self, text: &[u8], rest: &[u8]) -> [u8; 20]
         ensures { (key : List ℕ) → IsKeyed self.now key → result ≡ hmac_sha1 key (text.now ++ rest.now) }
     {

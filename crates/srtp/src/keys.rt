@@ -99,6 +99,7 @@ impl SessionKeys {
         SessionKeys::derived(profile, master, 3)
     }
 
+    #[inline(never)]
     fn derived(profile: Profile, master: &MasterKey, label: u8) -> SessionKeys
         requires { label < 4 }
         ensures { (key salt : List ℕ) → IsMaster master.now key salt → AreKeys result (session_keys profile key salt label) }

@@ -1,9 +1,9 @@
 //! Packets of RTCP, protected and unprotected in place (RFC 3711, section 3.4).
-ghost use Rattle.std.specs.Prelude.{◌≡◌, ◌≤◌, ◌<◌, ◌+◌, ◌-◌, ◌*◌, ◌^◌, ◌%◌, ◌++◌, ◌∷◌, [], ℕ, List, length, take, drop, IfOk, OnOk, OnErr};
+ghost use Rattle.std.specs.Prelude.{◌≡◌, ◌≤◌, ◌<◌, ◌+◌, ◌-◌, ◌*◌, ◌^◌, ◌%◌, ◌++◌, ◌∷◌, [], ℕ, List, None, length, take, drop, IfOk, IsOk, OnOk, OnErr};
 ghost use Rattle.std.specs.Result.{result_err};
 ghost use Rattle.srtp.specs.Derivation.{Keys, AreKeys};
 ghost use Rattle.srtp.specs.Stream.{body_of, tag_in};
-ghost use Rattle.srtp.specs.Rtcp.{rtcp_fault, trailer, sender_of, before_trailer, trailer_in, rtcp_turned, rtcp_protected, index_said, trailer_fault};
+ghost use Rattle.srtp.specs.Rtcp.{rtcp_fault, trailer, sender_of, before_trailer, trailer_in, is_rtcp_tagged, rtcp_turned, rtcp_protected, index_said, trailer_fault};
 
 use crate::fault::{SrtpFault, of_replay};
 use crate::keys::SessionKeys;
@@ -167,6 +167,36 @@ fn check(octets: &[u8], ssrc: u32) -> Result<(), SrtpFault>
     } else {
         Ok(())
     }
+}
+
+/// The SSRC of the sender of a protected packet of RTCP.
+///
+/// The checks, in this order: [`SrtpFault::Short`] under 22 octets, and `Version`.
+#[tactic(auto, unfolding(crate::specs::Rtcp::rtcp_fault))]
+pub fn rtcp_source_of(packet: &[u8]) -> Result<u32, SrtpFault>
+    ensures source { IfOk result (λ ssrc. ssrc ≡ sender_of (before_trailer (body_of packet.now))) }
+    ensures len { IfOk result (λ _. 22 ≤ length packet.now) }
+    ensures found { (ssrc : ℕ) → rtcp_fault ssrc (before_trailer (body_of packet.now)) ≡ None → IsOk result }
+{
+    let front = &packet[..packet.len().saturating_sub(TAG)];
+    let body = &front[..front.len().saturating_sub(TRAILER)];
+    if body.len() < CLEAR {
+        return Err(SrtpFault::Short);
+    }
+    if body[0] >> 6 != 2 {
+        return Err(SrtpFault::Version);
+    }
+    Ok(sender_of(body))
+}
+
+/// Whether a protected packet of RTCP has the tag that these keys make of it.
+pub fn has_rtcp_tag(keys: &SessionKeys, packet: &[u8]) -> bool
+    requires { 22 ≤ length packet.now }
+    ensures { (k : Keys) → AreKeys keys.now k → result ≡ is_rtcp_tagged k packet.now }
+{
+    let (front, tag) = packet.split_at(packet.len() - TAG);
+    let (body, behind) = front.split_at(front.len() - TRAILER);
+    same_tag(&tag_of(keys, body, behind), tag)
 }
 
 /// The SSRC of a packet's sender.

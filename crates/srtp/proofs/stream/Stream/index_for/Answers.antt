@@ -4,7 +4,7 @@ use Rattle.srtp.proofs.stream.Stream.index_for.Goals as goal
 
 pub returns-then-next-eq0-clause-index : goal.returns-then-next-eq0-clause-index
 returns-then-next-eq0-clause-index g c = λ context held.
-    rw (c.from.ensures, c.from-then-next-eq0.ensures, held.rollover)
+    rw (c.index_behind.ensures.value, held.rollover)
     (first_index context.rollover c.args.seq c.next-next.result context.taken (c.next-next.ensures.next ∙ held.taken.highest) c.if-next-eq0.true)
 
 pub returns-then-next-eq0-clause-fault : goal.returns-then-next-eq0-clause-fault

@@ -1,0 +1,15 @@
+use Rattle.std.proofs.Common.{◌≡◌, ℕ, ◌<◌, ◌≤◌, List, length, get_or}
+use Rattle.srtp.specs.Octets.{xor_octets}
+use Rattle.srtp.specs.Aes.{sub_bytes, shift_rows, mix_columns}
+use Rattle.srtp.specs.Lanes.{state_in}
+use Rattle.srtp.proofs.rounds.make_round.Given as goal
+
+abbrev pub invariant-loop-j : goal.invariant-loop-j
+invariant-loop-j l = record {
+  len : length l.states ≡ 4;
+  done : (empty : List ℕ) (k b : ℕ) → k < l.j → b < 4
+      → state_in (get_or l.states k empty) b
+      ≡ xor_octets (mix_columns (shift_rows (sub_bytes (state_in (get_or l.initial.states k empty) b))))
+      (state_in l.key b);
+  left : (empty : List ℕ) (k : ℕ) → l.j ≤ k → get_or l.states k empty ≡ get_or l.initial.states k empty;
+}
