@@ -1,0 +1,5 @@
+pub mod Opens
+pub mod ControlOpens
+pub mod Remembered
+pub mod Owned
+pub mod Hearing
