@@ -138,6 +138,23 @@ fn an_odd_timestamp_moves_nothing(rt: HostRuntime) -> Result<(), Fail> {
     Ok(())
 }
 
+/// What is missing before one with an odd timestamp is waited for, also where nothing else is held before it.
+#[test]
+fn an_odd_timestamp_behind_what_is_missing(rt: HostRuntime) -> Result<(), Fail> {
+    const COMES: &[Passing] = &[
+        (1000, Far, FAR, Stamped(10, 0)),
+        (1210, Far, FAR, Stamped(12, 100210)),
+        (1300, Far, FAR, Repaired(11, 90)),
+    ];
+    const LEAVES: &[(u64, Packet)] = &[
+        (1200, Stamped(10, 0)),
+        (1300, Stamped(11, 90)),
+        (1300, Stamped(12, 100210)),
+    ];
+    assert_eq!(rt; held(rt.alloc(), 1000, 3, COMES, LEAVES)?, (true, 0));
+    Ok(())
+}
+
 /// A stream that restarts has a clock of its own, whose timestamps may lie below the old ones.
 #[test]
 fn a_restart_begins_a_clock(rt: HostRuntime) -> Result<(), Fail> {

@@ -179,6 +179,30 @@ fn a_second_is_silence(rt: HostRuntime) -> Result<(), Fail> {
     Ok(())
 }
 
+/// Numbers that lie 3000 ahead or more show nothing, four in sequence and the old address quiet, and those just below move it.
+#[test]
+fn far_numbers_show_nothing(rt: HostRuntime) -> Result<(), Fail> {
+    const STAYS: &[Passing] = &[
+        (4100, Far, STRANGER, Media(3200, 66)),
+        (4101, Far, STRANGER, Media(3201, 66)),
+        (4102, Far, STRANGER, Media(3202, 66)),
+        (4103, Far, STRANGER, Media(3203, 66)),
+        (4104, Far, STRANGER, Media(3204, 66)),
+        (4200, Far, FAR, Media(201, 2)),
+    ];
+    const MOVES: &[Passing] = &[
+        (4100, Far, STRANGER, Media(3196, 66)),
+        (4101, Far, STRANGER, Media(3197, 66)),
+        (4102, Far, STRANGER, Media(3198, 66)),
+        (4103, Far, STRANGER, Media(3199, 2)),
+    ];
+    let stays = done(behind_fast(rt.alloc(), STAYS)?, rt.alloc(), 201, &[])?;
+    let moves = done(behind_fast(rt.alloc(), MOVES)?, rt.alloc(), 201, &[])?;
+    assert!(rt; stays.far == FAR && stays.media == 201);
+    assert!(rt; moves.far == STRANGER && moves.media == 201);
+    Ok(())
+}
+
 /// Three packets show nothing, however long the far side is silent; nor do packets that go on with none of the same address, as of others
 /// beside it or with numbers that fall, until what is counted was not gone on with for those 100 milliseconds.
 #[test]

@@ -158,6 +158,10 @@ pub record HearsFrom (old : ReceiveSide) (from : SocketAddr) (octets : List ℕ)
 abbrev pub moved : ReceiveSide → FarSide → ReceiveSide
 moved s far = record s { far = left far; copy = None; budget = budget_anew s.budget }
 
+-- the same of one that is led to an address, of which nothing is known but that
+abbrev pub led : ReceiveSide → (far : SocketAddr) → ReceiveSide
+led s far = record s { far = new_far_side far; copy = None; budget = budget_anew s.budget }
+
 -- What is done with a datagram from another address than the far side's: the endpoint hears what shows the far side there, which is its address
 -- from then on, and nobody else's. Of what shows nothing yet no more is kept than that.
 abbrev pub HearsElsewhere : ReceiveSide → (from : SocketAddr) → (octets : List ℕ) → (now : ℕ) → Note → Option Departure → ReceiveSide → Type 0

@@ -12,7 +12,7 @@ ghost use Rattle.endpoint.specs.ReceiveCounts.{passed_by};
 ghost use Rattle.stores.specs.Asking.{has_come};
 ghost use Rattle.timing.specs.FeedbackBudget.{nothing_earned};
 ghost use Rattle.relays.specs.Passing.{IsWithin};
-ghost use Rattle.relays.specs.ReceiveRelay.{GoesOn, HearsElsewhere, HearsFar, HearsFrom, MayShow, Moves, is_done, moved, new_receive_side, next_play, NothingAsked, numbering_after, passes, patience_left, PlaysOut, SpeaksAs};
+ghost use Rattle.relays.specs.ReceiveRelay.{GoesOn, HearsElsewhere, HearsFar, HearsFrom, MayShow, Moves, is_done, led, moved, new_receive_side, next_play, NothingAsked, numbering_after, passes, patience_left, PlaysOut, SpeaksAs};
 
 mod asking;
 
@@ -265,6 +265,15 @@ impl<W: Window> ReceiveRelay<W> {
         ensures { self.new ≡ moved self.old self.old.far }
     {
         self.far.leave();
+        self.copy = None;
+        renew_feedback(&mut self.budget);
+    }
+
+    /// From now on the far side is at this address, as whoever carries its datagrams knows by other means than by what came from there.
+    pub fn lead(&mut self, far: SocketAddr)
+        ensures { self.new ≡ led self.old far }
+    {
+        self.far = FarSide::new(far);
         self.copy = None;
         renew_feedback(&mut self.budget);
     }
