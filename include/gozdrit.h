@@ -56,8 +56,9 @@
  * Memory
  *
  *   gozdrit_sender_new and gozdrit_receiver_new take memory, all that the end will ever need, by malloc; the free of
- *   each gives it back. No other call takes or gives back memory. What the pointers of a call point to is lent for the
- *   call alone, and stays the caller's.
+ *   each gives it back. So does SRTP, which takes more with each SSRC that is new, and refuses it where there is none. No
+ *   other call takes or gives back memory. What the pointers of a call point to is lent for the call alone, and stays the
+ *   caller's.
  *
  * What the caller must guarantee, since no call can check it
  *
@@ -86,7 +87,7 @@ extern "C" {
 /* ---- the version: that of this header, and that of the library that is linked */
 
 #define GOZDRIT_VERSION_MAJOR 2
-#define GOZDRIT_VERSION_MINOR 3
+#define GOZDRIT_VERSION_MINOR 4
 #define GOZDRIT_VERSION_PATCH 0
 #define GOZDRIT_VERSION (GOZDRIT_VERSION_MAJOR * 10000 + GOZDRIT_VERSION_MINOR * 100 + GOZDRIT_VERSION_PATCH)
 
@@ -148,6 +149,20 @@ uint32_t gozdrit_max_payload(void);
 #define GOZDRIT_NULL 76          /* a pointer is null */
 #define GOZDRIT_BAD_SIZE 77      /* a struct is shorter than in version 2.0, or says what this library does not know */
 
+/* 91 to 102: SRTP (RFC 3711) does not protect a datagram, or does not take one */
+#define GOZDRIT_SRTP_SHORT 91        /* fewer octets than the headers have, and what stands behind them */
+#define GOZDRIT_SRTP_VERSION 92      /* the version is not 2 */
+#define GOZDRIT_SRTP_HEADER 93       /* the CSRC list or the header extension does not fit */
+#define GOZDRIT_SRTP_SSRC 94         /* an SSRC is not that of its context, which no call here answers */
+#define GOZDRIT_SRTP_KEY_END 95      /* the key has no index left: it must be replaced */
+#define GOZDRIT_SRTP_FLAG 96         /* E of RTCP is not as the profile has it */
+#define GOZDRIT_SRTP_TOO_OLD 97      /* the index lies before those that are known */
+#define GOZDRIT_SRTP_TAKEN_BEFORE 98 /* a packet with this index was taken, or protected */
+#define GOZDRIT_SRTP_WRONG_TAG 99    /* the tag is wrong */
+#define GOZDRIT_SRTP_FULL 100        /* packets left under 65536 SSRCs: the key must be replaced */
+#define GOZDRIT_SRTP_NO_MEMORY 101   /* malloc gave none for another SSRC */
+#define GOZDRIT_SRTP_BAD_KEY 102     /* the profile is not known, or the key and its salt have not 30 octets */
+
 /* The name of each number above, as docs/PROTOCOL.md has it ("UnknownSource" for 31), "OK" for 0, and "" for any other. */
 static inline const char *gozdrit_refusal_name(int32_t number) {
     switch (number) {
@@ -189,6 +204,18 @@ static inline const char *gozdrit_refusal_name(int32_t number) {
     case GOZDRIT_NO_ROOM: return "NoRoom";
     case GOZDRIT_NULL: return "Null";
     case GOZDRIT_BAD_SIZE: return "BadSize";
+    case GOZDRIT_SRTP_SHORT: return "Short";
+    case GOZDRIT_SRTP_VERSION: return "Version";
+    case GOZDRIT_SRTP_HEADER: return "Header";
+    case GOZDRIT_SRTP_SSRC: return "WrongSource";
+    case GOZDRIT_SRTP_KEY_END: return "KeyEnd";
+    case GOZDRIT_SRTP_FLAG: return "WrongFlag";
+    case GOZDRIT_SRTP_TOO_OLD: return "TooOld";
+    case GOZDRIT_SRTP_TAKEN_BEFORE: return "TakenBefore";
+    case GOZDRIT_SRTP_WRONG_TAG: return "WrongTag";
+    case GOZDRIT_SRTP_FULL: return "Full";
+    case GOZDRIT_SRTP_NO_MEMORY: return "OutOfMemory";
+    case GOZDRIT_SRTP_BAD_KEY: return "BadKey";
     default: return "";
     }
 }
@@ -218,6 +245,17 @@ typedef struct gozdrit_receiver {
     void *at;
     gozdrit_bool held;
 } gozdrit_receiver;
+
+/* The same of what protects datagrams that leave, and of what takes the protection off those that come. */
+typedef struct gozdrit_srtp_sender {
+    void *at;
+    gozdrit_bool held;
+} gozdrit_srtp_sender;
+
+typedef struct gozdrit_srtp_receiver {
+    void *at;
+    gozdrit_bool held;
+} gozdrit_srtp_receiver;
 
 /* The streams of a session (RFC 4588, section 5.3): three SSRCs that differ, and two payload types that do. */
 typedef struct gozdrit_session {
@@ -738,6 +776,57 @@ int32_t gozdrit_rtp_read(const uint8_t *octets, size_t length, gozdrit_packet *p
  */
 int32_t gozdrit_rtp_write(const gozdrit_packet *packet, const uint8_t *payload, size_t length, size_t *written,
                           uint8_t *out, size_t room);
+
+/* ---- SRTP (RFC 3711), around the calls above: what leaves is protected, and what comes is unprotected, in its place.
+ * Under one key there is a context for each SSRC, of RTP and of RTCP. A sender keeps each until its key is replaced, for 65536
+ * SSRCs, since no two packets may leave under one index (section 9.1): a session that begins anew has to have other SSRCs or
+ * another key, and each direction has to have other SSRCs. A receiver begins a context by a packet with a right tag, and knows
+ * the 16 SSRCs that came last. (since 2.4) */
+
+/* Profiles, by the numbers of RFC 5764, section 4.1.2. Tags have 80 bits. */
+#define GOZDRIT_SRTP_AES128_CM_HMAC_SHA1_80 1 /* encrypted by AES-128 in counter mode */
+#define GOZDRIT_SRTP_NULL_HMAC_SHA1_80 5      /* not encrypted */
+
+#define GOZDRIT_SRTP_KEY 30    /* octets of a master key of 16 and its salt of 14 */
+#define GOZDRIT_SRTP_GROWTH 14 /* octets more that a datagram of RTCP has when it is protected; of RTP 10 */
+
+/*
+ * Makes what protects datagrams, and puts it into the handle; and the same of what takes the protection off.
+ *
+ *   102  the profile is not known, or length is not GOZDRIT_SRTP_KEY
+ *   73   there is no memory for it
+ */
+int32_t gozdrit_srtp_sender_new(uint16_t profile, const uint8_t *key, size_t length, gozdrit_srtp_sender *sender);
+int32_t gozdrit_srtp_receiver_new(uint16_t profile, const uint8_t *key, size_t length, gozdrit_srtp_receiver *receiver);
+
+/* Give back the memory. The handle is then as new. */
+int32_t gozdrit_srtp_sender_free(gozdrit_srtp_sender *sender);
+int32_t gozdrit_srtp_receiver_free(gozdrit_srtp_receiver *receiver);
+
+/*
+ * Protects a datagram, RTP or RTCP (RFC 5761, section 4), in its place: the first `length` octets of `room`. `protected_length`
+ * is told how many it has then.
+ *
+ *   74             length is above 65535
+ *   75             room is less than the datagram has when it is protected
+ *   91, 92, 93     it is no RTP, or no RTCP
+ *   100, 101       its SSRC is new
+ *   95, 97, 98     its index is used up, too old, or was used
+ */
+int32_t gozdrit_srtp_protect(gozdrit_srtp_sender *sender, uint8_t *octets, size_t room, size_t length,
+                             size_t *protected_length);
+
+/*
+ * Takes the protection off a datagram in its place. `plain_length` is told how many octets it has then; the others stay behind it.
+ * `now` says how many rollover counters may be tried for packets whose tag is wrong under the one that is guessed (docs/PROTOCOL.md).
+ *
+ *   74                 length is above 65535
+ *   91, 92, 93         it is no SRTP, or no SRTCP
+ *   95, 96, 97, 98, 99 it is not the other end's, or came before
+ *   101                its SSRC is new
+ */
+int32_t gozdrit_srtp_unprotect(gozdrit_srtp_receiver *receiver, uint8_t *octets, size_t length, uint64_t now,
+                               size_t *plain_length);
 
 #ifdef __cplusplus
 }

@@ -90,6 +90,7 @@ int main(void) {
     test_sessions();
     test_queries();
     test_rtp();
+    test_srtp();
     test_null();
     test_sizes();
     test_memory();

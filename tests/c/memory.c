@@ -1,5 +1,5 @@
-/* Memory: a call that gets none refuses with 73 and keeps nothing; only the two `new` take any, and each free gives all
- * of it back. The linker puts the three functions below in the place of the C library's (--wrap). */
+/* Memory: a call that gets none refuses with 73 and keeps nothing; only the `new` take any, and SRTP with each SSRC that is
+ * new, and each free gives all of it back. The linker puts the three functions below in the place of the C library's (--wrap). */
 #include "checks.h"
 
 #include <stdlib.h>
@@ -148,10 +148,60 @@ static void test_receiver_memory(uint32_t window) {
     CHECK(taken == made && held == before);
 }
 
+/* Each SSRC that is new takes memory, and where there is none its packet is refused, and nothing else is changed. */
+static void test_srtp_memory(void) {
+    static const uint8_t key[GOZDRIT_SRTP_KEY] = {7};
+    const long before = held;
+    gozdrit_srtp_sender out = {NULL, 0};
+    gozdrit_srtp_receiver in = {NULL, 0};
+    uint8_t packet[12 + GOZDRIT_SRTP_GROWTH], sealed[12 + GOZDRIT_SRTP_GROWTH];
+    size_t whole = 0, plain = 0;
+    for (long given = 0; !out.held && given < 100; given++) {
+        left = given;
+        const int32_t number = gozdrit_srtp_sender_new(GOZDRIT_SRTP_AES128_CM_HMAC_SHA1_80, key, sizeof key, &out);
+        left = -1;
+        CHECK(number == (out.held ? GOZDRIT_OK : GOZDRIT_OUT_OF_MEMORY) && (out.held || held == before));
+    }
+    for (long given = 0; !in.held && given < 100; given++) {
+        const long kept = held;
+        left = given;
+        const int32_t number = gozdrit_srtp_receiver_new(GOZDRIT_SRTP_AES128_CM_HMAC_SHA1_80, key, sizeof key, &in);
+        left = -1;
+        CHECK(number == (in.held ? GOZDRIT_OK : GOZDRIT_OUT_OF_MEMORY) && (in.held || held == kept));
+    }
+    CHECK(out.held && in.held);
+    for (uint32_t ssrc = 1; ssrc < 50; ssrc++) {
+        int32_t number = GOZDRIT_SRTP_NO_MEMORY;
+        for (long given = 0; number == GOZDRIT_SRTP_NO_MEMORY && given < 100; given++) {
+            write_rtp(packet, 96, 1, ssrc, NULL, 0);
+            left = given;
+            number = gozdrit_srtp_protect(&out, packet, sizeof packet, 12, &whole);
+            left = -1;
+        }
+        CHECK(number == GOZDRIT_OK && whole == 22);
+        number = GOZDRIT_SRTP_NO_MEMORY;
+        for (long given = 0; number == GOZDRIT_SRTP_NO_MEMORY && given < 100; given++) {
+            memcpy(sealed, packet, sizeof packet);
+            left = given;
+            number = gozdrit_srtp_unprotect(&in, sealed, whole, 0, &plain);
+            left = -1;
+        }
+        CHECK(number == GOZDRIT_OK && plain == 12);
+    }
+    const long made = taken; /* of an SSRC that is known none is taken */
+    write_rtp(packet, 96, 2, 1, NULL, 0);
+    ANSWERS(GOZDRIT_OK, gozdrit_srtp_protect(&out, packet, sizeof packet, 12, &whole));
+    CHECK(taken == made);
+    ANSWERS(GOZDRIT_OK, gozdrit_srtp_sender_free(&out));
+    ANSWERS(GOZDRIT_OK, gozdrit_srtp_receiver_free(&in));
+    CHECK(held == before);
+}
+
 void test_memory(void) {
     test_calls_without_end();
     test_sender_memory(64);
     test_sender_memory(GOZDRIT_MAX_STORE);
     test_receiver_memory(64);
     test_receiver_memory(GOZDRIT_MAX_STORE);
+    test_srtp_memory();
 }

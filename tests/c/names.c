@@ -45,6 +45,18 @@ static const struct {
     {75, "NoRoom"},
     {76, "Null"},
     {77, "BadSize"},
+    {91, "Short"},
+    {92, "Version"},
+    {93, "Header"},
+    {94, "WrongSource"},
+    {95, "KeyEnd"},
+    {96, "WrongFlag"},
+    {97, "TooOld"},
+    {98, "TakenBefore"},
+    {99, "WrongTag"},
+    {100, "Full"},
+    {101, "OutOfMemory"},
+    {102, "BadKey"},
 };
 
 /* The row of a number, or null where it has none. */

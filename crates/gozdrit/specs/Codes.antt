@@ -39,3 +39,6 @@ padded_empty = pos 44
 
 abbrev pub bad_type : ℤ  -- a payload type is out of its bounds
 bad_type = pos 51
+
+abbrev pub bad_key : ℤ  -- a profile is not known, or a master key and its salt have not 30 octets
+bad_key = pos 102

@@ -5,7 +5,6 @@ use Rattle.arrayvec.specs.ArrayVec.{ArrayVec}
 use Rattle.rtpwire.specs.Buffer.{in_front}
 use Rattle.rtpwire.specs.declared.fault.TooShort.{TooShort}
 use Rattle.receiver.specs.declared.answer.Played.{Played}
-use Rattle.receiver.specs.declared.answer.Played.TheVariants.{Packet, Gap, Wait}
 use Rattle.receiver.specs.declared.fault.ReceiveFault.{ReceiveFault}
 use Rattle.receiver.specs.Asks.{AsksMostInto}
 use Rattle.receiver.specs.Peeking.{play_of, receiver_passed}

@@ -1,6 +1,8 @@
 -- What each export answers to what C lends it: what its call answers to the values (`Answers..`, each beside its end), or
 -- `null_pointer` where a pointer is null where something has to lie. What is lent to be read stays as it is.
 use Rattle.std.specs.Prelude.{◌≡◌, ℕ, ℤ, List, Option, Some, None, IsSomeAnd}
+use Rattle.contexts.specs.declared.inbound.Inbound.{Inbound}
+use Rattle.contexts.specs.declared.outbound.Outbound.{Outbound}
 use Rattle.gozdrit.specs.Null.{Answers1, Answers2, Answers3, Answers4, Answers5}
 use Rattle.gozdrit.specs.declared.answers.KnownTimeout.{KnownTimeout}
 use Rattle.gozdrit.specs.declared.answers.KnownSequence.{KnownSequence}
@@ -25,6 +27,7 @@ use Rattle.gozdrit.specs.Defaults.{usual_receiver, usual_sender}
 use Rattle.gozdrit.specs.Ends.{Receiver, Sender}
 use Rattle.gozdrit.specs.Freeing.{AnswersFree}
 use Rattle.gozdrit.specs.Packets.{AnswersRead, AnswersWrite}
+use Rattle.gozdrit.specs.Protection.{AnswersProtect, AnswersSrtpNew, AnswersUnprotect, IsNewInbound, IsNewOutbound}
 use Rattle.gozdrit.specs.Reading.{AnswersMissing, AnswersSsrc, AnswersNext, AnswersHighest, AnswersTimeout, AnswersReceiverTimes, AnswersReceiverCounts, AnswersProbeCounts, AnswersSenderCounts}
 use Rattle.gozdrit.specs.Receiving.{AnswersReceiverNew, AnswersReceive, AnswersPlay, AnswersNack, AnswersBegin, AnswersRestart, AnswersTimes, AnswersFollow, AnswersCopies, AnswersBudget}
 use Rattle.gozdrit.specs.Sending.{AnswersAdapt, AnswersSenderNew, AnswersSend, AnswersFeedback, AnswersRetransmit, AnswersMarkLast, AnswersTime}
@@ -224,3 +227,39 @@ abbrev pub WriteFor : Option PacketFields → Option (List ℕ) → Option ℕ �
 WriteFor =
     Answers4 null_pointer (λ packet payload count out code packet' payload' count' out'.
     (packet' ≡ packet) × (payload' ≡ payload) × AnswersWrite packet payload count out code count' out')
+
+-- `gozdrit_srtp_sender_new`
+abbrev pub SrtpSenderNewFor : (profile : ℕ) → Option (List ℕ) → Option (Handle Outbound) → ℤ → Option (List ℕ) → Option (Handle Outbound) → Type 0
+SrtpSenderNewFor profile =
+    Answers2 null_pointer (λ key sender code key' sender'.
+    (key' ≡ key) × AnswersSrtpNew IsNewOutbound profile key sender.inside code sender'.inside)
+
+-- `gozdrit_srtp_sender_free`
+abbrev pub SrtpSenderFreeFor : Option (Handle Outbound) → ℤ → Option (Handle Outbound) → Type 0
+SrtpSenderFreeFor =
+    Answers1 null_pointer (λ sender code sender'.
+    AnswersFree sender.inside code sender'.inside)
+
+-- `gozdrit_srtp_protect`
+abbrev pub ProtectFor : (length : ℕ) → Option (Handle Outbound) → Option (List ℕ) → Option ℕ → ℤ → Option (Handle Outbound) → Option (List ℕ) → Option ℕ → Type 0
+ProtectFor length =
+    Answers3 null_pointer (λ sender octets told code sender' octets' told'.
+    AnswersProtect sender.inside octets length told code sender'.inside octets' told')
+
+-- `gozdrit_srtp_receiver_new`
+abbrev pub SrtpReceiverNewFor : (profile : ℕ) → Option (List ℕ) → Option (Handle Inbound) → ℤ → Option (List ℕ) → Option (Handle Inbound) → Type 0
+SrtpReceiverNewFor profile =
+    Answers2 null_pointer (λ key receiver code key' receiver'.
+    (key' ≡ key) × AnswersSrtpNew IsNewInbound profile key receiver.inside code receiver'.inside)
+
+-- `gozdrit_srtp_receiver_free`
+abbrev pub SrtpReceiverFreeFor : Option (Handle Inbound) → ℤ → Option (Handle Inbound) → Type 0
+SrtpReceiverFreeFor =
+    Answers1 null_pointer (λ receiver code receiver'.
+    AnswersFree receiver.inside code receiver'.inside)
+
+-- `gozdrit_srtp_unprotect`
+abbrev pub UnprotectFor : Option (Handle Inbound) → Option (List ℕ) → Option ℕ → ℤ → Option (Handle Inbound) → Option (List ℕ) → Option ℕ → Type 0
+UnprotectFor =
+    Answers3 null_pointer (λ receiver octets told code receiver' octets' told'.
+    AnswersUnprotect receiver.inside octets told code receiver'.inside octets' told')

@@ -16,6 +16,7 @@ pub mod Lying
 pub mod Null
 pub mod Packet
 pub mod Packets
+pub mod Protection
 pub mod Reading
 pub mod Receiving
 pub mod Sending

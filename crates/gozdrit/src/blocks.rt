@@ -15,3 +15,17 @@ pub struct SenderBlock {
     at: *mut u8,
     held: bool,
 }
+
+/// What C sees of a handle of what protects datagrams.
+#[repr(C)]
+pub struct SrtpSenderBlock {
+    at: *mut u8,
+    held: bool,
+}
+
+/// What C sees of a handle of what takes the protection off datagrams.
+#[repr(C)]
+pub struct SrtpReceiverBlock {
+    at: *mut u8,
+    held: bool,
+}

@@ -31,3 +31,6 @@ pub(crate) const NULL: i32 = 76;
 
 /// A struct is shorter than it is known here, or says what is not known here.
 pub(crate) const BAD_SIZE: i32 = 77;
+
+/// A profile of SRTP is not known, or a master key and its salt have not 30 octets.
+pub(crate) const BAD_KEY: i32 = 102;

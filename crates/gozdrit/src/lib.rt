@@ -19,6 +19,7 @@ mod lent;
 mod packet_exports;
 mod packets;
 mod playing;
+mod protecting;
 mod reading;
 mod reading_exports;
 mod receiver_exports;
@@ -28,7 +29,10 @@ mod sender_exports;
 mod sending;
 mod sized;
 mod sizes;
+mod srtp_exports;
+mod srtp_key;
 mod unboxed;
+mod unprotecting;
 mod version;
 
 pub use laws::{
