@@ -1,5 +1,6 @@
 -- What is known of a session, and which one a packet may begin.
-use Rattle.std.specs.Prelude.{◌≡◌, ℕ, ◌+◌, ◌%◌, ◌^◌, ◌==◌, Bool, true, not, nat_le, Option, Some, None, if◌then◌else◌}
+use Rattle.std.specs.Prelude.{◌≡◌, ℕ, ◌+◌, ◌%◌, ◌^◌, ◌==◌, ◌||◌, Bool, false, true, not, nat_le, Option, Some, None, if◌then◌else◌}
+use Rattle.std.specs.Option.{option_map}
 use Rattle.rtpwire.specs.Rtp.{RtpPacket}
 use Rattle.rtpwire.specs.Session.{Streams, HasAnyMediaType, HasSsrcs, streams}
 use Rattle.gozdrit_relay.specs.declared.known.Known.{Known}
@@ -17,6 +18,16 @@ rtx_ssrc_of k ssrc = given k.rtx_ssrc ((ssrc + 1) % 2 ^ 32)
 abbrev pub own_ssrc : (ssrc rtx_ssrc : ℕ) → ℕ
 own_ssrc ssrc rtx_ssrc = if rtx_ssrc == (ssrc + 2) % 2 ^ 32 then (ssrc + 3) % 2 ^ 32 else (ssrc + 2) % 2 ^ 32
 
+-- the one that was drawn, if it is neither of both
+abbrev pub own_for : Option ℕ → (ssrc rtx_ssrc : ℕ) → ℕ
+own_for None ssrc rtx_ssrc = own_ssrc ssrc rtx_ssrc
+own_for (Some drawn) ssrc rtx_ssrc = if (drawn == ssrc) || (drawn == rtx_ssrc) then own_ssrc ssrc rtx_ssrc else drawn
+
+-- Under a key each session has another SSRC than those before: four behind the last one's, so that none of its own is one of theirs.
+abbrev pub renewed : (renews : Bool) → Known → Known
+renewed false k = k
+renewed true k = record k { ssrc = option_map (λ ssrc. (ssrc + 4) % 2 ^ 32) k.ssrc }
+
 -- the type of the retransmissions: the dynamic one behind the media's, or 97 for one that is static
 abbrev pub beside : (media_type : ℕ) → ℕ
 beside media_type =
@@ -25,7 +36,7 @@ beside media_type =
 -- the session of a packet under an SSRC
 abbrev pub session_of : Known → (ssrc media_type : ℕ) → Streams
 session_of k ssrc media_type =
-    streams ssrc media_type (rtx_ssrc_of k ssrc) (given k.rtx_type (beside media_type)) (own_ssrc ssrc (rtx_ssrc_of k ssrc))
+    streams ssrc media_type (rtx_ssrc_of k ssrc) (given k.rtx_type (beside media_type)) (own_for k.own ssrc (rtx_ssrc_of k ssrc))
 
 abbrev pub is_of_type : Option ℕ → (media_type : ℕ) → Bool
 is_of_type None media_type = true

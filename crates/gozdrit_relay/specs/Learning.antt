@@ -29,7 +29,7 @@ use Rattle.gozdrit_relay.specs.declared.known.Known.{Known}
 use Rattle.gozdrit_relay.specs.declared.learners.ReceiveLearner.{ReceiveLearner}
 use Rattle.gozdrit_relay.specs.declared.learners.SendLearner.{SendLearner}
 use Rattle.gozdrit_relay.specs.declared.machine.Beginning.{Beginning}
-use Rattle.gozdrit_relay.specs.Known.{BeginsUnder, given}
+use Rattle.gozdrit_relay.specs.Known.{BeginsUnder, given, renewed}
 
 -- Only an RTP packet begins a session, and how is told of the packet that the octets spell.
 abbrev pub BeginsWith : (RtpPacket → Option Beginning → Type 0) → (octets : List ℕ) → Option Beginning → Type 0
@@ -84,7 +84,7 @@ pub record SendMakes (l : SendLearner) (b : Beginning) (before : Option SendSide
       (new_pace l.rate) (bounds_left l.bounds (sent_before before l.passed)))
   pub moments : length relay.moments ≡ l.history
   pub told : note ≡ Began b.session (given l.first b.number) l.far
-  pub learner : l' ≡ record l { passed = sent_before before l.passed }
+  pub learner : l' ≡ record l { passed = sent_before before l.passed; known = renewed l.renews l.known }
 
 -- Behind a network: a packet is one of the session that a relay has if it comes from the far side, and is media or a retransmission of it.
 abbrev pub IsOfReceiver : ReceiveSide → RtpPacket → (from : SocketAddr) → Bool → Type 0

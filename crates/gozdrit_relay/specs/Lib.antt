@@ -15,3 +15,5 @@ pub mod Client
 pub mod Way
 pub mod TransportStream
 pub mod Waiting
+pub mod Guard
+pub mod Newest

@@ -46,6 +46,14 @@ is_turned_away Near Near from peers = not (are_admitted peers from)
 is_turned_away Far Far from peers = not (are_admitted peers from)
 is_turned_away listens side from peers = false
 
+-- the relay of the session there is has its far side at an address where a peer may be
+abbrev pub LeadsWhere : {L R : Type 0} → (R → SocketAddr → R → Type 0) → (may : Bool) → Option R → Machine L R → (far : SocketAddr) → (is : Bool) → Machine L R → Type 0
+LeadsWhere {L} {R} leads true (Some relay) old far is new = (led : R) × leads relay far led × (is ≡ true) × (new ≡ record old { relay = Some led })
+LeadsWhere leads may relay old far is new = (is ≡ false) × (new ≡ old)
+
+abbrev pub Leads : {L R : Type 0} → (R → SocketAddr → R → Type 0) → Machine L R → (far : SocketAddr) → (is : Bool) → Machine L R → Type 0
+Leads leads old far is new = LeadsWhere leads (are_admitted old.peers far) old.relay old far is new
+
 -- nothing was taken for a second
 abbrev pub is_quiet : (last now : ℕ) → Bool
 is_quiet last now = nat_le 1000 (now - last)

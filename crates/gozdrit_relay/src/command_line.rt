@@ -3,6 +3,7 @@ ghost use Rattle.std.specs.Prelude.{◌≤◌, ◌<◌, IfOk, IfSome};
 
 use crate::fault::Fault;
 use crate::journal;
+use crate::keys::{AES_CM, NULL};
 use crate::load::MOST_KEPT;
 use crate::options::command;
 use crate::units::Form;
@@ -11,6 +12,7 @@ use clap::error::ErrorKind;
 use endpoint::ResendRule;
 use lines::parse_between;
 use relays::Rate;
+use srtp::Profile;
 use std::alloc::Global;
 use std::convert::AsStr;
 
@@ -46,6 +48,9 @@ pub struct Options<'a> {
     pub ttl: Option<u8>,
     /// Whether what the application sends, or what the player takes, is MPEG-TS without RTP.
     pub is_ts: bool,
+    /// Where the key is by which what passes the network is protected, if it is, and how.
+    pub key_file: Option<&'a str>,
+    pub profile: Profile,
 }
 
 /// What a command line asks for.
@@ -68,6 +73,8 @@ pub enum Choice<'a> {
         window: usize,
         /// The RTP clock rate by which packets are held for the player, if they are.
         hold: Option<u32>,
+        /// Whether a stream is heard under a key once its sender answered.
+        challenges: bool,
     },
     /// A request of a relay that runs.
     Ctl {
@@ -159,6 +166,7 @@ fn receive<'a>(matches: &ArgMatches<'a>) -> Result<Choice<'a>, Fault<'a>> {
         latency: value(matches, "latency", Form::Time(0, u64::MAX))?.unwrap_or(200),
         window: number(matches, "window", 1, MOST_KEPT)?.unwrap_or(MOST_KEPT) as usize,
         hold: thirty_two(matches, "hold", 1)?,
+        challenges: challenges(matches)?,
     })
 }
 
@@ -203,6 +211,8 @@ fn common<'a>(matches: &ArgMatches<'a>, stream: &'a str) -> Result<Options<'a>, 
         .min(MOST_BUFFER) as i32,
         ttl: number(matches, "ttl", 1, 255)?.map(|ttl| ttl.min(255) as u8),
         is_ts: is_ts(matches, stream)?,
+        key_file: matches.get_str("key-file"),
+        profile: profile(matches)?,
     })
 }
 
@@ -272,6 +282,28 @@ fn is_ts<'a>(matches: &ArgMatches<'a>, id: &'a str) -> Result<bool, Fault<'a>> {
         Some(text) if text == "rtp" => Ok(false),
         Some(text) if text == "ts" => Ok(true),
         Some(text) => Err(Fault::Value(id, text, Form::Stream)),
+    }
+}
+
+/// How packets are protected under a key. Who names a profile and gives no key would have no protection, and not know.
+fn profile<'a>(matches: &ArgMatches<'a>) -> Result<Profile, Fault<'a>> {
+    match matches.get_str("profile") {
+        None => Ok(Profile::Aes128CmHmacSha1),
+        Some(_) if matches.get_str("key-file").is_none() => Err(Fault::Missing("key-file")),
+        Some(text) if text == AES_CM => Ok(Profile::Aes128CmHmacSha1),
+        Some(text) if text == NULL => Ok(Profile::NullHmacSha1),
+        Some(text) => Err(Fault::Value("profile", text, Form::Profile)),
+    }
+}
+
+/// Whether a stream's sender has to answer. Who says so and gives no key would be heard by anybody, and not know.
+fn challenges<'a>(matches: &ArgMatches<'a>) -> Result<bool, Fault<'a>> {
+    match matches.get_str("challenge") {
+        None => Ok(true),
+        Some(_) if matches.get_str("key-file").is_none() => Err(Fault::Missing("key-file")),
+        Some(text) if text == "on" => Ok(true),
+        Some(text) if text == "off" => Ok(false),
+        Some(text) => Err(Fault::Value("challenge", text, Form::Challenge)),
     }
 }
 

@@ -39,7 +39,7 @@ impl Counts {
     }
 
     /// The figures of a relay before the network.
-    fn sender_figures<'x>(&self) -> [Figure<'x>; 19] {
+    fn sender_figures<'x>(&self) -> [Figure<'x>; 21] {
         [
             counted(
                 "sent",
@@ -116,11 +116,21 @@ impl Counts {
             counted("oversize", "Not sent: too long for the way.", self.oversize),
             counted("rejected", "Not sent: nobody listens there.", self.rejected),
             counted("failed", "Not sent for another reason.", self.failed),
+            counted(
+                "unauthenticated",
+                "Datagrams of the network without a right SRTP tag.",
+                self.unauthenticated,
+            ),
+            counted(
+                "unprotected",
+                "Not sent: SRTP could not protect it.",
+                self.unprotected,
+            ),
         ]
     }
 
     /// The figures of a relay behind the network. A session that was learnt behind the first one is a restart, too.
-    fn receiver_figures<'x>(&self) -> [Figure<'x>; 21] {
+    fn receiver_figures<'x>(&self) -> [Figure<'x>; 23] {
         let learnt = self.sessions.saturating_sub(1);
         let restarts = self.restarts.saturating_add(learnt);
         [
@@ -197,6 +207,16 @@ impl Counts {
             counted("oversize", "Not sent: too long for the way.", self.oversize),
             counted("rejected", "Not sent: nobody listens there.", self.rejected),
             counted("failed", "Not sent for another reason.", self.failed),
+            counted(
+                "unauthenticated",
+                "Datagrams of the network without a right SRTP tag.",
+                self.unauthenticated,
+            ),
+            counted(
+                "unprotected",
+                "Not sent: SRTP could not protect it.",
+                self.unprotected,
+            ),
         ]
     }
 }

@@ -69,6 +69,10 @@ pub struct Counts {
     pub oversize: u64,
     pub rejected: u64,
     pub failed: u64,
+    /// Datagrams of the network that have no right tag under the key, or whose sender did not answer, and datagrams that could not be
+    /// protected.
+    pub unauthenticated: u64,
+    pub unprotected: u64,
     /// The smoothed round-trip time, in milliseconds, where it was measured.
     pub time: Option<u64>,
 }
@@ -112,6 +116,8 @@ impl Counts {
         oversize: 0,
         rejected: 0,
         failed: 0,
+        unauthenticated: 0,
+        unprotected: 0,
         time: None,
     };
 
@@ -234,6 +240,21 @@ impl Counts {
     /// A packet of another application was turned away.
     pub fn turn_away(&mut self) {
         add(&mut self.strangers, 1);
+    }
+
+    /// The far side is at another address.
+    pub fn move_far(&mut self) {
+        add(&mut self.moved, 1);
+    }
+
+    /// A datagram of the network has no right tag under the key, or its sender did not answer.
+    pub fn deny(&mut self) {
+        add(&mut self.unauthenticated, 1);
+    }
+
+    /// A datagram could not be protected, and did not leave.
+    pub fn withhold(&mut self) {
+        add(&mut self.unprotected, 1);
     }
 
     /// The system did not take a datagram.

@@ -10,9 +10,11 @@ use crate::ctl::ask;
 use crate::draws::{Draws, drawn_start};
 use crate::fault::Fault;
 use crate::greeting::{push_kept, push_metrics, push_sockets};
+use crate::guard::Guard;
 use crate::handed::{descriptor, handed};
-use crate::host::{Host, Sockets, StreamForm};
+use crate::host::{Change, Host, Sockets, StreamForm};
 use crate::journal::Journal;
+use crate::keys::{Key, RANDOM, drawn};
 use crate::known::Known;
 use crate::learners::{ReceiveLearner, SendLearner};
 use crate::load::Store;
@@ -22,8 +24,10 @@ use crate::sockets::{Kept, keep, kept_for, reach};
 use crate::transport_stream::{MP2T, Payloader};
 use crate::way::Way;
 use endpoint::ResendRule;
+use liveness::Living;
 use mio::net::UdpSocket;
 use relays::{Bounds, Peers, Rate, ReceiveRelay, Relay, SendRelay, run};
+use srtp::Profile;
 use std::fs;
 use std::io::{IsTerminal, Write};
 use std::net::SocketAddr;
@@ -40,6 +44,7 @@ pub fn relay<'a>(rt: &HostRuntime, choice: &Choice<'a>) -> Result<u8, Fault<'a>>
             history,
             rtx_first,
         } => {
+            let key = key(rt, options, true)?;
             let peers = peers(rt, options.peers)?;
             let Sides {
                 to,
@@ -48,8 +53,9 @@ pub fn relay<'a>(rt: &HostRuntime, choice: &Choice<'a>) -> Result<u8, Fault<'a>>
                 kept,
                 doors,
             } = opened(rt, options)?;
+            let known = known(rt, options, true)?;
             let learner = sender(
-                rt, options, *rate, *rule, *follows, *history, *rtx_first, to,
+                rt, options, known, *rate, *rule, *follows, *history, *rtx_first, to,
             );
             let store = Store::History(*history as u64);
             let sockets = Sockets {
@@ -59,14 +65,19 @@ pub fn relay<'a>(rt: &HostRuntime, choice: &Choice<'a>) -> Result<u8, Fault<'a>>
                 kept,
                 doors,
             };
-            go::<SendRelay<RingHistory>, SendLearner>(rt, options, learner, peers, sockets, store)
+            let guard = guard(rt, key, options.profile, None)?;
+            go::<SendRelay<RingHistory>, SendLearner>(
+                rt, options, learner, peers, sockets, store, guard,
+            )
         }
         Choice::Receive {
             options,
             latency,
             window,
             hold,
+            challenges,
         } => {
+            let key = key(rt, options, false)?;
             let peers = peers(rt, options.peers)?;
             let Sides {
                 to,
@@ -75,7 +86,10 @@ pub fn relay<'a>(rt: &HostRuntime, choice: &Choice<'a>) -> Result<u8, Fault<'a>>
                 kept,
                 doors,
             } = opened(rt, options)?;
-            let learner = receiver(rt, options, *latency, *window, *hold, to);
+            let known = known(rt, options, false)?;
+            let asks = if *challenges { known.own } else { None };
+            let guard = guard(rt, key, options.profile, asks)?;
+            let learner = receiver(rt, options, known, *latency, *window, *hold, to);
             let store = Store::Window {
                 places: *window as u64,
                 latency: *latency,
@@ -88,7 +102,7 @@ pub fn relay<'a>(rt: &HostRuntime, choice: &Choice<'a>) -> Result<u8, Fault<'a>>
                 doors,
             };
             go::<ReceiveRelay<RingWindow>, ReceiveLearner>(
-                rt, options, learner, peers, sockets, store,
+                rt, options, learner, peers, sockets, store, guard,
             )
         }
         Choice::Ctl {
@@ -113,10 +127,44 @@ struct Sides {
     doors: Doors,
 }
 
+/// The key that the options name, where they do. Under one a sender draws the SSRCs of its sessions.
+fn key<'a>(
+    rt: &HostRuntime,
+    options: &Options<'a>,
+    is_sender: bool,
+) -> Result<Option<Key>, Fault<'a>> {
+    let Some(path) = options.key_file else {
+        return Ok(None);
+    };
+    if is_sender && options.ssrc.is_some() {
+        return Err(Fault::Drawn("ssrc"));
+    }
+    if is_sender && options.rtx_ssrc.is_some() {
+        return Err(Fault::Drawn("rtx-ssrc"));
+    }
+    match Key::read(rt, path) {
+        Ok(key) => Ok(Some(key)),
+        Err(why) => Err(Fault::Key(path, why)),
+    }
+}
+
+/// What is known of a session before its first packet. Under a key no SSRC may come again at another start, so it is drawn.
+fn known<'a>(rt: &HostRuntime, options: &Options<'a>, is_sender: bool) -> Result<Known, Fault<'a>> {
+    let known = Known::of(options);
+    if options.key_file.is_none() {
+        return Ok(known);
+    }
+    match drawn(rt) {
+        Some(number) => Ok(known.drawn(is_sender, number)),
+        None => Err(Fault::Open(RANDOM)),
+    }
+}
+
 /// What makes the relay before a network, once its session is known.
 fn sender(
     rt: &HostRuntime,
     options: &Options<'_>,
+    known: Known,
     rate: Rate,
     rule: ResendRule,
     follows: bool,
@@ -126,7 +174,7 @@ fn sender(
 ) -> SendLearner {
     SendLearner {
         alloc: rt.alloc(),
-        known: Known::of(options),
+        known,
         first: options.first,
         rtx_first,
         rate,
@@ -134,6 +182,7 @@ fn sender(
         follows,
         history: within(history),
         far,
+        renews: options.key_file.is_some(),
         bounds: bounds(options),
         passed: 0,
     }
@@ -143,6 +192,7 @@ fn sender(
 fn receiver(
     rt: &HostRuntime,
     options: &Options<'_>,
+    known: Known,
     latency: u64,
     window: usize,
     hold: Option<u32>,
@@ -150,7 +200,7 @@ fn receiver(
 ) -> ReceiveLearner {
     ReceiveLearner {
         alloc: rt.alloc(),
-        known: Known::of(options),
+        known,
         first: options.first,
         latency,
         window: within(window),
@@ -278,6 +328,7 @@ fn go<'a, R: Relay + Drop, L: Learner<R> + Drop>(
     peers: Peers,
     sockets: Sockets,
     store: Store,
+    guard: Option<Guard>,
 ) -> Result<u8, Fault<'a>> {
     let shows_repair = store.is_history() || options.rtx_ssrc.is_some();
     let journal = journal(rt, options, shows_repair)?;
@@ -297,6 +348,7 @@ fn go<'a, R: Relay + Drop, L: Learner<R> + Drop>(
         store,
         stream,
         shows_repair,
+        guard,
     ) else {
         return Err(Fault::Outside);
     };
@@ -310,10 +362,18 @@ fn go<'a, R: Relay + Drop, L: Learner<R> + Drop>(
     tell_ready(rt);
     let mut outcome = run(&mut host, &mut machine);
     for _change in 0..u64::MAX {
-        let Some(peers) = host.take_peers() else {
+        let Some(change) = host.take_change() else {
             break;
         };
-        machine.admit(peers);
+        match change {
+            Change::Peers(peers) => machine.admit(peers),
+            Change::Lives => machine.free(),
+            Change::Far(far) => {
+                if machine.lead(far) {
+                    host.move_far(far);
+                }
+            }
+        }
         outcome = run(&mut host, &mut machine);
     }
     host.end();
@@ -331,6 +391,41 @@ fn go<'a, R: Relay + Drop, L: Learner<R> + Drop>(
     match outcome {
         Err(_) if !host.is_stopped() => Err(Fault::Outside),
         _ => Ok(0),
+    }
+}
+
+/// What stands between the relay and the network, where there is a key. A receiver asks under its own SSRC who lives, where it does.
+fn guard<'a>(
+    rt: &HostRuntime,
+    key: Option<Key>,
+    profile: Profile,
+    asks: Option<u32>,
+) -> Result<Option<Guard>, Fault<'a>> {
+    let Some(key) = key else {
+        return Ok(None);
+    };
+    let living = match asks {
+        Some(own) => Some(living(rt, own)?),
+        None => None,
+    };
+    match key.ends(rt.alloc(), profile) {
+        Some((inbound, outbound)) => Ok(Some(Guard {
+            inbound,
+            outbound,
+            living,
+        })),
+        None => Err(Fault::Memory),
+    }
+}
+
+/// Who lives: nobody before he answers a number that is drawn now.
+fn living<'a>(rt: &HostRuntime, own: u32) -> Result<Living, Fault<'a>> {
+    let Some(number) = drawn(rt) else {
+        return Err(Fault::Open(RANDOM));
+    };
+    match Living::new(rt.alloc(), own, number) {
+        Ok(living) => Ok(living),
+        Err(_) => Err(Fault::Memory),
     }
 }
 

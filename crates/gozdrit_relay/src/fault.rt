@@ -1,4 +1,5 @@
 //! What the program says where it could not do its work, and its exit status.
+use crate::keys::KeyFault;
 use crate::units::Form;
 use std::io::{ErrorKind, Write};
 use std::net::SocketAddr;
@@ -22,6 +23,10 @@ pub enum Fault<'a> {
     Group(&'a str),
     /// This is no peer.
     Peer(&'a str),
+    /// With a key the SSRCs of a sender are drawn, and this option gives one.
+    Drawn(&'a str),
+    /// This file has no key, or others may read it.
+    Key(&'a str, KeyFault),
     /// This address can't be found.
     Find(&'a str),
     /// This is no socket that was handed over.
@@ -70,6 +75,11 @@ pub fn tell<W: Write>(fault: &Fault<'_>, error: &mut W) -> u8 {
             error,
             "fault value: --peer: {word} is no address with a number of bits"
         ),
+        Fault::Drawn(option) => writeln!(
+            error,
+            "fault value: --{option}: with --key-file each session has an SSRC that is drawn anew"
+        ),
+        Fault::Key(file, why) => writeln!(error, "fault value: --key-file {file}: {}", why.text()),
         Fault::Find(name) => writeln!(error, "can't find {name}"),
         Fault::Handed(word) => writeln!(
             error,
@@ -94,7 +104,9 @@ pub fn tell<W: Write>(fault: &Fault<'_>, error: &mut W) -> u8 {
         | Fault::Families(..)
         | Fault::Loop(..)
         | Fault::Group(_)
-        | Fault::Peer(_) => 2,
+        | Fault::Peer(_)
+        | Fault::Drawn(_)
+        | Fault::Key(..) => 2,
         Fault::Reach(..) => 1,
         Fault::Memory => 4,
         _ => 3,

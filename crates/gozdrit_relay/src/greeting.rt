@@ -2,8 +2,10 @@
 use crate::foreign::Foreign;
 use crate::journal::shown;
 use crate::sockets::Kept;
+use contexts::ContextFault;
 use lines::{Word, push_line};
 use rtpwire::{MAX_PAYLOAD, Session};
+use srtp::SrtpFault;
 use std::io;
 use std::net::SocketAddr;
 use stores::OutOfMemory;
@@ -196,6 +198,64 @@ pub fn push_failed(
     let told = format!(in rt.alloc(); "could not send {count}, the last one to {to}: {error}\n")?;
     line.extend_from_slice(told.as_bytes())?;
     Ok(())
+}
+
+/// The line of datagrams of the network that SRTP refuses, with the address of the last one and why that is refused.
+pub fn push_denied(
+    rt: &HostRuntime,
+    line: &mut Vec<u8>,
+    count: u64,
+    from: SocketAddr,
+    fault: &ContextFault,
+) -> Result<(), OutOfMemory> {
+    let why = denied_for(fault);
+    let told = format!(in rt.alloc();
+        "refused {count} by SRTP, the last one from {from}: {why}\n"
+    )?;
+    line.extend_from_slice(told.as_bytes())?;
+    Ok(())
+}
+
+/// The line of packets whose sender did not answer, with the address of the last one.
+pub fn push_unanswered(
+    rt: &HostRuntime,
+    line: &mut Vec<u8>,
+    count: u64,
+    from: SocketAddr,
+) -> Result<(), OutOfMemory> {
+    let told = format!(in rt.alloc();
+        "unheard {count} whose sender did not answer, the last one from {from}: no relay, which --challenge off hears, or a recording\n"
+    )?;
+    line.extend_from_slice(told.as_bytes())?;
+    Ok(())
+}
+
+/// The line of datagrams that SRTP could not protect, and that did not leave, with why the last one is not.
+pub fn push_withheld(
+    rt: &HostRuntime,
+    line: &mut Vec<u8>,
+    count: u64,
+    fault: &ContextFault,
+) -> Result<(), OutOfMemory> {
+    let why = denied_for(fault);
+    let told = format!(in rt.alloc(); "withheld {count} that SRTP could not protect: {why}\n")?;
+    line.extend_from_slice(told.as_bytes())?;
+    Ok(())
+}
+
+/// Why SRTP refuses a datagram.
+fn denied_for(fault: &ContextFault) -> &'static str {
+    match fault {
+        ContextFault::Full => "more SSRCs than a key is for: another key is wanted",
+        ContextFault::OutOfMemory => "out of memory",
+        ContextFault::Refused(SrtpFault::KeyEnd) =>
+            "the key has come to its end: another one is wanted",
+        ContextFault::Refused(SrtpFault::TooOld) => "too old",
+        ContextFault::Refused(SrtpFault::TakenBefore) => "taken before",
+        ContextFault::Refused(SrtpFault::WrongFlag) => "another profile",
+        ContextFault::Refused(SrtpFault::WrongTag) => "the tag is wrong: another key, or none",
+        ContextFault::Refused(_) => "no packet",
+    }
 }
 
 /// The line of sockets for which the system keeps fewer octets than were asked for.

@@ -1,4 +1,5 @@
 //! The sockets of the machine, its clock, and what is told of a run.
+mod guarding;
 mod leaving;
 mod taking;
 mod telling;
@@ -8,8 +9,10 @@ use crate::clients::{Clients, Doors};
 use crate::counts::Counts;
 use crate::draws::Draws;
 use crate::dropped::dropped;
+use crate::guard::{Guard, SEALED};
 use crate::journal::Journal;
 use crate::load::{Load, Store};
+use crate::newest::Newest;
 use crate::seats::{is_over, sooner};
 use crate::seldom::Seldom;
 use crate::sockets::Kept;
@@ -19,18 +22,19 @@ use crate::turns::Turns;
 use crate::unmet::UnmetTold;
 use crate::waiting::Waiting;
 use crate::way::Way;
+use liveness::PendingPackets;
 use mio::net::UdpSocket;
 use mio::{Events, Interest, Poll, Token};
 use relays::{Meeting, Note, Octets, Outside, OutsideFault, Peers, Side, Turn};
-use rtpwire::MAX_DATAGRAM;
+use rtpwire::Session;
 use std::alloc::Global;
 use std::io;
 use std::io::ErrorKind;
 use std::net::SocketAddr;
 use std::time::{Duration, Instant};
 
-/// One octet more than a datagram has at most.
-const ROOM: usize = MAX_DATAGRAM + 1;
+/// One octet more than a datagram has at most, as it is protected where it is.
+const ROOM: usize = SEALED + 1;
 
 /// What tells events of the near socket from those of the far one.
 const NEAR: Token = Token(0);
@@ -91,6 +95,21 @@ pub struct Host<'a> {
     rest_from: Option<SocketAddr>,
     /// Whether a player takes payloads alone.
     sends_payloads: bool,
+    /// What stands before the network where there is a key, and what it refused and could not protect.
+    guard: Option<Guard>,
+    denied: Seldom,
+    unanswered: Seldom,
+    withheld: Seldom,
+    /// The session that there is, where its far side is, and the newest packet of its media: under a key.
+    session: Option<Session>,
+    far_at: Option<SocketAddr>,
+    newest: Option<Newest>,
+    /// What is to change before anything more is heard, and how much of the room is a datagram that is heard then.
+    change: Option<Change>,
+    again: Option<(usize, SocketAddr)>,
+    /// What waits until its sender answers, and who did.
+    pending: PendingPackets,
+    answered: Option<u32>,
     draws: Draws,
     /// How many datagrams left for the network.
     left: u64,
@@ -136,9 +155,19 @@ pub struct Host<'a> {
     /// Who asks how the relay does, where anybody may, and the moment from which on they are heard whatever comes.
     clients: Option<Clients>,
     heard_from: u64,
-    /// Whether one of them has the run end, and who may send a stream from then on where one of them says so.
+    /// Whether one of them has the run end.
     is_stopped: bool,
-    peers: Option<Peers>,
+}
+
+/// What changes of the relay that runs.
+#[derive(Debug, Drop)]
+pub enum Change {
+    /// These may send a stream, as a client says.
+    Peers(Peers),
+    /// Another sender lives, whose stream may begin at once.
+    Lives,
+    /// The far side is at this address, as the tag of its newest packet tells.
+    Far(SocketAddr),
 }
 
 impl<'a> Host<'a> {
@@ -152,6 +181,7 @@ impl<'a> Host<'a> {
         store: Store,
         stream: StreamForm,
         shows_repair: bool,
+        guard: Option<Guard>,
     ) -> io::Result<Host<'a>> {
         let start = Instant::now(rt)?;
         let poll = Poll::new(rt)?;
@@ -195,6 +225,17 @@ impl<'a> Host<'a> {
             rest: (0, 0),
             rest_from: None,
             sends_payloads: stream.sends_payloads,
+            guard,
+            denied: Seldom::NONE,
+            unanswered: Seldom::NONE,
+            withheld: Seldom::NONE,
+            session: None,
+            far_at: None,
+            newest: None,
+            change: None,
+            again: None,
+            pending: PendingPackets::new(rt.alloc()),
+            answered: None,
             draws,
             left: 0,
             is_lost: false,
@@ -225,7 +266,6 @@ impl<'a> Host<'a> {
             clients,
             heard_from: 0,
             is_stopped: false,
-            peers: None,
         })
     }
 
@@ -308,9 +348,9 @@ impl<'a> Host<'a> {
             self.way.lead(to);
             self.tell_way(to);
         }
-        self.peers = wishes.peers;
+        self.change = wishes.peers.map(Change::Peers);
         self.is_stopped = wishes.ends;
-        if self.is_stopped || self.peers.is_some() {
+        if self.is_stopped || self.change.is_some() {
             return Err(OutsideFault);
         }
         Ok(())
@@ -334,6 +374,17 @@ impl<'a> Host<'a> {
         }
     }
 
+    /// A session began.
+    fn begin(&mut self, session: Session, first: u16, far: SocketAddr, now: u64) {
+        self.began = Some(now);
+        self.session = Some(session);
+        self.far_at = Some(far);
+        self.newest = Some(Newest {
+            ssrc: session.media_ssrc(),
+            number: first,
+        });
+    }
+
     /// Whether clients were not heard for long, since datagrams come without a pause.
     fn are_unheard(&self) -> bool {
         self.clients.is_some() && self.moment >= self.heard_from
@@ -344,12 +395,12 @@ impl<'a> Host<'a> {
         self.is_stopped
     }
 
-    /// Who may send a stream from now on, where a client said so, and the run goes on with that.
-    pub fn take_peers(&mut self) -> Option<Peers> {
+    /// What is to change of the relay, where the run goes on with that.
+    pub fn take_change(&mut self) -> Option<Change> {
         if self.is_stopped {
             return None;
         }
-        self.peers.take()
+        self.change.take()
     }
 
     /// The moment until which is slept: no later than that of the next line of counts, nor than clients have it; and for a millisecond while
@@ -407,6 +458,10 @@ impl Outside for Host<'_> {
                 self.counts.lose();
                 return;
             }
+            if self.guard.is_some() {
+                self.send_sealed(to, octets);
+                return;
+            }
         }
         if self.sends_payloads || self.way.is_elsewhere() || !self.waiting.is_empty() {
             self.leave(side, to, octets);
@@ -431,7 +486,8 @@ impl Outside for Host<'_> {
         self.tell_too_long(&turn.note, octets, now);
         match turn.note {
             Note::Unsent => self.tell_foreign(octets, now),
-            Note::Began(..) => self.began = Some(now),
+            Note::Began(session, first, far) => self.begin(session, first, far, now),
+            Note::Moved(far, ..) => self.far_at = Some(far),
             Note::Told(_) | Note::PassedOver(_) | Note::Crowded(_) => self.is_unmet = true,
             _ => {}
         }

@@ -106,8 +106,7 @@ impl<'a> Journal<'a> {
                 self.begin(now, session, *first);
             }
             Note::Moved(_, answer, _) => {
-                self.tell_gaps(now);
-                self.write(&[Word::Decimal(now), Word::Text(b"moved")]);
+                self.move_far(now);
                 self.hear_event(now, answer);
             }
             Note::Heard(answer, _) => self.hear_event(now, answer),
@@ -207,7 +206,7 @@ impl<'a> Journal<'a> {
             Note::Marked(marked) => self.count(now, b"tail", u64::from(marked.places)),
             Note::Heard(answer, kind) => self.hear(now, answer, *kind),
             Note::Moved(_, answer, kind) => {
-                self.write(&[Word::Decimal(now), Word::Text(b"moved")]);
+                self.move_far(now);
                 self.hear(now, answer, *kind);
             }
             Note::Timed(time) => self.count(now, b"rtt", time.unwrap_or(0)),
@@ -215,6 +214,12 @@ impl<'a> Journal<'a> {
             Note::Played(place) => self.play(now, place.value(), octets),
             Note::Gap(place) => self.count(now, b"gap", place.value()),
         }
+    }
+
+    /// The far side is at another address.
+    pub fn move_far(&mut self, now: u64) {
+        self.tell_gaps(now);
+        self.write(&[Word::Decimal(now), Word::Text(b"moved")]);
     }
 
     /// The datagram of the line before was dropped for a trial.

@@ -20,6 +20,8 @@ pub struct SendLearner {
     pub follows: bool,
     pub history: usize,
     pub far: SocketAddr,
+    /// Whether each session has another SSRC than those before.
+    pub renews: bool,
     pub bounds: Bounds,
     /// How many packets the sessions before sent.
     pub passed: u64,

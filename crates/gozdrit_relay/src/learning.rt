@@ -140,6 +140,7 @@ fn follow<H: History>(relay: &mut SendRelay<H>, follows: bool)
 
 impl<H: History> Learner<SendRelay<H>> for SendLearner {
     ghost use Rattle.relays.specs.declared.outside.Side.TheVariants.{Near};
+    ghost use Rattle.std.specs.Prelude.{◌≡◌};
     ghost use Rattle.gozdrit_relay.specs.Learning.{SendBegins, SendMakes};
 
     ghost listens = { λ learner. Near };
@@ -147,6 +148,8 @@ impl<H: History> Learner<SendRelay<H>> for SendLearner {
     ghost begins = { λ learner side from octets before now beginning. SendBegins learner side from octets before now beginning };
 
     ghost makes = { λ learner beginning from before relay note new. SendMakes learner beginning before relay note new };
+
+    ghost leads = { λ relay far led. led ≡ relay };
 
     fn side(&self) -> Side {
         Side::Near
@@ -187,11 +190,14 @@ impl<H: History> Learner<SendRelay<H>> for SendLearner {
         )?;
         follow(&mut relay, self.follows);
         self.passed = passed;
+        self.known = self.known.renewed(self.renews);
         Ok(Learnt {
             relay,
             note: Note::Began(beginning.session, first, self.far),
         })
     }
+
+    fn lead(_relay: &mut SendRelay<H>, _far: SocketAddr) {}
 }
 
 impl ReceiveLearner {
@@ -330,6 +336,8 @@ fn held_by(rate: Option<u32>) -> Option<Playout>
 
 impl<W: Window> Learner<ReceiveRelay<W>> for ReceiveLearner {
     ghost use Rattle.relays.specs.declared.outside.Side.TheVariants.{Far};
+    ghost use Rattle.std.specs.Prelude.{◌≡◌};
+    ghost use Rattle.relays.specs.ReceiveRelay.{led};
     ghost use Rattle.gozdrit_relay.specs.Learning.{ReceiveBegins, ReceiveMakes};
 
     ghost listens = { λ learner. Far };
@@ -337,6 +345,8 @@ impl<W: Window> Learner<ReceiveRelay<W>> for ReceiveLearner {
     ghost begins = { λ learner side from octets before now beginning. ReceiveBegins learner side from octets before now beginning };
 
     ghost makes = { λ learner beginning from before relay note new. ReceiveMakes learner beginning from before relay note new };
+
+    ghost leads = { λ relay far after. after ≡ led relay far };
 
     fn side(&self) -> Side {
         Side::Far
@@ -386,5 +396,9 @@ impl<W: Window> Learner<ReceiveRelay<W>> for ReceiveLearner {
                 from,
             ),
         })
+    }
+
+    fn lead(relay: &mut ReceiveRelay<W>, far: SocketAddr) {
+        relay.lead(far);
     }
 }

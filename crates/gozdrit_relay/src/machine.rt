@@ -3,7 +3,7 @@ ghost use Rattle.std.specs.Prelude.{◌≡◌, ℕ, List, Option, length, IfOk, 
 ghost use Rattle.rtpwire.specs.declared.limits.TheConstants.{MAX_DATAGRAM};
 ghost use Rattle.relays.specs.Passing.{IsWithin};
 ghost use Rattle.relays.specs.Running.{RestsUntil};
-ghost use Rattle.gozdrit_relay.specs.Machine.{Begins, FallsTo, Learns, goes_on, is_quiet, is_taken, is_turned_away, new_machine, unlearnt};
+ghost use Rattle.gozdrit_relay.specs.Machine.{Begins, FallsTo, Leads, Learns, goes_on, is_quiet, is_taken, is_turned_away, new_machine, unlearnt};
 
 use endpoint::Heard;
 use relays::{Claims, Note, Peers, Relay, Side, Stranger, Turn};
@@ -43,6 +43,9 @@ pub trait Learner<R: Relay + Drop> {
     /// The relay of a session that begins with a packet from an address, after the relay there was, and what there is to note of it.
     ghost makes: { Self → Beginning → SocketAddr → Option R → R → Note → Self → Type 0 };
 
+    /// A relay whose far side is at another address.
+    ghost leads: { R → SocketAddr → R → Type 0 };
+
     /// The side that a session's stream comes to.
     fn side(&self) -> Side
         ensures { result ≡ listens self.now };
@@ -70,6 +73,10 @@ pub trait Learner<R: Relay + Drop> {
     ) -> Result<Learnt<R>, OutOfMemory>
         ensures makes { IfOk result (λ learnt. makes self.old beginning.now from before.now learnt.relay learnt.note self.new) }
         ensures err { OnErr result (self.new ≡ self.old) };
+
+    /// From now on a relay's far side is at this address.
+    fn lead(relay: &mut R, far: SocketAddr)
+        ensures { leads relay.old far relay.new };
 }
 
 /// How long nothing is taken before another session may begin, in milliseconds.
@@ -122,6 +129,27 @@ impl<R: Relay + Drop, L: Learner<R>> Machine<L, R> {
         ensures { self.new ≡ record self.old { peers = peers } }
     {
         self.peers = peers;
+    }
+
+    /// From now on the far side is at this address, if a peer may be there and there is a session; and whether that is so.
+    pub fn lead(&mut self, far: SocketAddr) -> bool
+        ensures { Leads L.Learner.leads self.old far result self.new }
+    {
+        let Some(relay) = &mut self.relay else {
+            return false;
+        };
+        if !self.peers.admit(&far) {
+            return false;
+        }
+        L::lead(relay, far);
+        true
+    }
+
+    /// Lets the next packet of another session begin that, as behind a second of silence.
+    pub fn free(&mut self)
+        ensures { self.new ≡ record self.old { last = 0 } }
+    {
+        self.last = 0;
     }
 
     /// Whether what comes to a side from an address is turned away: a stream comes there, and not from there.

@@ -3,7 +3,7 @@ use crate::help;
 use clap::{Arg, ArgAction, Command};
 use std::alloc::{AllocError, Global};
 
-const VERSION: &str = "2.3.0";
+const VERSION: &str = "2.4.0";
 
 /// The command line of the program.
 pub fn command<'a>(alloc: Global) -> Result<Command<'a>, AllocError> {
@@ -121,7 +121,7 @@ fn receive<'a>(alloc: Global) -> Result<Command<'a>, AllocError> {
             "HZ",
             "Has each packet leave at its RTP time and the latency, by this clock rate, as 90000; as soon as it may by default",
         ))?;
-    common(alloc, command)
+    common(alloc, of_challenge(alloc, command)?)
 }
 
 /// A client of a relay that runs.
@@ -147,7 +147,10 @@ fn ctl<'a>(alloc: Global) -> Result<Command<'a>, AllocError> {
 
 /// The options of both.
 fn common<'a>(alloc: Global, command: Command<'a>) -> Result<Command<'a>, AllocError> {
-    of_run(alloc, of_peers(alloc, of_session(alloc, command)?)?)
+    of_run(
+        alloc,
+        of_peers(alloc, of_key(alloc, of_session(alloc, command)?)?)?,
+    )
 }
 
 /// What a session is, where it is not to be learnt.
@@ -183,6 +186,33 @@ fn of_session<'a>(alloc: Global, command: Command<'a>) -> Result<Command<'a>, Al
             "N",
             "The first sequence number of the media; learnt by default",
         ))
+}
+
+/// How what passes the network is protected.
+fn of_key<'a>(alloc: Global, command: Command<'a>) -> Result<Command<'a>, AllocError> {
+    command
+        .arg(option(
+            alloc,
+            "key-file",
+            "FILE",
+            "Protects what passes the network by SRTP (RFC 3711): a file with a master key and a salt, 30 octets as base64 or hex",
+        ))?
+        .arg(option(
+            alloc,
+            "profile",
+            "NAME",
+            "With a key: SRTP_AES128_CM_HMAC_SHA1_80, or SRTP_NULL_HMAC_SHA1_80 for tags alone; the first by default",
+        ))
+}
+
+/// Who has to answer before his stream is heard.
+fn of_challenge<'a>(alloc: Global, command: Command<'a>) -> Result<Command<'a>, AllocError> {
+    command.arg(option(
+        alloc,
+        "challenge",
+        "on|off",
+        "With a key: hears a stream once its sender answers, a relay, so that no recording is played; off for senders that don't; on by default",
+    ))
 }
 
 /// Whose streams are heard.

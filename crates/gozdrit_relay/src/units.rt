@@ -1,6 +1,7 @@
 //! Numbers of the command line, with the units that may stand behind them.
 ghost use Rattle.std.specs.Prelude.{◌≤◌, IfSome};
 
+use crate::keys::{AES_CM, NULL};
 use lines::parse_between;
 use std::fmt;
 use std::fmt::Write;
@@ -26,6 +27,10 @@ pub enum Form {
     Log,
     /// What a stream is in.
     Stream,
+    /// How packets are protected.
+    Profile,
+    /// Whether a sender has to answer.
+    Challenge,
 }
 
 /// A number in tens of digits, with the unit that stands behind it: how much one of that is. What has no unit is in the form's own.
@@ -71,7 +76,7 @@ impl Form {
                 most,
             ),
             Form::Rate(_) => measured(text, &[("k", 1), ("M", 1000)], 0, u64::MAX),
-            Form::Ssrc | Form::Log | Form::Stream => None,
+            Form::Ssrc | Form::Log | Form::Stream | Form::Profile | Form::Challenge => None,
         }
     }
 }
@@ -119,6 +124,8 @@ impl fmt::Display for Form {
             Form::Ssrc => f.write_str("an SSRC, by one to eight hexadecimal digits"),
             Form::Log => f.write_str("events or packets"),
             Form::Stream => f.write_str("rtp or ts"),
+            Form::Profile => write!(f, "{AES_CM} or {NULL}"),
+            Form::Challenge => f.write_str("on or off"),
         }
     }
 }

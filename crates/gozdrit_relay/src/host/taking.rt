@@ -14,6 +14,14 @@ impl Host<'_> {
         if self.rest.1 > 0 {
             return self.take_more(room);
         }
+        if let Some((len, from)) = self.again {
+            return self.take_again(room, len, from);
+        }
+        if self.answered.is_some() {
+            if let Some(side) = self.take_answered(room)? {
+                return Ok(Some(side));
+            }
+        }
         for _socket in 0..2 {
             let Some(side) = self.turns.next() else {
                 return Ok(None);
@@ -21,6 +29,9 @@ impl Host<'_> {
             if self.receive(side, room)? {
                 self.turns.take(side);
                 return Ok(Some(side));
+            }
+            if self.change.is_some() {
+                return Err(OutsideFault);
             }
         }
         Ok(None)
@@ -35,12 +46,41 @@ impl Host<'_> {
         };
         match came {
             Ok((len, from)) => {
-                fill(room, &self.octets[..len])?;
+                let Some(octets) = self.passed(side, len, from) else {
+                    return Ok(false);
+                };
+                fill(room, octets)?;
                 self.from = Some(from);
                 Ok(true)
             }
             Err(e) => self.lack(side, e.kind()),
         }
+    }
+
+    /// Takes the datagram that waited for a change.
+    #[inline(never)]
+    fn take_again(
+        &mut self,
+        room: &mut Octets,
+        len: usize,
+        from: SocketAddr,
+    ) -> Result<Option<Side>, OutsideFault> {
+        self.again = None;
+        let Some(octets) = self.octets.get(..len) else {
+            return Ok(None);
+        };
+        fill(room, octets)?;
+        self.from = Some(from);
+        Ok(Some(Side::Far))
+    }
+
+    /// What came to a side, so many octets of it, as the relay may have it. None: it is kept from it.
+    fn passed(&mut self, side: Side, len: usize, from: SocketAddr) -> Option<&[u8]> {
+        let len = match side {
+            Side::Near => len,
+            Side::Far => self.opened(len, from)?,
+        };
+        self.octets.get(..len.min(MAX_DATAGRAM + 1))
     }
 
     /// Nothing was taken from a socket. Behind an error that passes there may be more.
@@ -122,7 +162,7 @@ impl Host<'_> {
 }
 
 /// Puts what came where the relay takes it. What is as long as what came before takes its place, and nothing is blanked.
-fn fill(room: &mut Octets, octets: &[u8]) -> Result<(), OutsideFault> {
+pub(super) fn fill(room: &mut Octets, octets: &[u8]) -> Result<(), OutsideFault> {
     if room.len() == octets.len() {
         room.as_mut_slice().copy_from_slice(octets);
         return Ok(());

@@ -16,7 +16,7 @@ use std::net::SocketAddr;
 
 impl<'a> Host<'a> {
     /// Writes the line that was made to standard error, where that does not wait. How many were not is told behind the next one that is.
-    fn say(&mut self) {
+    pub(super) fn say(&mut self) {
         let mut to = self.rt.stderr();
         if !takes_a_line(&to) {
             self.unsaid = self.unsaid.saturating_add(1);
@@ -102,7 +102,7 @@ impl<'a> Host<'a> {
         self.is_unmet = !self.unmet.has_told(&unmet);
     }
 
-    /// Writes the line of a session that was learnt, or of a far side at another address.
+    /// Writes the line of a session that was learnt, or that of a far side at another address.
     pub(super) fn tell_far(&mut self, note: &Note) {
         self.line.clear();
         let pushed = match note {
@@ -114,10 +114,19 @@ impl<'a> Host<'a> {
                 *far,
                 self.shows_repair,
             ),
-            Note::Moved(far, ..) => push_moved(self.rt, &mut self.line, *far),
+            Note::Moved(far, ..) => return self.tell_moved(*far),
             _ => return,
         };
         if pushed.is_ok() {
+            self.say();
+        }
+    }
+
+    /// Writes the line of a far side at another address.
+    #[inline(never)]
+    pub(super) fn tell_moved(&mut self, far: SocketAddr) {
+        self.line.clear();
+        if push_moved(self.rt, &mut self.line, far).is_ok() {
             self.say();
         }
     }
