@@ -45,7 +45,7 @@ def helps(checks, stage):
     good = status == 0 and re.fullmatch(r"gozdrit-relay \d+\.\d+\.\d+\n", out) and not err
     checks.count(good, f"--version: {status} {out!r} {err!r}")
     for side in SIDES:
-        out, options = runs(stage, side, "--help")[1], [*NUMBERS, *OF_SIDE[side], "listen", "to", "from", "log", "log-form", "control", "metrics"]
+        out, options = runs(stage, side, "--help")[1], [*NUMBERS, *OF_SIDE[side], "listen", "to", "from", "log", "log-form", "control", "metrics", "key-file", "profile"]
         checks.same([one for one in options if f"--{one}" not in out], [], f"options that {side} --help lacks")
 
 

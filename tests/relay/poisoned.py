@@ -3,6 +3,7 @@
 
     poisoned.py PROGRAM"""
 import random
+import struct
 import threading
 
 from base import ends, on_time, part
@@ -10,6 +11,7 @@ from net import App, End, Path
 from rtp import Content, nacked, plain, repair
 
 STRANGE = Content(0, 0, b"strange")
+FIRST = struct.pack(">H", 65000)  # the number with which an application of a test begins
 
 
 class Stranger:
@@ -20,14 +22,14 @@ class Stranger:
         self.named = set()
 
     def rule(self, way, octets):
-        """Media is lost, and what answers an ask comes after the stranger's."""
+        """Media is lost, but for what the session begins with, and what answers an ask comes after the stranger's."""
         if way == "back":
             feedback = nacked(octets)
             for number in feedback[2] if feedback else ():
                 self.answer(number)
             return (0.02,)
-        is_media = octets[1] & 127 == 96
-        return () if is_media and self.draw.random() < self.loss else (0.02,)
+        is_media, is_first = octets[1] & 127 == 96, octets[2:4] == FIRST
+        return () if is_media and not is_first and self.draw.random() < self.loss else (0.02,)
 
     def answer(self, number):
         if len(self.named) < self.answers and number not in self.named:

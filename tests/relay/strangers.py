@@ -15,17 +15,17 @@ RATE = 50
 
 
 class Stranger(threading.Thread):
-    """It sends packets in sequence, so many seconds apart, until it is stopped."""
+    """It sends packets in sequence, or what else is made, so many seconds apart, until it is stopped."""
 
-    def __init__(self, stage, to, apart, host="127.0.0.1", kind=96):
+    def __init__(self, stage, to, apart, host="127.0.0.1", made=lambda sent: packet(96, 7000 + sent & 65535, OTHER, Content(1, 0, b"strange"))):
         super().__init__(daemon=True)
-        self.socket, self.to, self.apart, self.kind = stage.keep(udp(host)), to[:2], apart, kind
+        self.socket, self.to, self.apart, self.made = stage.keep(udp(host)), to[:2], apart, made
         self.sent, self.open = 0, True
         self.start()
 
     def run(self):
         while self.open:
-            self.socket.sendto(packet(self.kind, 7000 + self.sent & 65535, OTHER, Content(1, 0, b"strange")), self.to)
+            self.socket.sendto(self.made(self.sent), self.to)
             self.sent += 1
             time.sleep(self.apart)
 
