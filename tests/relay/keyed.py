@@ -335,6 +335,43 @@ def recorded(checks, stage):
         is_whole(checks, "beside recorded ones", player, rest, receiver)
 
 
+@on_time(0.5)
+def the_past(checks, stage):
+    """A receiver that starts anew in the midst of a stream plays nothing that left more than two seconds before, whoever sends that, while nobody else
+    sends and beside the stream, of which it plays all from its start on."""
+    srtp, contents, player = Srtp(False), plain(1200), End(stage)
+    key = ("--key-file", srtp.file(stage), "--profile", NULL)
+    receiver = stage.receive(player.at, *key)
+    path = Path(stage, receiver.at, lambda way, octets: (0.01,))
+    sender, port = stage.send(path.at, *key), f"127.0.0.1:{receiver.at[1]}"
+    app = App(stage, sender.at)
+    app.stream(contents[:800], 200)
+    soon(lambda: len(player.came) == 800, 5)
+    record = [octets for way, octets in path.passed if way == "forth" and not is_rtcp(octets)][:300]
+    receiver.stop()
+    player, far, over = End(stage), End(stage), threading.Event()
+    receiver = stage.receive(player.at, *key, "--packets", 400, listen=port)
+
+    def replay():
+        for at in itertools.count():
+            path.rear.sendto(record[at % len(record)], path.to)
+            far.send(record[at % len(record)], receiver.at)
+            time.sleep(0.002)
+            if over.is_set():
+                return
+    running = threading.Thread(target=replay, daemon=True)
+    running.start()
+    time.sleep(1)
+    checks.same(len(player.came), 0, "what is played of the past")
+    app.stream(contents[800:], 200)
+    ends(checks, "beside its past", receiver)
+    over.set()
+    running.join()
+    is_whole(checks, "beside its past", player, contents[800:], receiver)
+    counts = receiver.counts()
+    checks.count(counts["unauthenticated"] > 300, f"what is refused: {counts}")
+
+
 @on_time(0.2)
 def moves(checks, stage):
     """A far side that is heard at another address is there with its first packet: nothing is lost, and NACKs go there. A packet that came before, sent
@@ -394,4 +431,4 @@ def files(checks, stage):
 
 
 if __name__ == "__main__":
-    part(encrypted, tagged, strangers, attacked, another_key, starts_anew, recorded, moves, applications, searches, files)
+    part(encrypted, tagged, strangers, attacked, another_key, starts_anew, recorded, the_past, moves, applications, searches, files)

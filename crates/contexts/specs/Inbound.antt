@@ -1,6 +1,6 @@
 -- What comes under a master key: a context for each SSRC, and of an SSRC that is not known the first packet that has a
 -- right tag.
-use Rattle.std.specs.Prelude.{◌≡◌, ℕ, true, [], List, ◌++◌, nat_eq, None}
+use Rattle.std.specs.Prelude.{◌≡◌, ℕ, ◌+◌, ◌-◌, ◌*◌, ◌/◌, ◌==◌, true, [], List, ◌++◌, nat_eq, nat_le, nat_lt, Option, None, Some, if◌then◌else◌}
 use Rattle.std.specs.Global.{Box}
 use Rattle.std.specs.Map.{set_value}
 use Rattle.lru.specs.LruCache.{LruCache, lru_cache, promoted, put_entries}
@@ -72,3 +72,8 @@ pub record BeginsWith (keys : Keys) (ssrc : ℕ) (packet opened : List ℕ) (old
   pub rollover : ℕ
   pub stream : Box (Stream INDICES)
   pub taken : TakenIn ssrc (new_context keys ssrc rollover) packet opened (begun ssrc stream old) new
+
+-- the greatest index with a number that lies below one
+abbrev pub last_with : (next number : ℕ) → Option ℕ
+last_with next number = let index : ℕ = 65536 * ((next - 1) / 65536) + number in
+    if next == 0 then None else (if nat_lt index next then Some index else (if nat_le 65536 index then Some (index - 65536) else None))

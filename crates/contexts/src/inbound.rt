@@ -3,11 +3,12 @@ ghost use Rattle.std.specs.Prelude.{◌≡◌, ◌≤◌, ◌+◌, ◌^◌, ℕ,
 ghost use Rattle.std.specs.Global.{Box};
 ghost use Rattle.std.specs.Map.{lookup};
 ghost use Rattle.srtp.specs.Derivation.{Keys, AreKeys, IsMaster, rtp_keys};
+ghost use Rattle.srtp.specs.Replay.{next_of};
 ghost use Rattle.srtp.specs.Stream.{Context, IsStream, body_of, index_at, is_tagged, unprotect_fault};
 ghost use Rattle.srtp.specs.declared.keys.Profile.{Profile};
 ghost use Rattle.srtp.specs.declared.stream.Stream.{Stream};
 ghost use Rattle.contexts.specs.Heard.{Hears};
-ghost use Rattle.contexts.specs.Inbound.{Begins, BeginsAt, BeginsSession, BeginsWith, TakenIn, source_in};
+ghost use Rattle.contexts.specs.Inbound.{Begins, BeginsAt, BeginsSession, BeginsWith, TakenIn, last_with, source_in};
 ghost use Rattle.contexts.specs.declared.fault.ContextFault.TheVariants.{OutOfMemory};
 
 use crate::fault::ContextFault;
@@ -18,6 +19,9 @@ use lru::LruCache;
 use srtp::{MasterKey, Profile, RtcpReceiver, SessionKeys, SrtpFault, Stream, source_of};
 use std::alloc::{AllocError, Global};
 use std::num::NonZeroUsize;
+
+/// How many numbers there are.
+const CYCLE: u64 = 65536;
 
 /// How many SSRCs are known of at a time, of RTP and of RTCP each.
 const SOURCES: usize = 16;
@@ -109,6 +113,17 @@ impl Inbound {
         }
     }
 
+    /// The index of a packet of RTP that was taken, by its SSRC and its number: the greatest one with that number that is
+    /// at most the highest of the SSRC. None: there is none, or the SSRC is not known.
+    pub fn index_of(&self, ssrc: u32, number: u16) -> Option<u64>
+        ensures known { (stream : Box (Stream INDICES)) (context : Context) → lookup (nat_eq ssrc) self.now.streams.entries ≡ Some stream
+            → IsStream INDICES stream.value context → result ≡ last_with (next_of context.taken) number }
+        ensures unknown { lookup (nat_eq ssrc) self.now.streams.entries ≡ None → result ≡ None }
+    {
+        let stream = self.streams.peek(&ssrc)?;
+        last_with(stream.next_index(), number)
+    }
+
     /// Takes the protection off the first packet of an SSRC.
     fn open_new(&mut self, ssrc: u32, packet: &mut [u8], now: u64) -> Result<usize, ContextFault>
         requires { (22 ≤ length packet.old) × (length packet.old ≤ 2 ^ 20) }
@@ -181,5 +196,18 @@ impl Inbound {
         ensures same { self.new ≡ record self.old { search = self.new.search } }
     {
         found(&self.rtp, 0, &mut self.search, packet, now)
+    }
+}
+
+/// The greatest index with a number that lies below this one.
+fn last_with(next: u64, number: u16) -> Option<u64>
+    ensures { result ≡ last_with next number }
+{
+    let highest = next.checked_sub(1)?;
+    let index = highest - highest % CYCLE + u64::from(number);
+    if index <= highest {
+        Some(index)
+    } else {
+        index.checked_sub(CYCLE)
     }
 }

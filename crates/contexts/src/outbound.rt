@@ -4,6 +4,7 @@ ghost use Rattle.std.specs.Global.{Box};
 ghost use Rattle.std.specs.Map.{lookup};
 ghost use Rattle.srtp.specs.Derivation.{IsMaster, rtp_keys};
 ghost use Rattle.srtp.specs.Header.{header_fault};
+ghost use Rattle.srtp.specs.Replay.{next_of};
 ghost use Rattle.srtp.specs.Stream.{Context, IsStream, body_of, packet_fault};
 ghost use Rattle.srtp.specs.declared.keys.Profile.{Profile};
 ghost use Rattle.srtp.specs.declared.stream.Stream.{Stream};
@@ -95,6 +96,18 @@ impl Outbound {
             self.seal_known(ssrc, packet)
         } else {
             self.seal_new(ssrc, packet)
+        }
+    }
+
+    /// One more than the highest index of RTP under which a packet of an SSRC left, or 0 where none did.
+    pub fn next_index(&self, ssrc: u32) -> u64
+        ensures known { (stream : Box (Stream SENT)) (context : Context) → lookup (nat_eq ssrc) self.now.streams.entries ≡ Some stream
+            → IsStream SENT stream.value context → result ≡ next_of context.taken }
+        ensures unknown { lookup (nat_eq ssrc) self.now.streams.entries ≡ None → result ≡ 0 }
+    {
+        match self.streams.peek(&ssrc) {
+            Some(stream) => stream.next_index(),
+            None => 0,
         }
     }
 

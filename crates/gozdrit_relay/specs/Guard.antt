@@ -1,17 +1,18 @@
 -- What comes by where a relay has a key.
-use Rattle.std.specs.Prelude.{◌≡◌, ℕ, nat_le, nat_lt, Bool, true, false, List, length, Option, Some, None}
+use Rattle.std.specs.Prelude.{◌≡◌, ℕ, ◌==◌, nat_le, nat_lt, Bool, true, false, List, length, Option, Some, None, if◌then◌else◌}
 use Rattle.srtp.specs.Derivation.{rtp_keys, rtcp_keys}
 use Rattle.srtp.specs.declared.keys.Profile.{Profile}
 use Rattle.contexts.specs.Heard.{Hears, HearsControl, LeavesSealed, LeavesSealedControl}
 use Rattle.endpoint.specs.Demultiplex.{is_control}
 use Rattle.liveness.specs.declared.answer.Answer.{Answer}
 use Rattle.liveness.specs.declared.living.Living.{Living}
+use Rattle.liveness.specs.declared.living.Source.{Source}
 use Rattle.liveness.specs.declared.reference.ReferenceTime.{ReferenceTime}
 use Rattle.liveness.specs.Living as living
 use Rattle.liveness.specs.Reports.{IsAnswer, IsReference, answer_octets, reference_octets}
 use Rattle.gozdrit_relay.specs.Newest.{source_in}
 use Rattle.gozdrit_relay.specs.declared.guard.Judgement.{Judgement}
-use Rattle.gozdrit_relay.specs.declared.guard.Judgement.TheVariants.{Heard, Lives, Asked, Unanswered}
+use Rattle.gozdrit_relay.specs.declared.guard.Judgement.TheVariants.{Heard, Repairs, Lives, Asked, Unanswered, Past}
 
 -- a datagram is heard as one of RTCP, or of RTP
 abbrev pub HearsAs : (control : Bool) → Profile → (key salt came opened : List ℕ) → Type 0
@@ -46,30 +47,37 @@ JudgesControl old octets Heard new = IsNoAnswer octets × (new ≡ old)
 JudgesControl old octets (Lives who) new = living.Hears old octets who new
 JudgesControl old octets judgement new = ⊥
 
--- A packet of RTP there: of an SSRC that lives it is heard, as is what is too short for a packet. Of another one it is not, and its sender may be asked
--- where as many octets came as the question has under its tag, no sooner than a tenth of a second behind the last time.
+-- A packet of RTP there: of an SSRC that lives it is of its past, or the media's, which is heard, or one that repairs
+-- media; what is too short for a packet is heard. Of another SSRC it is not, and its sender may be asked where as many
+-- octets came as the question has under its tag, no sooner than a tenth of a second behind the last time.
 abbrev pub AsksWhere : (has_room : Bool) → Living → (ssrc now : ℕ) → (asks : Bool) → Living → Type 0
 AsksWhere false old ssrc now asks new = (asks ≡ false) × (new ≡ old)
 AsksWhere true old ssrc now asks new = living.MayAsk old ssrc now asks new
 
-abbrev pub JudgesSource : (lives : Bool) → Living → (octets : List ℕ) → (now : ℕ) → Judgement → Living → Type 0
-JudgesSource true old octets now judgement new = (judgement ≡ Heard) × (new ≡ old)
-JudgesSource false old octets now (Unanswered ssrc asks) new = (ssrc ≡ source_in octets) × AsksWhere (nat_le 24 (length octets)) old (source_in octets) now asks new
-JudgesSource false old octets now judgement new = ⊥
+abbrev pub judgement_of : Source → (index : ℕ) → Judgement
+judgement_of source index =
+    if nat_lt index source.first then Past else (if source.media == source.ssrc then Heard else Repairs source.media)
 
-abbrev pub JudgesPacketWhere : (is_short : Bool) → Living → (octets : List ℕ) → (now : ℕ) → Judgement → Living → Type 0
-JudgesPacketWhere true old octets now judgement new = (judgement ≡ Heard) × (new ≡ old)
-JudgesPacketWhere false old octets now judgement new = JudgesSource (living.is_living old (source_in octets)) old octets now judgement new
+abbrev pub JudgesSource : Option Source → Living → (octets : List ℕ) → (index now : ℕ) → Judgement → Living → Type 0
+JudgesSource (Some source) old octets index now judgement new = (judgement ≡ judgement_of source index) × (new ≡ old)
+JudgesSource None old octets index now (Unanswered ssrc asks) new =
+    (ssrc ≡ source_in octets) × AsksWhere (nat_le 24 (length octets)) old (source_in octets) now asks new
+JudgesSource None old octets index now judgement new = ⊥
 
-abbrev pub JudgesPacket : Living → (octets : List ℕ) → (now : ℕ) → Judgement → Living → Type 0
-JudgesPacket old octets now judgement new = JudgesPacketWhere (nat_lt (length octets) 12) old octets now judgement new
+abbrev pub JudgesPacketWhere : (is_short : Bool) → Living → (octets : List ℕ) → (index now : ℕ) → Judgement → Living → Type 0
+JudgesPacketWhere true old octets index now judgement new = (judgement ≡ Heard) × (new ≡ old)
+JudgesPacketWhere false old octets index now judgement new =
+    JudgesSource (living.source_of old.sources.items (source_in octets)) old octets index now judgement new
+
+abbrev pub JudgesPacket : Living → (octets : List ℕ) → (index now : ℕ) → Judgement → Living → Type 0
+JudgesPacket old octets index now judgement new = JudgesPacketWhere (nat_lt (length octets) 12) old octets index now judgement new
 
 -- what there is to do with a datagram whose tag is right
-abbrev pub JudgesOf : (control : Bool) → Living → (octets : List ℕ) → (now : ℕ) → Judgement → Living → Type 0
-JudgesOf true old octets now judgement new = JudgesControl old octets judgement new
-JudgesOf false old octets now judgement new = JudgesPacket old octets now judgement new
+abbrev pub JudgesOf : (control : Bool) → Living → (octets : List ℕ) → (index now : ℕ) → Judgement → Living → Type 0
+JudgesOf true old octets index now judgement new = JudgesControl old octets judgement new
+JudgesOf false old octets index now judgement new = JudgesPacket old octets index now judgement new
 
-abbrev pub Judges : Option Living → (octets : List ℕ) → (now : ℕ) → Judgement → Option Living → Type 0
-Judges None octets now judgement new = JudgesAnybody octets judgement × (new ≡ None)
-Judges (Some old) octets now judgement None = ⊥
-Judges (Some old) octets now judgement (Some new) = JudgesOf (is_control octets) old octets now judgement new
+abbrev pub Judges : Option Living → (octets : List ℕ) → (index now : ℕ) → Judgement → Option Living → Type 0
+Judges None octets index now judgement new = JudgesAnybody octets judgement × (new ≡ None)
+Judges (Some old) octets index now judgement None = ⊥
+Judges (Some old) octets index now judgement (Some new) = JudgesOf (is_control octets) old octets index now judgement new

@@ -24,7 +24,7 @@ use crate::sockets::{Kept, keep, kept_for, reach};
 use crate::transport_stream::{MP2T, Payloader};
 use crate::way::Way;
 use endpoint::ResendRule;
-use liveness::Living;
+use liveness::{Living, Sent};
 use mio::net::UdpSocket;
 use relays::{Bounds, Peers, Rate, ReceiveRelay, Relay, SendRelay, run};
 use srtp::Profile;
@@ -413,6 +413,7 @@ fn guard<'a>(
             inbound,
             outbound,
             living,
+            sent: Sent::new(),
         })),
         None => Err(Fault::Memory),
     }

@@ -216,7 +216,7 @@ pub fn push_denied(
     Ok(())
 }
 
-/// The line of packets whose sender did not answer, with the address of the last one.
+/// The line of packets whose sender did not answer, or that are of its past, with the address of the last one.
 pub fn push_unanswered(
     rt: &HostRuntime,
     line: &mut Vec<u8>,
@@ -224,7 +224,7 @@ pub fn push_unanswered(
     from: SocketAddr,
 ) -> Result<(), OutOfMemory> {
     let told = format!(in rt.alloc();
-        "unheard {count} whose sender did not answer, the last one from {from}: no relay, which --challenge off hears, or a recording\n"
+        "unheard {count} of who did not answer, or of a stream's past, the last one from {from}: no relay, which --challenge off hears, or a recording\n"
     )?;
     line.extend_from_slice(told.as_bytes())?;
     Ok(())

@@ -1,19 +1,30 @@
 //! What stands between a relay and the network where there is a key: nothing comes by without a right tag, and nothing
 //! leaves without one.
-ghost use Rattle.std.specs.Prelude.{◌≡◌, ◌≤◌, ◌+◌, ◌^◌, ℕ, List, length, take, IfOk, OnOk};
+ghost use Rattle.std.specs.Prelude.{◌≡◌, ◌≤◌, ◌+◌, ◌-◌, ◌^◌, ℕ, Some, false, List, length, nat_eq, take, IfOk, OnOk};
+ghost use Rattle.std.specs.Global.{Box};
+ghost use Rattle.std.specs.Map.{lookup};
 ghost use Rattle.contexts.specs.Heard.{LeavesSealed, LeavesSealedControl};
+ghost use Rattle.contexts.specs.Inbound.{last_with};
 ghost use Rattle.contexts.specs.Keyed.{IsKeyed};
 ghost use Rattle.contexts.specs.Outbound.{IsSealedWith};
+ghost use Rattle.contexts.specs.declared.inbound.TheConstants.{INDICES};
+ghost use Rattle.contexts.specs.declared.outbound.TheConstants.{SENT};
 ghost use Rattle.endpoint.specs.Demultiplex.{is_control};
+ghost use Rattle.liveness.specs.Sent.{left};
 ghost use Rattle.rtpwire.specs.declared.limits.TheConstants.{MAX_DATAGRAM};
 ghost use Rattle.srtp.specs.Derivation.{rtp_keys, rtcp_keys};
+ghost use Rattle.srtp.specs.Replay.{next_of};
+ghost use Rattle.srtp.specs.Stream.{Context, IsStream};
 ghost use Rattle.srtp.specs.declared.keys.Profile.{Profile};
-ghost use Rattle.gozdrit_relay.specs.Guard.{HearsAs, Judges, JudgesAnybody, JudgesControl, JudgesPacket, LeavesAs};
+ghost use Rattle.srtp.specs.declared.stream.Stream.{Stream};
+ghost use Rattle.gozdrit_relay.specs.Guard.{HearsAs, Judges, JudgesAnybody, JudgesControl, JudgesPacket, LeavesAs, judgement_of};
+ghost use Rattle.gozdrit_relay.specs.Known.{given};
+ghost use Rattle.gozdrit_relay.specs.Newest.{number_in, source_in};
 
 use byteorder::{ByteOrder, NetworkEndian};
 use contexts::{ContextFault, Inbound, Outbound};
 use endpoint::is_control;
-use liveness::{Answer, Living, REFERENCE, ReferenceTime};
+use liveness::{Answer, Living, REFERENCE, ReferenceTime, Sent, Source};
 use rtpwire::MAX_DATAGRAM;
 use srtp::{RTCP_GROWTH, TAG};
 
@@ -25,12 +36,16 @@ pub const SEALED: usize = MAX_DATAGRAM + RTCP_GROWTH;
 pub enum Judgement {
     /// The relay hears it.
     Heard,
+    /// It may be a retransmission of a packet under this SSRC, which the relay hears where that is its session's media.
+    Repairs(u32),
     /// It is an answer: that of an SSRC which now lives, or one more.
-    Lives(Option<u32>),
+    Lives(Option<Source>),
     /// A receiver asks who lives.
     Asked(ReferenceTime),
     /// It is under this SSRC, which did not answer, and whose sender may be asked now, or not.
     Unanswered(u32, bool),
+    /// It is of the past of an SSRC that lives.
+    Past,
 }
 
 /// What takes the protection off what comes from the network, and protects what leaves for it.
@@ -40,6 +55,8 @@ pub struct Guard {
     pub outbound: Outbound,
     /// Who lives, where only their streams are heard.
     pub living: Option<Living>,
+    /// How far the streams of this end had come a while ago.
+    pub sent: Sent,
 }
 
 impl Guard {
@@ -53,6 +70,7 @@ impl Guard {
         ensures keyed { (profile : Profile) (key salt : List ℕ) → IsKeyed self.old.inbound profile key salt → IsKeyed self.new.inbound profile key salt }
         ensures outbound { self.new.outbound ≡ self.old.outbound }
         ensures living { self.new.living ≡ self.old.living }
+        ensures sent { self.new.sent ≡ self.old.sent }
     {
         if is_control(datagram) {
             self.inbound.open_rtcp(datagram)
@@ -61,12 +79,27 @@ impl Guard {
         }
     }
 
-    /// What there is to do with an opened datagram that came at a moment. Where only the streams of those who live are heard, a packet of RTP
-    /// is of one of them.
-    pub fn judge(&mut self, octets: &[u8], now: u64) -> Judgement
-        ensures judges { Judges self.old.living octets.now now result self.new.living }
+    /// The index of a packet of RTP that was opened, or 0 of what is none.
+    pub fn index_of(&self, octets: &[u8]) -> u64
+        ensures { (stream : Box (Stream INDICES)) (context : Context) → lookup (nat_eq (source_in octets.now)) self.now.inbound.streams.entries ≡ Some stream
+            → IsStream INDICES stream.value context → 12 ≤ length octets.now
+            → result ≡ given (last_with (next_of context.taken) (number_in octets.now)) 0 }
+    {
+        if octets.len() < 12 {
+            return 0;
+        }
+        let ssrc = NetworkEndian::read_u32(&octets[8..]);
+        let number = NetworkEndian::read_u16(&octets[2..]);
+        self.inbound.index_of(ssrc, number).unwrap_or(0)
+    }
+
+    /// What there is to do with an opened datagram that came at a moment, of RTP with this index. Where only the
+    /// streams of those who live are heard, a packet of RTP is of one of them, and not of its past.
+    pub fn judge(&mut self, octets: &[u8], index: u64, now: u64) -> Judgement
+        ensures judges { Judges self.old.living octets.now index now result self.new.living }
         ensures inbound { self.new.inbound ≡ self.old.inbound }
         ensures outbound { self.new.outbound ≡ self.old.outbound }
+        ensures sent { self.new.sent ≡ self.old.sent }
     {
         let Some(living) = &mut self.living else {
             return judge_anybody(octets);
@@ -74,7 +107,7 @@ impl Guard {
         if is_control(octets) {
             judge_control(living, octets)
         } else {
-            judge_packet(living, octets, now)
+            judge_packet(living, octets, index, now)
         }
     }
 
@@ -88,6 +121,7 @@ impl Guard {
             → IsSealedWith self.new.outbound profile key salt }
         ensures inbound { self.new.inbound ≡ self.old.inbound }
         ensures living { self.new.living ≡ self.old.living }
+        ensures sent { self.new.sent ≡ self.old.sent }
     {
         if is_control(datagram) {
             let len = datagram.len() + RTCP_GROWTH;
@@ -98,6 +132,23 @@ impl Guard {
             seal_packet(&mut self.outbound, datagram, &mut out[..len])?;
             Ok(len)
         }
+    }
+
+    /// Keeps how far the stream of a packet of RTP came that left at a moment.
+    pub fn keep_left(&mut self, datagram: &[u8], now: u64)
+        ensures sent { (stream : Box (Stream SENT)) (context : Context) → lookup (nat_eq (source_in datagram.now)) self.old.outbound.streams.entries ≡ Some stream
+            → IsStream SENT stream.value context → is_control datagram.now ≡ false → 12 ≤ length datagram.now
+            → self.new.sent ≡ left self.old.sent (source_in datagram.now) (next_of context.taken - 1) now }
+        ensures outbound { self.new.outbound ≡ self.old.outbound }
+        ensures inbound { self.new.inbound ≡ self.old.inbound }
+        ensures living { self.new.living ≡ self.old.living }
+    {
+        if is_control(datagram) || datagram.len() < 12 {
+            return;
+        }
+        let ssrc = NetworkEndian::read_u32(&datagram[8..]);
+        let highest = self.outbound.next_index(ssrc).saturating_sub(1);
+        self.sent.leave(ssrc, highest, now);
     }
 }
 
@@ -150,18 +201,31 @@ fn judge_control(living: &mut Living, octets: &[u8]) -> Judgement
     Judgement::Lives(living.hear(octets))
 }
 
-/// A packet of RTP is heard where its SSRC lives, as is what is too short for one; and whoever sends as many octets as a question has may be
-/// asked.
-fn judge_packet(living: &mut Living, octets: &[u8], now: u64) -> Judgement
-    ensures { JudgesPacket living.old octets.now now result living.new }
+/// A packet of RTP is heard where its SSRC lives and it is not of its past, as is what is too short for one; and
+/// whoever sends as many octets as a question has may be asked.
+fn judge_packet(living: &mut Living, octets: &[u8], index: u64, now: u64) -> Judgement
+    ensures { JudgesPacket living.old octets.now index now result living.new }
 {
     if octets.len() < 12 {
         return Judgement::Heard;
     }
     let ssrc = NetworkEndian::read_u32(&octets[8..]);
-    if living.is_living(ssrc) {
-        return Judgement::Heard;
+    if let Some(source) = living.source(ssrc) {
+        return judge_source(&source, index);
     }
     let has_room = octets.len() + TAG >= REFERENCE + RTCP_GROWTH;
     Judgement::Unanswered(ssrc, has_room && living.may_ask(ssrc, now))
+}
+
+/// A packet with this index of an SSRC that lives is of its past, or one of the media, or one that repairs it.
+fn judge_source(source: &Source, index: u64) -> Judgement
+    ensures { result ≡ judgement_of source.now index }
+{
+    if index < source.first {
+        Judgement::Past
+    } else if source.media == source.ssrc {
+        Judgement::Heard
+    } else {
+        Judgement::Repairs(source.media)
+    }
 }

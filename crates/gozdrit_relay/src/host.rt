@@ -22,7 +22,7 @@ use crate::turns::Turns;
 use crate::unmet::UnmetTold;
 use crate::waiting::Waiting;
 use crate::way::Way;
-use liveness::PendingPackets;
+use liveness::{PendingPackets, Source};
 use mio::net::UdpSocket;
 use mio::{Events, Interest, Poll, Token};
 use relays::{Meeting, Note, Octets, Outside, OutsideFault, Peers, Side, Turn};
@@ -109,7 +109,7 @@ pub struct Host<'a> {
     again: Option<(usize, SocketAddr)>,
     /// What waits until its sender answers, and who did.
     pending: PendingPackets,
-    answered: Option<u32>,
+    answered: Option<Source>,
     draws: Draws,
     /// How many datagrams left for the network.
     left: u64,

@@ -1,3 +1,4 @@
 pub mod Reports
 pub mod Living
 pub mod Pending
+pub mod Sent

@@ -6,6 +6,7 @@ use Rattle.lru.specs.LruCache.{LruCache, lru_cache, put_entries}
 use Rattle.liveness.specs.declared.reference.ReferenceTime.{ReferenceTime}
 use Rattle.liveness.specs.declared.answer.Answer.{Answer}
 use Rattle.liveness.specs.declared.living.Living.{Living}
+use Rattle.liveness.specs.declared.living.Source.{Source}
 use Rattle.liveness.specs.Reports.{IsAnswer, answer_octets}
 
 -- nobody answered so far
@@ -18,26 +19,35 @@ time_of own number = record { ssrc = own; seconds = number / 65536; fraction = n
 
 -- an SSRC answered
 abbrev pub is_living : Living → (ssrc : ℕ) → Bool
-is_living living ssrc = list_any (λ other. other == ssrc) living.sources.items
+is_living living ssrc = list_any (λ source. source.ssrc == ssrc) living.sources.items
 
--- the octets are an SSRC's answer to this receiver's number
-pub record Answers (living : Living) (octets : List ℕ) (ssrc : ℕ) : Type 0 where
+-- what an SSRC told, among those that answered
+abbrev pub source_of : List Source → (ssrc : ℕ) → Option Source
+source_of [] ssrc = None
+source_of (source ∷ others) ssrc = if source.ssrc == ssrc then Some source else source_of others ssrc
+
+-- the octets are an SSRC's answer to this receiver's number, which tells whose packets are under it, and the first
+-- index that is not of the past
+pub record Answers (living : Living) (octets : List ℕ) (source : Source) : Type 0 where
   pub answer : Answer
   pub fits : IsAnswer answer
   pub spelled : octets ≡ answer_octets answer
-  pub source : answer.ssrc ≡ ssrc
+  pub ssrc : answer.ssrc ≡ source.ssrc
+  pub media : answer.media ≡ source.media
+  pub first : answer.first ≡ source.first
   pub receiver : answer.receiver ≡ living.own
   pub last : answer.last ≡ living.number
 
 -- one more behind the others, of which the first goes where there are as many as there may be
-abbrev pub behind : (most : ℕ) → List ℕ → (one : ℕ) → List ℕ
+abbrev pub behind : (most : ℕ) → List Source → (one : Source) → List Source
 behind most others one = (if nat_lt (length others) most then others else drop 1 others) ++ (one ∷ [])
 
 -- what is heard of RTCP: the answer of an SSRC that had not answered; of any other datagram nothing is kept
-abbrev pub Hears : Living → (octets : List ℕ) → (who : Option ℕ) → Living → Type 0
-Hears old octets None new = (new ≡ old) × ((ssrc : ℕ) → Answers old octets ssrc → is_living old ssrc ≡ true)
-Hears old octets (Some ssrc) new =
-    Answers old octets ssrc × (is_living old ssrc ≡ false) × (new ≡ record old { sources = record { items = behind 16 old.sources.items ssrc } })
+abbrev pub Hears : Living → (octets : List ℕ) → (who : Option Source) → Living → Type 0
+Hears old octets None new = (new ≡ old) × ((source : Source) → Answers old octets source → is_living old source.ssrc ≡ true)
+Hears old octets (Some source) new =
+    Answers old octets source × (is_living old source.ssrc ≡ false)
+    × (new ≡ record old { sources = record { items = behind 16 old.sources.items source } })
 
 -- a tenth of a second lies between two moments
 abbrev pub is_later : (last : Option ℕ) → (now : ℕ) → Bool

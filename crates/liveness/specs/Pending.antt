@@ -1,6 +1,7 @@
 -- Packets that wait for their sender's answer, in the order in which they came: 256 at most, each for a second.
-use Rattle.std.specs.Prelude.{◌≡◌, ◌⊎◌, ℕ, ◌+◌, ◌-◌, ◌==◌, Bool, true, false, nat_le, nat_lt, List, [], ◌∷◌, ◌++◌, length, drop, slice_index_or, Option, Some, None, if◌then◌else◌}
+use Rattle.std.specs.Prelude.{◌≡◌, ◌⊎◌, ℕ, ◌+◌, ◌-◌, ◌==◌, ◌&&◌, Bool, false, nat_le, nat_lt, List, [], ◌∷◌, ◌++◌, length, drop, slice_index_or, Option, Some, None, if◌then◌else◌}
 use Rattle.std.specs.List.{position, remove}
+use Rattle.liveness.specs.declared.living.Source.{Source}
 use Rattle.liveness.specs.declared.pending.Pending.{Pending}
 
 -- one waited for a second
@@ -42,6 +43,10 @@ TakesAt None old one new = (one ≡ None) × (new ≡ old)
 TakesAt (Some at) old None new = ⊥
 TakesAt (Some at) old (Some one) new = (one ≡ slice_index_or old at one) × (new ≡ remove old at)
 
--- it is the first one of an SSRC
-abbrev pub Takes : (old : List Pending) → (ssrc : ℕ) → Option Pending → (new : List Pending) → Type 0
-Takes old ssrc one new = TakesAt (position (λ other. other.ssrc == ssrc) old) old one new
+-- one is of an SSRC that answered, and not of its past
+abbrev pub is_of : Source → Pending → Bool
+is_of source one = (one.ssrc == source.ssrc) && nat_le source.first one.index
+
+-- the first such one is taken
+abbrev pub Takes : (old : List Pending) → Source → Option Pending → (new : List Pending) → Type 0
+Takes old source one new = TakesAt (position (is_of source) old) old one new

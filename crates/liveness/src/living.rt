@@ -1,6 +1,6 @@
 //! Who answered a number that was drawn here, and so lives now.
 ghost use Rattle.std.specs.Prelude.{◌≡◌, [], IfOk};
-ghost use Rattle.liveness.specs.Living.{Hears, MayAsk, is_living, nobody_living, time_of};
+ghost use Rattle.liveness.specs.Living.{Hears, MayAsk, is_living, nobody_living, source_of, time_of};
 
 use crate::answer::Answer;
 use crate::reference::ReferenceTime;
@@ -16,6 +16,15 @@ const SOURCES: usize = 16;
 /// How long an SSRC is not asked again, in milliseconds.
 const APART: u64 = 100;
 
+/// An SSRC that answered, that of the media whose packets or retransmissions leave under it, and the first index of RTP
+/// there that is not of the past.
+#[derive(Clone, Copy, Debug, Default, PartialEq, Eq)]
+pub struct Source {
+    pub ssrc: u32,
+    pub media: u32,
+    pub first: u64,
+}
+
 /// Which SSRCs answered a number that was drawn at the start. What was recorded before has no answer to it, so nothing
 /// of an SSRC that did not answer need be heard.
 #[derive(Drop)]
@@ -25,7 +34,7 @@ pub struct Living {
     /// The number that was drawn.
     number: u32,
     /// Those that answered, the latest one last.
-    sources: ArrayVec<u32, SOURCES>,
+    sources: ArrayVec<Source, SOURCES>,
     /// When those were asked last that were asked.
     asked: LruCache<u32, u64>,
 }
@@ -61,11 +70,18 @@ impl Living {
     pub fn is_living(&self, ssrc: u32) -> bool
         ensures { result ≡ is_living self.now ssrc }
     {
-        self.sources.contains(&ssrc)
+        self.sources.iter().any(|source| source.ssrc == ssrc)
+    }
+
+    /// What the answer of an SSRC told. None: it did not answer.
+    pub fn source(&self, ssrc: u32) -> Option<Source>
+        ensures { result ≡ source_of self.now.sources.items ssrc }
+    {
+        source_of(&self.sources, ssrc)
     }
 
     /// Hears a datagram of RTCP, and tells who answers the number by it for the first time, as far as is known.
-    pub fn hear(&mut self, octets: &[u8]) -> Option<u32>
+    pub fn hear(&mut self, octets: &[u8]) -> Option<Source>
         ensures { Hears self.old octets.now result self.new }
     {
         let answer = Answer::read(octets)?;
@@ -78,8 +94,13 @@ impl Living {
         if self.sources.is_full() {
             self.sources.remove(0);
         }
-        self.sources.push(answer.ssrc);
-        Some(answer.ssrc)
+        let source = Source {
+            ssrc: answer.ssrc,
+            media: answer.media,
+            first: answer.first,
+        };
+        self.sources.push(source);
+        Some(source)
     }
 
     /// Whether an SSRC may be asked at a moment, in milliseconds: no sooner than 100 behind the last time. That is kept
@@ -95,5 +116,17 @@ impl Living {
             let _ = self.asked.put(ssrc, now);
         }
         may
+    }
+}
+
+/// What an SSRC told, among those that answered.
+fn source_of(sources: &[Source], ssrc: u32) -> Option<Source>
+    ensures { result ≡ source_of sources.now ssrc }
+{
+    let (source, others) = sources.split_first()?;
+    if source.ssrc == ssrc {
+        Some(*source)
+    } else {
+        source_of(others, ssrc)
     }
 }

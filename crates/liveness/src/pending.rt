@@ -1,9 +1,10 @@
 //! Packets whose sender has still to answer: they are heard once he does, in their order.
-ghost use Rattle.std.specs.Prelude.{◌≡◌, ◌<◌, ◌≤◌, ◌==◌, [], length, IfOk};
+ghost use Rattle.std.specs.Prelude.{◌≡◌, ◌<◌, ◌≤◌, [], length};
 ghost use Rattle.std.specs.List.{list_any, position};
-ghost use Rattle.liveness.specs.Pending.{DropsFirst, Expires, Keeps, MakesRoom, Takes};
+ghost use Rattle.liveness.specs.Pending.{DropsFirst, Expires, Keeps, MakesRoom, Takes, is_of};
 
-use std::alloc::{AllocError, Global};
+use crate::living::Source;
+use std::alloc::Global;
 use std::net::SocketAddr;
 
 /// How many are kept at most, and how long, in milliseconds.
@@ -11,36 +12,15 @@ const MOST: usize = 256;
 
 const LONGEST: u64 = 1000;
 
-/// A packet under an SSRC that did not answer so far, where it came from, and when.
+/// A packet under an SSRC that did not answer so far, its index, where it came from, and at which moment, in
+/// milliseconds.
 #[derive(Drop)]
 pub struct Pending {
     pub ssrc: u32,
+    pub index: u64,
     pub from: SocketAddr,
     pub octets: Vec<u8>,
     pub moment: u64,
-}
-
-impl Pending {
-    /// A packet that came under an SSRC from an address at a moment, in milliseconds.
-    ///
-    /// `AllocError`: the allocator refused the memory.
-    pub fn new(
-        alloc: Global,
-        ssrc: u32,
-        from: SocketAddr,
-        octets: &[u8],
-        moment: u64,
-    ) -> Result<Pending, AllocError>
-        ensures octets { IfOk result (λ one. one.octets.items ≡ octets.now) }
-        ensures whose { IfOk result (λ one. (one.ssrc ≡ ssrc) × (one.from ≡ from) × (one.moment ≡ moment)) }
-    {
-        Ok(Pending {
-            ssrc,
-            from,
-            octets: octets.to_vec(alloc)?,
-            moment,
-        })
-    }
 }
 
 /// Packets that wait for an answer, in the order in which they came.
@@ -111,25 +91,32 @@ impl PendingPackets {
         true
     }
 
-    /// Whether one under an SSRC waits.
-    pub fn has(&self, ssrc: u32) -> bool
-        ensures { result ≡ list_any (λ one. one.ssrc == ssrc) self.now.packets.items }
+    /// Whether a packet of an SSRC waits that is not of the past, as its answer tells.
+    pub fn has(&self, source: &Source) -> bool
+        ensures { result ≡ list_any (is_of source.now) self.now.packets.items }
     {
-        self.packets.iter().any(|one| one.ssrc == ssrc)
+        self.packets.iter().any(|one| is_of(source, one))
     }
 
-    /// The first one under an SSRC, which waits no longer.
-    pub fn take(&mut self, ssrc: u32) -> Option<Pending>
-        ensures { Takes self.old.packets.items ssrc result self.new.packets.items }
+    /// The first such packet, which waits no longer.
+    pub fn take(&mut self, source: &Source) -> Option<Pending>
+        ensures { Takes self.old.packets.items source.now result self.new.packets.items }
     {
-        let at = place_of(&self.packets, ssrc)?;
+        let at = place_of(&self.packets, source)?;
         Some(self.packets.remove(at))
     }
 }
 
-/// Where the first one under an SSRC stands.
-fn place_of(packets: &[Pending], ssrc: u32) -> Option<usize>
-    ensures { result ≡ position (λ one. one.ssrc == ssrc) packets.now }
+/// Whether a packet is of an SSRC that answered, and not of its past.
+fn is_of(source: &Source, one: &Pending) -> bool
+    ensures { result ≡ is_of source.now one.now }
 {
-    packets.iter().position(|one| one.ssrc == ssrc)
+    one.ssrc == source.ssrc && one.index >= source.first
+}
+
+/// Where the first such packet stands.
+fn place_of(packets: &[Pending], source: &Source) -> Option<usize>
+    ensures { result ≡ position (is_of source.now) packets.now }
+{
+    packets.iter().position(|one| is_of(source, one))
 }

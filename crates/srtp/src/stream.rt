@@ -34,6 +34,7 @@ struct Spot {
 }
 
 impl<const N: usize> Stream<N> {
+    ghost use Rattle.srtp.specs.Replay.{next_of};
     ghost use Rattle.srtp.specs.Stream.{Context, IsStream, rollover_of, index_of, guess_fault, index_in, index_at, packet_fault, packet_fault_at, with_taken, turned, protected, body_of, tag_in, tag_fault, unprotect_fault, unprotect_fault_at};
     ghost use Rattle.srtp.specs.Header.{header_len};
 
@@ -61,6 +62,13 @@ impl<const N: usize> Stream<N> {
         } else {
             ((next - 1) >> 16) as u32
         }
+    }
+
+    /// One more than the highest index so far, or 0 where no packet was taken.
+    pub fn next_index(&self) -> u64
+        ensures { (context : Context) → IsStream N self.now context → result ≡ next_of context.taken }
+    {
+        self.replay.next()
     }
 
     /// The index of the packet with this number.

@@ -172,6 +172,30 @@ fn half_a_cycle_ahead(rt: HostRuntime) -> Result<(), Fail> {
     Ok(())
 }
 
+/// The index of what was taken is told by its SSRC and its number, and how far what left has come.
+#[test]
+fn told_indices(rt: HostRuntime) -> Result<(), Fail> {
+    let mut inbound = inbound(&rt)?;
+    let mut outbound = outbound(&rt)?;
+    assert!(rt; inbound.index_of(7, 65_535).is_none() && outbound.next_index(7) == 0);
+    for (rollover, seq, index, next) in [
+        (0, 65_535, 65_535, 65_536),
+        (1, 3, 65_539, 65_540),
+        (0, 65_534, 65_534, 65_540),
+    ] {
+        assert_eq!(rt; inbound.open_rtp(&mut sealed(7, rollover, seq)?, 0), Ok(20));
+        assert_eq!(rt; inbound.index_of(7, seq), Some(index));
+        assert_eq!(rt; outbound.seal_rtp(&mut packet(7, seq)), Ok(()));
+        assert_eq!(rt; outbound.next_index(7), next);
+    }
+    assert_eq!(rt; inbound.index_of(7, 3), Some(65_539));
+    assert_eq!(rt; inbound.index_of(7, 4), Some(4));
+    assert!(rt; inbound.index_of(8, 3).is_none() && outbound.next_index(8) == 0);
+    assert_eq!(rt; inbound.open_rtp(&mut sealed(9, 0, 2)?, 0), Ok(20));
+    assert!(rt; inbound.index_of(9, 3).is_none() && inbound.index_of(9, 2) == Some(2));
+    Ok(())
+}
+
 #[test]
 fn forgotten(rt: HostRuntime) -> Result<(), Fail> {
     let mut inbound = inbound(&rt)?;

@@ -4,8 +4,8 @@ use super::{Change, Host};
 use crate::greeting::{push_denied, push_unanswered, push_withheld};
 use crate::guard::{Judgement, SEALED};
 use contexts::ContextFault;
-use liveness::{Answer, Pending, ReferenceTime};
-use relays::{Octets, OutsideFault, Side};
+use liveness::{Answer, Pending, ReferenceTime, Source};
+use relays::{Note, Octets, OutsideFault, Side};
 use rtpwire::MAX_DATAGRAM;
 use std::net::SocketAddr;
 
@@ -37,25 +37,45 @@ impl Host<'_> {
         let Some(octets) = self.octets.get(..len) else {
             return None;
         };
-        match guard.judge(octets, now) {
+        let index = guard.index_of(octets);
+        match guard.judge(octets, index, now) {
             Judgement::Heard => return self.heard(len, from),
+            Judgement::Repairs(media) if self.has_media(media) => return Some(len),
+            Judgement::Repairs(_) => self.counts.count(&Note::Stray),
             Judgement::Lives(None) => {}
-            Judgement::Lives(Some(ssrc)) => self.release(ssrc),
+            Judgement::Lives(Some(source)) => self.release(source),
             Judgement::Asked(time) => self.answer(&time, from),
-            Judgement::Unanswered(ssrc, asks) => self.wait_for_answer(len, from, ssrc, asks, now),
+            Judgement::Unanswered(ssrc, asks) => {
+                if asks {
+                    self.ask(from);
+                }
+                self.wait_for_answer(len, from, ssrc, index, now);
+            }
+            Judgement::Past => self.drop_unanswered(from),
         }
         None
     }
 
-    /// What waited for the answer of an SSRC is heard from now on, and may begin a session at once.
-    fn release(&mut self, ssrc: u32) {
-        if self.pending.has(ssrc) {
-            self.answered = Some(ssrc);
-            self.change = Some(Change::Lives);
+    /// Whether the session's media are under this SSRC.
+    fn has_media(&self, ssrc: u32) -> bool {
+        self.session
+            .is_some_and(|session| session.media_ssrc() == ssrc)
+    }
+
+    /// What waited for the answer of an SSRC, and is not of its past, is heard from now on: what may begin a session at
+    /// once, or what repairs that of the relay.
+    fn release(&mut self, source: Source) {
+        let is_media = source.media == source.ssrc;
+        if (is_media || self.has_media(source.media)) && self.pending.has(&source) {
+            self.answered = Some(source);
+            if is_media {
+                self.change = Some(Change::Lives);
+            }
         }
     }
 
-    /// The same of what is heard. It waits until the relay knows the far side there, where it is the newest packet of a receiver's session.
+    /// The same of what is heard. It waits until the relay knows the far side there, where it is the newest packet of a
+    /// receiver's session.
     fn heard(&mut self, len: usize, from: SocketAddr) -> Option<usize> {
         let Some(newest) = &mut self.newest else {
             return Some(len);
@@ -71,17 +91,20 @@ impl Host<'_> {
         None
     }
 
-    /// A packet of so many octets waits until its sender answers, who may be asked.
+    /// A packet of so many octets waits until its sender answers.
     #[inline(never)]
-    fn wait_for_answer(&mut self, len: usize, from: SocketAddr, ssrc: u32, asks: bool, now: u64) {
-        if asks {
-            self.ask(from);
-        }
+    fn wait_for_answer(&mut self, len: usize, from: SocketAddr, ssrc: u32, index: u64, now: u64) {
         let Some(octets) = self.octets.get(..len) else {
             return;
         };
-        let dropped = match Pending::new(self.rt.alloc(), ssrc, from, octets, now) {
-            Ok(one) => self.pending.keep(one),
+        let dropped = match octets.to_vec(self.rt.alloc()) {
+            Ok(octets) => self.pending.keep(Pending {
+                ssrc,
+                index,
+                from,
+                octets,
+                moment: now,
+            }),
             Err(_) => 1,
         };
         for _packet in 0..dropped {
@@ -89,7 +112,8 @@ impl Host<'_> {
         }
     }
 
-    /// Counts a packet whose sender did not answer in time, and writes the line of such, at most each ten seconds.
+    /// Counts a packet whose sender did not answer in time, or that is of its past, and writes the line of such, at
+    /// most each ten seconds.
     fn drop_unanswered(&mut self, from: SocketAddr) {
         self.counts.deny();
         let Some(count) = self.unanswered.come(self.moment) else {
@@ -107,10 +131,10 @@ impl Host<'_> {
         &mut self,
         room: &mut Octets,
     ) -> Result<Option<Side>, OutsideFault> {
-        let Some(ssrc) = self.answered else {
+        let Some(source) = self.answered else {
             return Ok(None);
         };
-        let Some(one) = self.pending.take(ssrc) else {
+        let Some(one) = self.pending.take(&source) else {
             self.answered = None;
             return Ok(None);
         };
@@ -142,14 +166,25 @@ impl Host<'_> {
         if !self.is_sender || self.far_at != Some(to) {
             return;
         }
-        for ssrc in [session.media_ssrc(), session.repair_ssrc()] {
+        let media = session.media_ssrc();
+        for ssrc in [media, session.repair_ssrc()] {
             let answer = Answer {
                 ssrc,
+                media,
                 receiver: time.ssrc,
                 last: time.middle(),
                 delay: 0,
+                first: self.first(ssrc),
             };
             self.send_sealed(to, &answer.write());
+        }
+    }
+
+    /// The first index of an SSRC that is not of the past.
+    fn first(&self, ssrc: u32) -> u64 {
+        match &self.guard {
+            Some(guard) => guard.sent.first(ssrc),
+            None => 0,
         }
     }
 
@@ -188,6 +223,7 @@ impl Host<'_> {
         let mut out = [0; SEALED];
         match guard.seal(octets, &mut out) {
             Ok(len) => {
+                guard.keep_left(octets, self.moment);
                 if let Some(sealed) = out.get(..len) {
                     self.leave(Side::Far, to, sealed);
                 }
