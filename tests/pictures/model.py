@@ -144,7 +144,7 @@ def relay_rows():
     nack = "81cd00033333333311111111"
     log = f"5 session 11111111 96 - 97 9\n10 taken 65547 0\n11 ask 0 {nack}00090001\n11 lost 0\n20 taken 65545 0\n25 rtt 9\n" \
           "26 play 65545 0 0 - - -\n27 gap 65546\n28 held\n28 moved\n29 held\n30 restarted 70000\n30 overrun 3\n30 abandoned 2\n30 skipped 7\n31 play 70000 0 0 - - -\n" \
-          "32 stray\n33 refused 1\n34 ta"
+          "32 stray\n33 refused 1\n33 padding 32\n33 unasked 32\n34 ta"
     run = relay.read(log.encode())
     checks.same("a signalled first number", run.held[0], (10, 3, 2))
     checks.same("asked places", run.marks["asked"], [(11, 65545), (11, 65546)])
@@ -152,7 +152,7 @@ def relay_rows():
     checks.same("what was asked for", (run.repairs, run.marks["retransmitted"]), ([(20, 10)], [(20, 65545)]))
     checks.same("a round-trip time", run.trips, [(25, 9)])
     checks.same("a restart", run.held[-2:], [(30, 1, 0), (31, 0, 0)])
-    checks.same("the rest", run.counts, {"held": 2, "moved": 1, "restarted": 1, "abandoned": 2, "skipped": 7, "stray": 1, "refused": 1})
+    checks.same("the rest", run.counts, {"held": 2, "moved": 1, "restarted": 1, "abandoned": 2, "skipped": 7, "stray": 1, "refused": 1, "padding": 1, "unasked": 1})
     log = f"1 taken 65536 0\n2 taken 105536 0\n3 ask 0 {nack}00010000\n"
     checks.same("an ask far below the highest place", relay.read(log.encode()).marks["asked"], [(3, 65537)])
     log = "1 sent 65537 0 00\n2 marked 3\n3 repair 65537 1 00\n3 lost 1\n4 tail 0\n5 tail 1\n6 unsent\n7 marked 2\n8 passed\n9 crowded 3\n"

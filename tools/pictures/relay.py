@@ -12,6 +12,8 @@ LINES = {
     "marked": (COUNT,),
     "tail": (number(0, 1),),
     "refused": (COUNT,),
+    "padding": (COUNT,),
+    "unasked": (COUNT,),
     "unsent": (),
     "passed": (),
     "crowded": (COUNT,),
@@ -30,7 +32,7 @@ LINES = {
     "rtt": (COUNT,),
 }
 SENDS = ("sent", "repair", "marked", "tail", "unsent", "passed", "crowded")
-RECEIVES = ("taken", "held", "moved", "restarted", "overrun", "abandoned", "skipped", "play", "gap", "ask", "rtt")
+RECEIVES = ("padding", "unasked", "taken", "held", "moved", "restarted", "overrun", "abandoned", "skipped", "play", "gap", "ask", "rtt")
 
 
 def is_one(log):
