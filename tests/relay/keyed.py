@@ -347,7 +347,7 @@ def the_past(checks, stage):
     app = App(stage, sender.at)
     app.stream(contents[:800], 200)
     soon(lambda: len(player.came) == 800, 5)
-    record = [octets for way, octets in path.passed if way == "forth" and not is_rtcp(octets)][:300]
+    record = [octets for way, octets in path.passed if way == "forth" and not is_rtcp(octets)][:150]
     receiver.stop()
     player, far, over = End(stage), End(stage), threading.Event()
     receiver = stage.receive(player.at, *key, "--packets", 400, listen=port)
