@@ -81,8 +81,9 @@ def relays(checks, stage):
     the first packet on that comes there."""
     path, player, draw = stage.room / "one.sock", End(stage), random.Random(7)
     relays = [stage.receive(player.at, "--loss", 100, "--latency", 4000) for _ in range(2)]
-    begins = [at.to_bytes(2, "big") for at in (0, MANY)]
-    ways = [Path(stage, relay.at, lambda way, octets: () if draw.random() < 0.1 and octets[2:4] not in begins else (0,)) for relay in relays]
+    # A session begins with its first packet, and what tells of the last one may be lost too.
+    ends_of = [at.to_bytes(2, "big") for at in (0, MANY - 1, MANY, 2 * MANY - 1)]
+    ways = [Path(stage, relay.at, lambda way, octets: () if draw.random() < 0.1 and octets[2:4] not in ends_of else (0,)) for relay in relays]
     sender = stage.send(ways[0].at, "--control", path)
     app = App(stage, sender.at, number=0)
     app.stream(plain(MANY), RATE)
