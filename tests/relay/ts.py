@@ -88,7 +88,10 @@ def through(checks, stage):
     sender = stage.send(path.at, "--input", "ts")
     room, packets = most(sender), transport(7 * many)
     datagrams = [b"".join(packets[7 * at:7 * at + 7]) for at in range(many)]
-    pour(App(stage, sender.at), datagrams)
+    app = App(stage, sender.at)
+    pour(app, datagrams[:-3])
+    path.rule = lambda way, octets: (0.002,)  # what tells of the last one may be lost too
+    pour(app, datagrams[-3:])
     wanted = [one[at:at + room] for one in datagrams for at in range(0, len(one), room)]
     player.waits_for(len(wanted))
     checks.same(player.octets(), wanted, "what the player got")
