@@ -9,6 +9,8 @@ mod earned;
 #[cfg(test)]
 mod held;
 #[cfg(test)]
+mod latencies;
+#[cfg(test)]
 mod lossy;
 #[cfg(test)]
 mod moving;

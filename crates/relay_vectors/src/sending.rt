@@ -53,16 +53,16 @@ pub(crate) fn relay(
 
 /// What became of a relay. It is small, since whatever a test holds costs its proof.
 #[derive(Clone, Copy)]
-struct Told {
+pub(crate) struct Told {
     /// Whether what left has what is wanted, each under the number beside it.
-    has_left: bool,
+    pub has_left: bool,
     /// How many datagrams left.
-    gone: usize,
+    pub gone: usize,
     /// The moment of the end.
     now: u64,
     sent: u64,
     early: u64,
-    expired: u64,
+    pub expired: u64,
 }
 
 /// What becomes of a relay that runs by a script, from which these are wanted to leave.
@@ -86,7 +86,7 @@ fn runs(
 }
 
 /// What becomes of a relay for so many packets, by a rule of what is retransmitted, where these datagrams come.
-fn done_by(
+pub(crate) fn done_by(
     alloc: Global,
     packets: u64,
     rate: Rate,
@@ -123,17 +123,21 @@ fn done(
 }
 
 /// A packet of the application: MPEG-2 transport stream, its number 1 and up, its marker set.
-const FIRST: Packet = These(b"\x80\xa1\x00\x01\x00\x00\x00\x64\x0a\x0b\x0c\x0d\xaa");
+pub(crate) const FIRST: Packet = These(b"\x80\xa1\x00\x01\x00\x00\x00\x64\x0a\x0b\x0c\x0d\xaa");
 
-const SECOND: Packet = These(b"\x80\x21\x00\x02\x00\x00\x00\xc8\x0a\x0b\x0c\x0d\xbb");
+pub(crate) const SECOND: Packet = These(b"\x80\x21\x00\x02\x00\x00\x00\xc8\x0a\x0b\x0c\x0d\xbb");
 /// One of another stream.
 const OTHER: Packet = These(b"\x80\x21\x00\x02\x00\x00\x00\xc8\x0e\x0b\x0c\x0d\xbb");
 /// Both as the session's media.
-const SENT_FIRST: Packet = These(b"\x80\xa1\xff\xff\x00\x00\x00\x64\x11\x11\x11\x11\xaa");
+pub(crate) const SENT_FIRST: Packet = These(
+    b"\x80\xa1\xff\xff\x00\x00\x00\x64\x11\x11\x11\x11\xaa",
+);
 
-const SENT_SECOND: Packet = These(b"\x80\x21\x00\x00\x00\x00\x00\xc8\x11\x11\x11\x11\xbb");
+pub(crate) const SENT_SECOND: Packet = These(
+    b"\x80\x21\x00\x00\x00\x00\x00\xc8\x11\x11\x11\x11\xbb",
+);
 /// Both as retransmissions: the original number stands before the payload (RFC 4588, section 4).
-const REPAIRED_FIRST: Packet = These(
+pub(crate) const REPAIRED_FIRST: Packet = These(
     b"\x80\xff\x00\x07\x00\x00\x00\x64\x22\x22\x22\x22\xff\xff\xaa",
 );
 
@@ -142,14 +146,14 @@ const REPAIRED_SECOND: Packet = These(
 );
 
 /// The first as its second retransmission, and the second as one more packet.
-const REPAIRED_AGAIN: Packet = These(
+pub(crate) const REPAIRED_AGAIN: Packet = These(
     b"\x80\xff\x00\x08\x00\x00\x00\x64\x22\x22\x22\x22\xff\xff\xaa",
 );
 
 const SENT_AGAIN: Packet = These(b"\x80\x21\x00\x01\x00\x00\x00\xc8\x11\x11\x11\x11\xbb");
 
 /// A generic NACK of the session for number 65535.
-const NACK: Packet = Packet::Nack(65535);
+pub(crate) const NACK: Packet = Packet::Nack(65535);
 
 #[test]
 fn a_stream_is_sent_and_a_lost_packet_again(rt: HostRuntime) -> Result<(), Fail> {

@@ -8,5 +8,7 @@ pub mod Waking
 pub mod Marked
 pub mod Holes
 pub mod Within
+pub mod Reporting
+pub mod Telling
 pub mod Following
 pub mod Slow

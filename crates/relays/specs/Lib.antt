@@ -16,5 +16,8 @@ pub mod Numbering
 pub mod Leaving
 pub mod Moving
 pub mod FarSide
+pub mod LatencyReport
+pub mod FarLatency
+pub mod LatencyReports
 pub mod SendRelay
 pub mod ReceiveRelay

@@ -1,6 +1,6 @@
 -- The relay behind a network that loses: what it does with what comes, and what it does of its own. Each case of what it notes has
 -- its equation, and what stands nowhere is never done.
-use Rattle.std.specs.Prelude.{◌≡◌, ◌≤◌, ◌<◌, ◌-◌, ◌/◌, ◌⊎◌, ℕ, zero, suc, max, min, Bool, true, false, List, length, take, Option, Some, None, is_some, Result, Ok, Err}
+use Rattle.std.specs.Prelude.{◌≡◌, ◌≤◌, ◌<◌, ◌-◌, ◌^◌, ◌⊎◌, ℕ, zero, suc, max, min, Bool, true, false, List, length, take, Option, Some, None, is_some, Result, Ok, Err}
 use Rattle.std.specs.declared.net.socket_addr.SocketAddr.{SocketAddr}
 use Rattle.arrayvec.specs.ArrayVec.{ArrayVec}
 use Rattle.rtpwire.specs.Rtp.{RtpSpells}
@@ -51,6 +51,9 @@ use Rattle.timing.specs.declared.playout.Playout.{Playout}
 use Rattle.relays.specs.Holding.{asking_time, clock_after, held_by, timestamp_of, wait_by}
 use Rattle.timing.specs.NackRoom.{budget_anew, budget_with, fewer_in, room_in}
 use Rattle.relays.specs.Feedback.{after_nack, leaves_twice}
+use Rattle.relays.specs.LatencyReports.{IsBehind, is_told_behind, reports_after}
+use Rattle.relays.specs.declared.latency_report.LatencyReport.{LatencyReport}
+use Rattle.relays.specs.declared.latency_reports.LatencyReports.{LatencyReports}
 use Rattle.relays.specs.Leaving.{GoesTo, octets_of}
 use Rattle.relays.specs.Moving.{next_of}
 use Rattle.relays.specs.FarSide.{Shows, heard_at, is_quiet, left, new_far_side}
@@ -76,6 +79,7 @@ pub record ReceiveSide : Type 0 where
   pub last : Option ℕ  -- the moment of the last play
   pub copy : Option (ArrayVec ℕ)  -- the NACK that left last, where it is still to leave a second time
   pub budget : Option FeedbackBudget  -- what may leave for the far side, where that is earned by what comes from there
+  pub reports : Option LatencyReports  -- when it told the far side the latency, if it does
   pub bounds : Bounds
 
 -- By how much less a number may lie ahead to be believed at once (MAX_DROPOUT of RFC 3550, appendix A.1): 3000, or as many as the
@@ -108,6 +112,7 @@ new_receive_side config capacity far player numbering hold bounds =
       last = None;
       copy = None;
       budget = None;
+      reports = None;
       bounds = bounds;
     }
 
@@ -244,11 +249,21 @@ abbrev pub copy_for : (octets : List ℕ) → (is_twice : Bool) → Option (Arra
 copy_for octets true = Some (record { items = octets })
 copy_for octets false = None
 
--- places that are due are asked for at the far side, within what was earned
+-- what it tells of its latency
+abbrev pub report_of : ReceiveSide → LatencyReport
+report_of s = record { ssrc = s.core.config.session.receiver_ssrc; latency = min s.core.config.patience (2 ^ 32 - 1) }
+
+-- Places that are due are asked for at the far side, within what was earned, by a NACK; and the latency may be told behind that.
 pub record AsksFar (old : ReceiveSide) (now : ℕ) (d : Departure) (out : List ℕ) (new : ReceiveSide) : Type 0 where
-  pub asks : AsksWithin (room_in old.budget) old now d.len out new
+  pub nack : ℕ
+  pub asks : AsksWithin (room_in old.budget) old now nack out new
+  pub is_told : Bool
+  pub tells : is_told ≡ is_told_behind old.reports nack (room_in old.budget) now
+  pub behind : IsBehind is_told (report_of old) nack d.len (octets_of d out) out
+  pub config : new.core.config ≡ old.core.config
+  pub earned : d.len ≤ room_in old.budget
   pub goes : GoesTo d Far old.far.at
-  pub rest : new ≡ record old { core = new.core; counts = new.counts; asked = new.asked; meter = meter_asked new.core.span (octets_of d out) now old.meter; copy = copy_for (octets_of d out) (leaves_twice d.len old.budget); budget = after_nack d.len old.budget }
+  pub rest : new ≡ record old { core = new.core; counts = new.counts; asked = new.asked; meter = meter_asked new.core.span (octets_of d out) now old.meter; copy = copy_for (octets_of d out) (leaves_twice d.len old.budget); budget = after_nack d.len old.budget; reports = reports_after is_told now old.reports }
 
 abbrev pub Asks : ReceiveSide → (now : ℕ) → Note → Option Departure → (out : List ℕ) → ReceiveSide → Type 0
 Asks old now note.Asked (Some d) out new = AsksFar old now d out new

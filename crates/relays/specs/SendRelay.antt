@@ -41,6 +41,8 @@ use Rattle.relays.specs.Ending.{is_over}
 use Rattle.relays.specs.Backlog.{emptied, gone, is_beyond, kept_beside, less_by, marked_by, marked_more, measured_with, new_backlog, has_stood, seen_at}
 use Rattle.relays.specs.Pacing.{fallen, is_open, is_scarce, opens_after, paced_beside, room_of}
 use Rattle.relays.specs.Leaving.{GoesTo, octets_of}
+use Rattle.relays.specs.FarLatency.{HearsLatency, deadline_at, gap_seen, untold}
+use Rattle.relays.specs.declared.far_latency.FarLatency.{FarLatency}
 
 -- what a relay is between two calls
 pub record SendSide : Type 0 where
@@ -55,12 +57,13 @@ pub record SendSide : Type 0 where
   pub pace : Pace
   pub backlog : Backlog  -- how much is marked
   pub tail : Bool  -- the last packet is still to be retransmitted once the stream falls silent
+  pub latency : FarLatency  -- how old a packet may be that the far side still has use for
   pub bounds : Bounds
 
 -- a relay that sent nothing
 abbrev pub new_send_side : Sending → ResendRule → List Times → SocketAddr → Stream → Pace → Bounds → SendSide
 new_send_side core rule moments far stream pace bounds =
-    record { core = core; counts = no_counts; rule = rule; moments = moments; passed = none_passed; meter = meter_fixed; far = far; stream = stream; pace = pace; backlog = new_backlog; tail = false; bounds = bounds }
+    record { core = core; counts = no_counts; rule = rule; moments = moments; passed = none_passed; meter = meter_fixed; far = far; stream = stream; pace = pace; backlog = new_backlog; tail = false; latency = untold; bounds = bounds }
 
 -- it ends by its bounds, of which it counts the packets that it sent
 abbrev pub is_done : SendSide → (now : ℕ) → Bool
@@ -101,7 +104,7 @@ pub record Forwarded (old : SendSide) (from : SocketAddr) (octets : List ℕ) (n
   pub sends : SendsAt old.core.config.session old.core.past.capacity (state_of old.core) content 0 place (octets_of d out) (state_of new.core)
   pub goes : GoesTo d Far old.far
   pub config : new.core.config ≡ old.core.config
-  pub rest : new ≡ record old { core = new.core; counts = count_sent (length content.payload.items) old.counts; moments = told old.moments place (just_sent now); meter = meter_sent old.meter now; stream = followed_by old.stream from packet.ssrc now; pace = paced_beside old.pace d.len now; backlog = measured_with old.backlog d.len; tail = true }
+  pub rest : new ≡ record old { core = new.core; counts = count_sent (length content.payload.items) old.counts; moments = told old.moments place (just_sent now); meter = meter_sent old.meter now; stream = followed_by old.stream from packet.ssrc now; pace = paced_beside old.pace d.len now; backlog = measured_with old.backlog d.len; tail = true; latency = gap_seen old.stream.last now old.latency }
 
 -- what is done with a datagram of the application: it is sent, or it carries nothing, or there is no place left
 abbrev pub Forwards : SendSide → (from : SocketAddr) → (octets : List ℕ) → (now : ℕ) → Note → Option Departure → (out : List ℕ) → SendSide → Type 0
@@ -120,7 +123,8 @@ pub record HearsFeedback (old : SendSide) (octets : List ℕ) (now : ℕ) (answe
   pub is_next : IsNextAny (state_of old.core) first
   pub measures : HearsTime old.core.config old.core.past old.moments octets now old.meter.interval new.meter.interval
   pub tells : TellsKind (is_control octets) old.core octets answer new.core
-  pub rest : new ≡ record old { core = new.core; counts = count_told answer old.counts; meter = new.meter; pace = fallen old.pace now; backlog = backlog_after first answer now old }
+  pub tells_latency : HearsLatency answer octets now old.latency new.latency
+  pub rest : new ≡ record old { core = new.core; counts = count_told answer old.counts; meter = new.meter; pace = fallen old.pace now; backlog = backlog_after first answer now old; latency = new.latency }
 
 -- what is done with a datagram at the other socket: the endpoint hears what the far side sent, and nobody else's
 abbrev pub HearsFar : SendSide → (from : SocketAddr) → (octets : List ℕ) → (now : ℕ) → Note → Option Departure → SendSide → Type 0
@@ -145,8 +149,16 @@ abbrev pub once_where : (is_scarce : Bool) → ResendRule → ResendRule
 once_where false rule = rule
 once_where true rule = record rule { min_resend = 2 ^ 64 - 1 }
 
+-- a rule without a deadline has the one that is known of the far side
+abbrev pub deadline_or : (own known : Option ℕ) → Option ℕ
+deadline_or None known = known
+deadline_or (Some own) known = Some own
+
+abbrev pub rule_in_time : SendSide → (now : ℕ) → ResendRule
+rule_in_time s now = record s.rule { deadline = deadline_or s.rule.deadline (deadline_at s.latency now) }
+
 abbrev pub rule_at : SendSide → (now : ℕ) → ResendRule
-rule_at s now = once_where (is_scarce s.pace now) (rule_by s.meter.interval s.rule now)
+rule_at s now = once_where (is_scarce s.pace now) (rule_by s.meter.interval (rule_in_time s now) now)
 
 -- More is marked than may leave soon, and that for a second: what stands so makes all that is marked behind it too late.
 abbrev pub is_crowded : SendSide → (now : ℕ) → Bool

@@ -14,6 +14,9 @@ const SECOND: u64 = 1000;
 /// The longest gap that counts as what it is, in milliseconds: behind four of these, a second of silence, any other sender begins a session.
 const LONGEST: u64 = 250;
 
+/// No mean gap is longer, in microseconds.
+const SLOWEST: u64 = 1000 * LONGEST;
+
 /// For how long nothing may have come from the far side at least before it is heard at another address, in milliseconds.
 const QUIET: u64 = 100;
 
@@ -49,7 +52,7 @@ impl FarSide {
         FarSide {
             at,
             came: None,
-            gap: 1000 * LONGEST,
+            gap: SLOWEST,
             shown: None,
         }
     }
@@ -79,6 +82,10 @@ impl FarSide {
             return self.gap;
         };
         let gap = now.saturating_sub(came).min(LONGEST);
+        // Most datagrams come within the millisecond of the one before.
+        if gap == 0 && self.gap <= SLOWEST {
+            return self.gap;
+        }
         let rest = self.gap.saturating_mul(SECOND - gap) / SECOND;
         rest.saturating_add(gap.saturating_mul(gap))
     }

@@ -7,9 +7,12 @@ mod claim_tables;
 mod claims;
 mod driving;
 mod dropout;
+mod far_latency;
 mod far_side;
 mod feedback;
 mod holding;
+mod latency_report;
+mod latency_reports;
 mod laws;
 mod media_rate;
 mod moving;
@@ -27,8 +30,12 @@ pub use bounds::Bounds;
 pub use claim_tables::{Claim, ClaimTables, Claimant};
 pub use claims::{Claims, Step, Stranger};
 pub use driving::run;
+pub use far_latency::FarLatency;
+pub use latency_report::{LatencyReport, REPORT, latency_in};
+pub use latency_reports::LatencyReports;
 pub use laws::{
     bursts_leave_at_once, four_gaps_are_waited_for, pace_is_kept, two_in_each_second_are_enough,
+    what_is_told_is_read,
 };
 pub use media_rate::MediaRate;
 pub use numbering::Numbering;

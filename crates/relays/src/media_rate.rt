@@ -5,6 +5,9 @@ ghost use Rattle.relays.specs.MediaRate.{measured_after, measured_at, unmeasured
 /// Over how long it is measured, in milliseconds. Of a stream that is silent for so long nothing is left.
 const SECOND: u64 = 1000;
 
+/// No media is as fast, in bits a second.
+const FAST: u64 = 1 << 50;
+
 /// The rate of media as it is measured: its octets with a weight each, which is one as they leave and falls by a thousandth each
 /// millisecond. So it is the mean over about a second. Nothing is taken for granted.
 #[derive(Clone, Copy, Debug, PartialEq, Eq)]
@@ -43,6 +46,10 @@ impl MediaRate {
         let Some(last) = self.last else {
             return 0;
         };
+        // Most packets leave within the millisecond of the one before.
+        if now <= last && self.bits < FAST {
+            return self.bits;
+        }
         let left = SECOND.saturating_sub(now.saturating_sub(last));
         self.bits.saturating_mul(left) / SECOND
     }

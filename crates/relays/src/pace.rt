@@ -135,6 +135,9 @@ impl Pace {
     fn owed_at(&self, now: u64) -> u64
         ensures { result ≡ owed_at self.now now }
     {
+        if self.owed == 0 {
+            return 0;
+        }
         let passed = now.saturating_sub(self.since);
         self.owed
             .saturating_sub(self.drain().saturating_mul(passed))

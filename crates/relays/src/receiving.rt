@@ -11,6 +11,8 @@ ghost use Rattle.receiver.specs.Receiver.{begun, state_of};
 ghost use Rattle.endpoint.specs.ReceiveCounts.{passed_by};
 ghost use Rattle.stores.specs.Asking.{has_come};
 ghost use Rattle.timing.specs.FeedbackBudget.{nothing_earned};
+ghost use Rattle.timing.specs.NackRoom.{budget_anew};
+ghost use Rattle.relays.specs.LatencyReports.{reports_begun};
 ghost use Rattle.relays.specs.Passing.{IsWithin};
 ghost use Rattle.relays.specs.ReceiveRelay.{GoesOn, HearsElsewhere, HearsFar, HearsFrom, MayShow, Moves, is_done, led, moved, new_receive_side, next_play, NothingAsked, numbering_after, passes, patience_left, PlaysOut, SpeaksAs};
 
@@ -20,6 +22,7 @@ use crate::bounds::Bounds;
 use crate::dropout::{dropout, probation};
 use crate::far_side::FarSide;
 use crate::holding::{asking_time, hear_clock, release, wait};
+use crate::latency_reports::LatencyReports;
 use crate::moving::next_of;
 use crate::numbering::Numbering;
 use crate::outside::Side;
@@ -60,6 +63,8 @@ pub struct ReceiveRelay<W: Window> {
     copy: Option<Datagram>,
     /// What may leave for the far side, where that is earned by what comes from there.
     budget: Option<FeedbackBudget>,
+    /// When it told the far side the latency, if it does.
+    reports: Option<LatencyReports>,
     bounds: Bounds,
 }
 
@@ -68,7 +73,7 @@ impl<W: Window> Model for ReceiveRelay<W> {
 
     ghost Value = { ReceiveSide };
 
-    ghost view = { λ r. record { core = r.endpoint.endpoint.core; spare = r.endpoint.endpoint.spare; run = r.endpoint.endpoint.run; probation = r.endpoint.endpoint.probation; counts = r.endpoint.endpoint.counts; asked = r.endpoint.asked; kinds = r.endpoint.kinds; doubted = r.endpoint.doubted; seen = r.endpoint.endpoint.seen; far = r.far; reach = r.reach; player = r.player; numbering = r.numbering; hold = r.hold; meter = r.meter; last = r.last; copy = r.copy; budget = r.budget; bounds = r.bounds } };
+    ghost view = { λ r. record { core = r.endpoint.endpoint.core; spare = r.endpoint.endpoint.spare; run = r.endpoint.endpoint.run; probation = r.endpoint.endpoint.probation; counts = r.endpoint.endpoint.counts; asked = r.endpoint.asked; kinds = r.endpoint.kinds; doubted = r.endpoint.doubted; seen = r.endpoint.endpoint.seen; far = r.far; reach = r.reach; player = r.player; numbering = r.numbering; hold = r.hold; meter = r.meter; last = r.last; copy = r.copy; budget = r.budget; reports = r.reports; bounds = r.bounds } };
 }
 
 impl<W: Window> ReceiveRelay<W> {
@@ -102,6 +107,7 @@ impl<W: Window> ReceiveRelay<W> {
             last: None,
             copy: None,
             budget: None,
+            reports: None,
             bounds,
         })
     }
@@ -111,6 +117,13 @@ impl<W: Window> ReceiveRelay<W> {
         ensures { self.new ≡ record self.old { budget = Some nothing_earned } }
     {
         self.budget = Some(FeedbackBudget::new());
+    }
+
+    /// The far side is told the latency from now on, behind NACKs: so it retransmits nothing that comes too late.
+    pub fn report_latency(&mut self)
+        ensures { self.new ≡ record self.old { reports = Some reports_begun } }
+    {
+        self.reports = Some(LatencyReports::new());
     }
 
     /// What its endpoint answered so far.
@@ -260,11 +273,18 @@ impl<W: Window> ReceiveRelay<W> {
         }
     }
 
-    /// The far side is at another address: what was asked for is not asked for there a second time.
+    /// The far side is at another address.
     fn move_away(&mut self)
         ensures { self.new ≡ moved self.old self.old.far }
     {
         self.far.leave();
+        self.ask_anew();
+    }
+
+    /// What was asked for is asked for no second time, and nothing was earned yet.
+    fn ask_anew(&mut self)
+        ensures { self.new ≡ record self.old { copy = None; budget = budget_anew self.old.budget } }
+    {
         self.copy = None;
         renew_feedback(&mut self.budget);
     }
@@ -274,8 +294,7 @@ impl<W: Window> ReceiveRelay<W> {
         ensures { self.new ≡ led self.old far }
     {
         self.far = FarSide::new(far);
-        self.copy = None;
-        renew_feedback(&mut self.budget);
+        self.ask_anew();
     }
 
     /// Hears a datagram of the far side, which is at this address, and measures the path by it.

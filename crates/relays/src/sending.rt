@@ -8,10 +8,11 @@ ghost use Rattle.stores.specs.Asking.{has_come};
 ghost use Rattle.endpoint.specs.ResendMetering.{meter_following};
 ghost use Rattle.relays.specs.Backlog.{is_beyond, less_by};
 ghost use Rattle.relays.specs.Passing.{IsWithin};
-ghost use Rattle.relays.specs.SendRelay.{CarriesNothing, Forwards, HearsFar, IsCarried, is_done, is_kept_from, IsOfStream, is_tail_at, LeavesOut, new_send_side, NotCrowded, NothingOpen, once_where, PassesLeast, rule_at, SpeaksAs};
+ghost use Rattle.relays.specs.SendRelay.{CarriesNothing, Forwards, HearsFar, IsCarried, is_done, is_kept_from, IsOfStream, is_tail_at, LeavesOut, new_send_side, NotCrowded, NothingOpen, once_where, PassesLeast, rule_at, rule_in_time, SpeaksAs};
 
 use crate::backlog::Backlog;
 use crate::bounds::Bounds;
+use crate::far_latency::FarLatency;
 use crate::outside::Side;
 use crate::pace::Pace;
 use crate::relay::{Departure, Note, Relay, Turn, silent};
@@ -43,6 +44,8 @@ pub struct SendRelay<H: History> {
     backlog: Backlog,
     /// Whether the last packet is still to be retransmitted, once the stream falls silent.
     tail: bool,
+    /// How old a packet may be that the far side still has use for.
+    latency: FarLatency,
     /// Whether a packet may be marked. It is so after whatever may mark one, until none is found.
     is_pending: bool,
     bounds: Bounds,
@@ -56,7 +59,7 @@ impl<H: History> Model for SendRelay<H> {
 
     ghost Value = { SendSide };
 
-    ghost view = { λ r. record { core = r.endpoint.endpoint.core; counts = r.endpoint.endpoint.counts; rule = r.endpoint.rule; moments = r.endpoint.moments; passed = r.endpoint.passed; meter = r.meter; far = r.far; stream = r.stream; pace = r.pace; backlog = r.backlog; tail = r.tail; bounds = r.bounds } };
+    ghost view = { λ r. record { core = r.endpoint.endpoint.core; counts = r.endpoint.endpoint.counts; rule = r.endpoint.rule; moments = r.endpoint.moments; passed = r.endpoint.passed; meter = r.meter; far = r.far; stream = r.stream; pace = r.pace; backlog = r.backlog; tail = r.tail; latency = r.latency; bounds = r.bounds } };
 
     ghost invariant = { λ r. (r.config ≡ r.endpoint.endpoint.core.config) × (r.is_pending ≡ false → NoneMarked (state_of r.endpoint.endpoint.core)) };
 }
@@ -89,6 +92,7 @@ impl<H: History> SendRelay<H> {
             pace,
             backlog: Backlog::new(),
             tail: false,
+            latency: FarLatency::new(),
             is_pending: true,
             bounds,
         })
@@ -145,6 +149,7 @@ impl<H: History> SendRelay<H> {
         let Ok(Ok((place, len))) = self.endpoint.send_into(out, &carried, 0, now) else {
             return silent(Note::Unsent);
         };
+        self.latency.send(self.stream.last(), now);
         self.stream.follow(from, ssrc, now);
         self.pace.measure(len, now);
         self.backlog.measure(len);
@@ -174,6 +179,7 @@ impl<H: History> SendRelay<H> {
         self.is_pending = true;
         let answer = self.endpoint.on_datagram(octets);
         self.backlog.hear(&answer);
+        self.latency.hear(&answer, octets, now);
         self.backlog.see(self.pace.room(), now);
         silent(Note::Told(answer))
     }
@@ -201,8 +207,22 @@ impl<H: History> SendRelay<H> {
     fn rule(&self, now: u64) -> ResendRule
         ensures { result ≡ rule_at self.now now }
     {
-        let rule = self.meter.rule(self.endpoint.rule(), now);
+        let rule = self.meter.rule(self.rule_in_time(now), now);
         once_where(self.pace.is_scarce(now), rule)
+    }
+
+    /// Its own rule; and where that has no deadline, the one that is known of the far side.
+    fn rule_in_time(&self, now: u64) -> ResendRule
+        ensures { result ≡ rule_in_time self.now now }
+    {
+        let rule = self.endpoint.rule();
+        match rule.deadline {
+            Some(_) => rule,
+            None => ResendRule {
+                deadline: self.latency.deadline(now),
+                ..rule
+            },
+        }
     }
 
     /// Retransmits the least packet that is marked and fits the time, if the pace lets it leave, and passes over what does not fit.
@@ -214,6 +234,9 @@ impl<H: History> SendRelay<H> {
         ensures within { IfSome result IsWithin }
         ensures room { length out.new ≡ MAX_DATAGRAM }
     {
+        if !self.is_pending {
+            return None;
+        }
         let Some(_) = self.endpoint.endpoint().next_marked() else {
             self.is_pending = false;
             return None;

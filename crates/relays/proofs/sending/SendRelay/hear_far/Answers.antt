@@ -20,6 +20,7 @@ returns-clause-hears g c =
       pace = c.fall.new.self;
       backlog = c.see.new.self;
       tail = r.tail;
+      latency = c.hear-3.new.self;
       bounds = r.bounds;
     } in
     subst (λ (turn : Turn). HearsFar c.args.self.now c.args.from c.args.octets.now c.args.now turn.note turn.leaves new) (sym c.silent-2.ensures) (
@@ -29,6 +30,7 @@ returns-clause-hears g c =
         is_next = search rules;
         measures = search rules;
         tells = search rules;
+        tells_latency = search rules;
         rest = search rules;
       },
     )
