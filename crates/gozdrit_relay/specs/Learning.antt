@@ -23,6 +23,7 @@ use Rattle.relays.specs.Numbering.{anew}
 use Rattle.relays.specs.Pacing.{new_pace}
 use Rattle.relays.specs.ReceiveRelay.{MayShow, ReceiveSide, new_receive_side}
 use Rattle.timing.specs.FeedbackBudget.{nothing_earned}
+use Rattle.relays.specs.LatencyReports.{reports_begun}
 use Rattle.relays.specs.Following.{new_stream}
 use Rattle.relays.specs.SendRelay.{SendSide, IsOfStream, is_kept_from, new_send_side}
 use Rattle.gozdrit_relay.specs.declared.known.Known.{Known}
@@ -138,7 +139,7 @@ config_for l session = receiving.config_with session l.latency 20 (first_retry l
 
 abbrev pub receiver_for : ReceiveLearner → Beginning → (from : SocketAddr) → Option ReceiveSide → ReceiveSide
 receiver_for l b from before =
-    record (new_receive_side (config_for l b.session) l.window from l.player (numbering_for before b.ssrc) (held_by l.hold) (bounds_left l.bounds (played_before before l.passed))) { budget = Some nothing_earned }
+    record (new_receive_side (config_for l b.session) l.window from l.player (numbering_for before b.ssrc) (held_by l.hold) (bounds_left l.bounds (played_before before l.passed))) { budget = Some nothing_earned; reports = Some reports_begun }
 
 -- The first session begins with the first number that an option gives, so that what is lost before its first packet is missing too.
 abbrev pub BeginsAt : (first : Option ℕ) → (before : Option ReceiveSide) → (made relay : ReceiveSide) → Type 0

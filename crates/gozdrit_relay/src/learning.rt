@@ -384,6 +384,7 @@ impl<W: Window> Learner<ReceiveRelay<W>> for ReceiveLearner {
             bounds_left(self.bounds, passed),
         )?;
         relay.earn_feedback();
+        relay.report_latency();
         if let (Some(first), None) = (self.first, before) {
             let _ = relay.begin(first);
         }

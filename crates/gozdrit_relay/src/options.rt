@@ -64,7 +64,7 @@ fn of_retransmissions<'a>(alloc: Global, command: Command<'a>) -> Result<Command
             alloc,
             "deadline",
             "MS",
-            "How old a packet may be to be retransmitted, in milliseconds; any age by default",
+            "How old a packet may be to be retransmitted, in milliseconds; by default as old as is of use by the latency that the other relay tells",
         ))?
         .arg(option(
             alloc,

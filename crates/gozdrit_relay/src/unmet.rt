@@ -53,7 +53,7 @@ impl Unmet {
             &[
                 Word::Text(b"not retransmitted:"),
                 Word::Decimal(self.expired),
-                Word::Text(b"past --deadline,"),
+                Word::Text(b"too old,"),
                 Word::Decimal(self.unknown),
                 Word::Text(b"not in the history,"),
                 Word::Decimal(self.exhausted),
