@@ -73,6 +73,7 @@ def sides():
     for name, log in (
         ("receiver", b"1 taken 65536 0\n5 taken 65538 0\n6 play 65536 0 0 - - -\n9 ask 0 81cd0003333333331111111100010000\n"
          b"12 rtt 3\n12 taken 65537 0\n13 play 65537 0 0 - - -\n14 gap 65538\n"),
+        ("latency", b"1 taken 65536 0\n5 taken 65538 0\n9 ask 0 81cd000333333333111111110001000081cc000333333333476f7a64000000c8\n12 taken 65537 0\n"),
         ("sender", b"1 sent 65537 0 00\n3 repair 65537 1 00\n3 lost 1\n"),
         ("little", b"1 stray\n"),
         ("gaps", b"18446744073709551615 gap 281474976710655\n"),

@@ -10,7 +10,7 @@ from net import App, End, settled
 from rtp import nack, original, plain
 
 MEDIA, OTHER = 0x1a2b3c4d, 0x55667788
-TOLD = re.compile(r"not retransmitted: (\d+) past --deadline, (\d+) not in the history, (\d+) as often as may be, (\d+) of more than may leave; (\d+) NACKs were for others")
+TOLD = re.compile(r"not retransmitted: (\d+) too old, (\d+) not in the history, (\d+) as often as may be, (\d+) of more than may leave; (\d+) NACKs were for others")
 WORDS = "expired", "unknown", "exhausted", "crowded", "others"
 
 

@@ -63,8 +63,18 @@ def nack(media, numbers, reporter=0x0f0f0f0f):
     return struct.pack(">BBHII", 0x81, 205, 2 + len(numbers), reporter, media) + pairs
 
 
+REPORT = b"\x81\xcc\x00\x03"  # how the report of a latency begins (RFC 3550, section 6.7): version 2, subtype 1, APP, four words
+
+
+def told_latency(octets):
+    """The milliseconds of the latency that a relay tells behind a NACK, or None."""
+    end = octets[-16:]
+    return struct.unpack(">I", end[12:])[0] if len(octets) > 16 and end[:4] == REPORT and end[8:12] == b"Gozd" else None
+
+
 def nacked(octets):
-    """The reporter, the media and the numbers of a NACK, or None where it is no datagram of one generic NACK."""
+    """The reporter, the media and the numbers of a NACK, or None where it is no datagram of one generic NACK, behind which a latency may be told."""
+    octets = octets if told_latency(octets) is None else octets[:-16]
     if len(octets) < 16 or octets[:2] != b"\x81\xcd" or len(octets) != 4 + 4 * struct.unpack(">H", octets[2:4])[0]:
         return None
     numbers = []

@@ -2,8 +2,16 @@
 from refusals import Refused
 
 
+def nack(datagram):
+    """The datagram without the latency that a relay may tell behind a NACK, in a packet of its own (RFC 3550, section 6.7)."""
+    end = datagram[-16:]
+    is_told = len(datagram) > 16 and end[:4] == b"\x81\xcc\x00\x03" and end[8:12] == b"Gozd"
+    return datagram[:-16] if is_told else datagram
+
+
 def named(where, datagram):
     """The numbers in the order of the pairs, each pair's PID first."""
+    datagram = nack(datagram)
     pairs = len(datagram) // 4 - 3
     whole = len(datagram) % 4 == 0 and pairs >= 1 and datagram[:2] == b"\x81\xcd"
     if not whole or int.from_bytes(datagram[2:4], "big") != 2 + pairs:
