@@ -1,0 +1,4 @@
+pub mod Back
+pub mod Behind
+pub mod Pairs
+pub mod Plain
