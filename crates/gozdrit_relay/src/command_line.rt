@@ -6,6 +6,7 @@ use crate::journal;
 use crate::keys::{AES_CM, NULL};
 use crate::load::MOST_KEPT;
 use crate::options::command;
+use crate::session_types::session_types;
 use crate::units::Form;
 use clap::ArgMatches;
 use clap::error::ErrorKind;
@@ -30,6 +31,8 @@ pub struct Options<'a> {
     pub rtx_ssrc: Option<u32>,
     pub media_type: Option<u8>,
     pub rtx_type: Option<u8>,
+    /// The pairs of payload types, where there are several.
+    pub types: Option<&'a str>,
     pub first: Option<u16>,
     pub packets: Option<u64>,
     pub seconds: Option<u64>,
@@ -180,6 +183,7 @@ fn ctl<'a>(matches: &ArgMatches<'a>) -> Result<Choice<'a>, Fault<'a>> {
 
 /// The options of both, of which one has this name for what the stream is in.
 fn common<'a>(matches: &ArgMatches<'a>, stream: &'a str) -> Result<Options<'a>, Fault<'a>> {
+    let types = session_types(matches)?;
     Ok(Options {
         listen: matches.get_str("listen").ok_or(Fault::Missing("listen"))?,
         to: matches.get_str("to").ok_or(Fault::Missing("to"))?,
@@ -188,8 +192,9 @@ fn common<'a>(matches: &ArgMatches<'a>, stream: &'a str) -> Result<Options<'a>, 
         stream: number(matches, "stream", 1, u64::MAX)?.unwrap_or(STREAM),
         ssrc: ssrc(matches, "ssrc")?,
         rtx_ssrc: ssrc(matches, "rtx-ssrc")?,
-        media_type: eight(matches, "type", 0)?,
-        rtx_type: eight(matches, "rtx-type", 96)?,
+        media_type: types.media,
+        rtx_type: types.repair,
+        types: types.pairs,
         first: sixteen(matches, "first")?,
         packets: number(matches, "packets", 1, u64::MAX)?,
         seconds: value(matches, "seconds", Form::Seconds(1, LONGEST))?,
@@ -304,14 +309,6 @@ fn challenges<'a>(matches: &ArgMatches<'a>) -> Result<bool, Fault<'a>> {
         Some(text) if text == "on" => Ok(true),
         Some(text) if text == "off" => Ok(false),
         Some(text) => Err(Fault::Value("challenge", text, Form::Challenge)),
-    }
-}
-
-/// A payload type from `least` on.
-fn eight<'a>(matches: &ArgMatches<'a>, id: &'a str, least: u64) -> Result<Option<u8>, Fault<'a>> {
-    match number(matches, id, least, 127)? {
-        Some(number) => Ok(Some(number as u8)),
-        None => Ok(None),
     }
 }
 

@@ -7,12 +7,12 @@ use crate::clients::Doors;
 use crate::command_line::{Choice, Options};
 use crate::control::doors;
 use crate::ctl::ask;
-use crate::draws::{Draws, drawn_start};
+use crate::draws::Draws;
 use crate::fault::Fault;
 use crate::greeting::{push_kept, push_metrics, push_sockets};
 use crate::guard::Guard;
 use crate::handed::{descriptor, handed};
-use crate::host::{Change, Host, Sockets, StreamForm};
+use crate::host::{Change, Host, Sockets};
 use crate::journal::Journal;
 use crate::keys::{Key, RANDOM, drawn};
 use crate::known::Known;
@@ -21,7 +21,7 @@ use crate::load::Store;
 use crate::machine::{Learner, Machine};
 use crate::notify::tell_ready;
 use crate::sockets::{Kept, keep, kept_for, reach};
-use crate::transport_stream::{MP2T, Payloader};
+use crate::stream_form::{StreamForm, longest};
 use crate::way::Way;
 use endpoint::ResendRule;
 use liveness::{Living, Sent};
@@ -239,7 +239,13 @@ fn opened<'a>(rt: &HostRuntime, options: &Options<'a>) -> Result<Sides, Fault<'a
     set_reach(options, to, &leaving)?;
     let doors = doors(rt, options)?;
     let kept = make_room(options, &listening, &leaving);
-    greet(rt, &listening, to, &leaving);
+    greet(
+        rt,
+        &listening,
+        to,
+        &leaving,
+        longest(options.types.is_some()),
+    );
     greet_metrics(rt, &doors);
     tell_room(rt, options.socket_buffer, kept);
     Ok(Sides {
@@ -338,7 +344,7 @@ fn go<'a, R: Relay + Drop, L: Learner<R> + Drop>(
         stats => stats,
     };
     let draws = Draws::new(options.seed, options.loss);
-    let stream = stream_form(rt, options, store.is_history());
+    let stream = StreamForm::of(rt, options, store.is_history());
     let Ok(mut host) = Host::new(
         rt,
         sockets,
@@ -430,24 +436,6 @@ fn living<'a>(rt: &HostRuntime, own: u32) -> Result<Living, Fault<'a>> {
     }
 }
 
-/// What the stream is in, before a network or behind it.
-fn stream_form(rt: &HostRuntime, options: &Options<'_>, is_sender: bool) -> StreamForm {
-    let payloader = if options.is_ts && is_sender {
-        let (ssrc, number) = drawn_start(rt);
-        Some(Payloader {
-            media_type: options.media_type.unwrap_or(MP2T),
-            ssrc: options.ssrc.unwrap_or(ssrc),
-            number: options.first.unwrap_or(number),
-        })
-    } else {
-        None
-    };
-    StreamForm {
-        payloader,
-        sends_payloads: options.is_ts && !is_sender,
-    }
-}
-
 /// The bounds of a run that begins now.
 fn bounds(options: &Options<'_>) -> Bounds {
     Bounds {
@@ -475,12 +463,18 @@ fn journal<'a>(
 }
 
 /// Tells the sockets on standard error.
-fn greet(rt: &HostRuntime, listening: &UdpSocket, to: SocketAddr, leaving: &UdpSocket) {
+fn greet(
+    rt: &HostRuntime,
+    listening: &UdpSocket,
+    to: SocketAddr,
+    leaving: &UdpSocket,
+    longest: usize,
+) {
     let (Ok(listening), Ok(leaving)) = (listening.local_addr(), leaving.local_addr()) else {
         return;
     };
     let mut line = Vec::new(rt.alloc());
-    if push_sockets(rt, &mut line, listening, to, leaving).is_ok() {
+    if push_sockets(rt, &mut line, listening, to, leaving, longest).is_ok() {
         let _ = rt.stderr().write_all(&line);
     }
 }

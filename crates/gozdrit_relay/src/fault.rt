@@ -15,6 +15,8 @@ pub enum Fault<'a> {
     Missing(&'a str),
     /// The types and SSRCs of the options are none of a session.
     Session,
+    /// The types of the retransmissions are given twice.
+    Paired(&'a str),
     /// Where a relay sends from and what it sends to have no addresses of one family.
     Families(&'a str, &'a str),
     /// What leaves comes back.
@@ -71,6 +73,10 @@ pub fn tell<W: Write>(fault: &Fault<'_>, error: &mut W) -> u8 {
             error,
             "fault value: the types, or the SSRCs, are those of no session"
         ),
+        Fault::Paired(value) => writeln!(
+            error,
+            "fault value: --rtx-type {value}: the pairs of --type have the types of the retransmissions"
+        ),
         Fault::Peer(word) => writeln!(
             error,
             "fault value: --peer: {word} is no address with a number of bits"
@@ -101,6 +107,7 @@ pub fn tell<W: Write>(fault: &Fault<'_>, error: &mut W) -> u8 {
         | Fault::Value(..)
         | Fault::Missing(_)
         | Fault::Session
+        | Fault::Paired(_)
         | Fault::Families(..)
         | Fault::Loop(..)
         | Fault::Group(_)

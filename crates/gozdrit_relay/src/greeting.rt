@@ -4,7 +4,7 @@ use crate::journal::shown;
 use crate::sockets::Kept;
 use contexts::ContextFault;
 use lines::{Word, push_line};
-use rtpwire::{MAX_PAYLOAD, Session};
+use rtpwire::Session;
 use srtp::SrtpFault;
 use std::io;
 use std::net::SocketAddr;
@@ -17,9 +17,10 @@ pub fn push_sockets(
     listening: SocketAddr,
     to: SocketAddr,
     from: SocketAddr,
+    longest: usize,
 ) -> Result<(), OutOfMemory> {
     let told = format!(in rt.alloc();
-        "listening at {listening} sending to {to} from {from} carrying payloads of up to {MAX_PAYLOAD} octets\n"
+        "listening at {listening} sending to {to} from {from} carrying payloads of up to {longest} octets\n"
     )?;
     line.extend_from_slice(told.as_bytes())?;
     Ok(())
@@ -88,14 +89,14 @@ pub fn push_strays(
 }
 
 /// The line of packets that were left out since their payload is longer than this program carries, with what to do.
-pub fn push_too_long(line: &mut Vec<u8>, count: u64) -> Result<(), OutOfMemory> {
+pub fn push_too_long(line: &mut Vec<u8>, count: u64, longest: usize) -> Result<(), OutOfMemory> {
     push_line(
         line,
         &[
             Word::Text(b"left out"),
             Word::Decimal(count),
             Word::Text(b"packets whose payload has more than"),
-            Word::Decimal(MAX_PAYLOAD as u64),
+            Word::Decimal(longest as u64),
             Word::Text(b"octets: make relay PAYLOAD=N builds a relay that carries N"),
         ],
     )

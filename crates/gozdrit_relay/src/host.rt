@@ -3,6 +3,7 @@ mod guarding;
 mod leaving;
 mod taking;
 mod telling;
+mod typing;
 
 use crate::answers::State;
 use crate::clients::{Clients, Doors};
@@ -17,6 +18,7 @@ use crate::seats::{is_over, sooner};
 use crate::seldom::Seldom;
 use crate::sockets::Kept;
 use crate::standing::Standing;
+use crate::stream_form::StreamForm;
 use crate::transport_stream::Payloader;
 use crate::turns::Turns;
 use crate::unmet::UnmetTold;
@@ -25,6 +27,7 @@ use crate::way::Way;
 use liveness::{PendingPackets, Source};
 use mio::net::UdpSocket;
 use mio::{Events, Interest, Poll, Token};
+use payload_types::PayloadTypes;
 use relays::{Meeting, Note, Octets, Outside, OutsideFault, Peers, Side, Turn};
 use rtpwire::Session;
 use std::alloc::Global;
@@ -62,15 +65,6 @@ pub struct Sockets {
     pub doors: Doors,
 }
 
-/// What the stream is in, on the side that is no network.
-#[derive(Clone, Copy, Debug, PartialEq, Eq)]
-pub struct StreamForm {
-    /// What makes RTP of MPEG-TS that an application sends without it, where it does.
-    pub payloader: Option<Payloader>,
-    /// Whether a player takes payloads alone.
-    pub sends_payloads: bool,
-}
-
 /// Both sockets, the clock, and who is told.
 #[derive(Drop)]
 pub struct Host<'a> {
@@ -95,6 +89,8 @@ pub struct Host<'a> {
     rest_from: Option<SocketAddr>,
     /// Whether a player takes payloads alone.
     sends_payloads: bool,
+    /// The payload types, where there are several.
+    types: Option<PayloadTypes>,
     /// What stands before the network where there is a key, and what it refused and could not protect.
     guard: Option<Guard>,
     denied: Seldom,
@@ -225,6 +221,7 @@ impl<'a> Host<'a> {
             rest: (0, 0),
             rest_from: None,
             sends_payloads: stream.sends_payloads,
+            types: stream.types,
             guard,
             denied: Seldom::NONE,
             unanswered: Seldom::NONE,
@@ -435,6 +432,9 @@ impl Outside for Host<'_> {
             self.sleep(until)?;
             side = self.take(room)?;
         }
+        if self.types.is_some() && side.is_some() {
+            self.enter_session(room)?;
+        }
         let now = self.now()?;
         self.moment = now;
         if is_over(self.tells_at, now) {
@@ -451,29 +451,10 @@ impl Outside for Host<'_> {
     }
 
     fn send(&mut self, side: Side, to: SocketAddr, octets: &[u8]) {
-        if side == Side::Far {
-            self.left = self.left.saturating_add(1);
-            self.is_lost = self.draws.drops();
-            if self.is_lost {
-                self.counts.lose();
-                return;
-            }
-            if self.guard.is_some() {
-                self.send_sealed(to, octets);
-                return;
-            }
-        }
-        if self.sends_payloads || self.way.is_elsewhere() || !self.waiting.is_empty() {
-            self.leave(side, to, octets);
-            return;
-        }
-        let sent = match side {
-            Side::Near => self.near.send_to(octets, to),
-            Side::Far => self.far.send_to(octets, to),
-        };
-        // What can't be sent is lost, as in a network, and told.
-        if let Err(error) = sent {
-            self.lack_room(side, to, octets, &error);
+        if self.types.is_some() {
+            self.leave_session(side, to, octets);
+        } else {
+            self.send_as_it_is(side, to, octets);
         }
     }
 

@@ -171,8 +171,8 @@ fn of_session<'a>(alloc: Global, command: Command<'a>) -> Result<Command<'a>, Al
         .arg(option(
             alloc,
             "type",
-            "N",
-            "The payload type of the media, 0 to 127; learnt by default",
+            "N|N:R,..",
+            "The payload type of the media, 0 to 127, or up to 16 pairs of one and that of its retransmissions, as 96:97,101:102; one is learnt by default",
         ))?
         .arg(option(
             alloc,

@@ -23,6 +23,8 @@ pub enum Form {
     Rate(u64),
     /// An SSRC.
     Ssrc,
+    /// Payload types, with those of their retransmissions.
+    Types,
     /// What a log has lines of.
     Log,
     /// What a stream is in.
@@ -76,7 +78,8 @@ impl Form {
                 most,
             ),
             Form::Rate(_) => measured(text, &[("k", 1), ("M", 1000)], 0, u64::MAX),
-            Form::Ssrc | Form::Log | Form::Stream | Form::Profile | Form::Challenge => None,
+            Form::Ssrc | Form::Types | Form::Log | Form::Stream | Form::Profile | Form::Challenge =>
+                None,
         }
     }
 }
@@ -122,6 +125,9 @@ impl fmt::Display for Form {
                 "kilobits a second, as 2000, 2000k or 2M, or a share from 1% to {most}%"
             ),
             Form::Ssrc => f.write_str("an SSRC, by one to eight hexadecimal digits"),
+            Form::Types => f.write_str(
+                "a payload type, or up to 16 pairs of one and that of its retransmissions, no type twice, as 96:97,101:102",
+            ),
             Form::Log => f.write_str("events or packets"),
             Form::Stream => f.write_str("rtp or ts"),
             Form::Profile => write!(f, "{AES_CM} or {NULL}"),

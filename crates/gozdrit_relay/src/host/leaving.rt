@@ -8,6 +8,34 @@ use std::net::SocketAddr;
 use std::{io, mem};
 
 impl Host<'_> {
+    /// Sends a datagram to a side, as it is protected where it goes to the network under a key.
+    pub(super) fn send_as_it_is(&mut self, side: Side, to: SocketAddr, octets: &[u8]) {
+        if side == Side::Far {
+            self.left = self.left.saturating_add(1);
+            self.is_lost = self.draws.drops();
+            if self.is_lost {
+                self.counts.lose();
+                return;
+            }
+            if self.guard.is_some() {
+                self.send_sealed(to, octets);
+                return;
+            }
+        }
+        if self.sends_payloads || self.way.is_elsewhere() || !self.waiting.is_empty() {
+            self.leave(side, to, octets);
+            return;
+        }
+        let sent = match side {
+            Side::Near => self.near.send_to(octets, to),
+            Side::Far => self.far.send_to(octets, to),
+        };
+        // What can't be sent is lost, as in a network, and told.
+        if let Err(error) = sent {
+            self.lack_room(side, to, octets, &error);
+        }
+    }
+
     /// Sends a datagram in the form and to the address that are wanted, behind those of its side that wait. A payload of nothing is no datagram.
     #[inline(never)]
     pub(super) fn leave(&mut self, side: Side, to: SocketAddr, octets: &[u8]) {

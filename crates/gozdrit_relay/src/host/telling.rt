@@ -7,6 +7,7 @@ use crate::greeting::{
 };
 use crate::hindrance::hindered_by;
 use crate::seats::{is_over, sooner};
+use crate::stream_form::longest;
 use crate::too_long::is_too_long;
 use crate::unwaited::takes_a_line;
 use relays::{Note, Turn};
@@ -213,7 +214,7 @@ impl<'a> Host<'a> {
             return;
         };
         self.line.clear();
-        if push_too_long(&mut self.line, count).is_ok() {
+        if push_too_long(&mut self.line, count, longest(self.types.is_some())).is_ok() {
             self.say();
         }
     }
