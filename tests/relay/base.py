@@ -17,7 +17,7 @@ import time
 LONG = 40  # seconds that anything may take: the machine may be busy with proofs
 NAP = 0.01  # seconds that the watch sleeps at a time
 TRIES = 3  # how often a scene is played that fails on a busy machine
-HALT = 0.5  # seconds that a sleeper may be woken late in a scene that does not rest on moments
+QUIET = 0.02  # seconds by which a machine that has nothing else to do wakes nobody later
 FIRST_LINE = re.compile(r"^listening at (\S+):(\d+),? sending to (\S+):(\d+) from (\S+):(\d+) carrying payloads of up to (\d+) octets$")
 COUNTS = {
     "send": "sent unsent marked retransmitted early expired refused stray lost others unknown exhausted crowded strangers full unreachable oversize rejected failed unauthenticated unprotected".split(),
@@ -273,21 +273,21 @@ def played(play):
 
 
 def scene(play):
-    """The checks of a scene. It is played again where it fails and the machine woke a sleeper too late for it. If that is so each time one that rests
-    on moments says nothing: it is neither passed nor failed. Any other one has failed."""
+    """The checks of a scene. One that fails while the machine is quiet has failed. Else it is played again, and what fails each time has failed, but for
+    one that rests on moments, where the machine woke a sleeper too late for it: that says nothing, and is neither passed nor failed."""
     began, bound = time.monotonic(), getattr(play, "bound", None)
+    quiet = QUIET if bound is None else min(QUIET, bound)
     for _ in range(TRIES):
         start = time.monotonic()
         checks = played(play)
         late = WATCH.since(start)
-        if not checks.failed or late <= (HALT if bound is None else bound):
+        if not checks.failed or late <= quiet:
             break
-        print(f"{play.__name__}: woken {1000 * late:.0f} milliseconds late, with {checks.failed} that fail", flush=True)
-    else:
-        if bound is not None:
-            print(f"BUSY: {play.__name__}: {checks.faults[0]}", flush=True)
-            checks = Checks()
-            checks.busy = 1
+        print(f"{play.__name__}: woken {1000 * late:.0f} milliseconds late, with {checks.failed} that fail: {checks.faults[0]}", flush=True)
+    if checks.failed and bound is not None and late > bound:
+        print(f"BUSY: {play.__name__}: {checks.faults[0]}", flush=True)
+        checks = Checks()
+        checks.busy = 1
     if "-v" in sys.argv:
         print(f"{play.__name__}: {time.monotonic() - began:.1f} seconds", flush=True)
     return checks
