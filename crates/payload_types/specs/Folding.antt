@@ -1,6 +1,6 @@
 -- Packets of several types as one session of one pair of types has them: each keeps the type of its media as one octet more
 -- behind its payload, so that it goes with the packet through a history, the network below and a window.
-use Rattle.std.specs.Prelude.{◌≡◌, ◌⊎◌, ◌-◌, ◌==◌, ◌||◌, ◌++◌, ℕ, Bool, true, false, nat_le, List, [], ◌∷◌, length, take, drop, slice_index, Option, Some, None, if◌then◌else◌}
+use Rattle.std.specs.Prelude.{◌≡◌, ◌≤◌, ◌⊎◌, ◌-◌, ◌==◌, ◌||◌, ◌++◌, ℕ, Bool, true, false, nat_le, List, [], ◌∷◌, length, take, drop, slice_index, Option, Some, None, if◌then◌else◌}
 use Rattle.rtpwire.specs.Content.{IsTooLong}
 use Rattle.rtpwire.specs.Rtp.{RtpPacket, RtpSpells}
 use Rattle.endpoint.specs.Padding.{IsStripped}
@@ -83,3 +83,8 @@ FitsAs is_media q Same new = ⊥
 FitsAs is_media q (Written len) new = RtpSpells q (take len new)
 FitsAs is_media q TooLong new = IsTooLongFor is_media q
 FitsAs is_media q NoType new = ⊥
+
+-- what was written has its place
+abbrev pub IsWithin : (room : ℕ) → Fitted → Type 0
+IsWithin room (Written len) = len ≤ room
+IsWithin room fitted = Unit {0}

@@ -3,7 +3,7 @@ ghost use Rattle.std.specs.Prelude.{◌≡◌, ◌<◌, ◌≤◌, ◌++◌, ℕ
 ghost use Rattle.byteorder.specs.Endian.{big_bytes};
 ghost use Rattle.rtpwire.specs.Rtp.{RtpPacket, RtpSpells};
 ghost use Rattle.rtpwire.specs.declared.limits.TheConstants.{MAX_DATAGRAM, MAX_PAYLOAD};
-ghost use Rattle.payload_types.specs.Folding.{FitsAs, IsPlain, before, in_session, is_media, is_of_session, keeping, kept_in, media_on, on_network, repair_on, under};
+ghost use Rattle.payload_types.specs.Folding.{FitsAs, IsPlain, IsWithin, before, in_session, is_media, is_of_session, keeping, kept_in, media_on, on_network, repair_on, under};
 ghost use Rattle.payload_types.specs.Types.{pair_of_media};
 
 use crate::types::PayloadTypes;
@@ -34,6 +34,7 @@ impl PayloadTypes {
     /// padding. All else stays as it is.
     pub fn into_session(&self, octets: &[u8], out: &mut [u8]) -> Fitted
         requires { length out.old ≡ MAX_DATAGRAM }
+        ensures within { IsWithin MAX_DATAGRAM result }
         ensures other { (plain : List ℕ) → IsPlain octets.now plain → ((p : RtpPacket) → RtpSpells p plain → ⊥) → result ≡ Fitted.Same }
         ensures strange { (plain : List ℕ) (p : RtpPacket) → IsPlain octets.now plain → RtpSpells p plain → in_session self.now p ≡ None
             → result ≡ Fitted.Same }
@@ -49,6 +50,7 @@ impl PayloadTypes {
     /// The same of octets that are no packet of padding alone.
     fn enter(&self, octets: &[u8], out: &mut [u8]) -> Fitted
         requires { length out.old ≡ MAX_DATAGRAM }
+        ensures within { IsWithin MAX_DATAGRAM result }
         ensures other { ((p : RtpPacket) → RtpSpells p octets.now → ⊥) → result ≡ Fitted.Same }
         ensures strange { (p : RtpPacket) → RtpSpells p octets.now → in_session self.now p ≡ None → result ≡ Fitted.Same }
         ensures kept { (p q : RtpPacket) → RtpSpells p octets.now → in_session self.now p ≡ Some q
@@ -63,6 +65,7 @@ impl PayloadTypes {
     /// The same of a packet.
     fn enter_packet(&self, view: &RtpView<'_>, out: &mut [u8]) -> Fitted
         requires { length out.old ≡ MAX_DATAGRAM }
+        ensures within { IsWithin MAX_DATAGRAM result }
         ensures strange { in_session self.now view.now ≡ None → result ≡ Fitted.Same }
         ensures kept { (q : RtpPacket) → in_session self.now view.now ≡ Some q
             → FitsAs (is_some (pair_of_media self.now view.now.payload_type)) q result out.new }
@@ -82,6 +85,7 @@ impl PayloadTypes {
     /// that stands behind its payload, or that of its retransmissions, and this octet goes. All else stays as it is.
     pub fn out_of_session(&self, octets: &[u8], out: &mut [u8]) -> Fitted
         requires { length out.old ≡ MAX_DATAGRAM }
+        ensures within { IsWithin MAX_DATAGRAM result }
         ensures other { ((q : RtpPacket) → RtpSpells q octets.now → ⊥) → result ≡ Fitted.Same }
         ensures strange { (q : RtpPacket) → RtpSpells q octets.now → is_of_session self.now q ≡ false → result ≡ Fitted.Same }
         ensures restored { (p q : RtpPacket) → RtpSpells q octets.now → on_network self.now q ≡ Some p
@@ -98,6 +102,7 @@ impl PayloadTypes {
     /// The same of a packet.
     fn leave_packet(&self, view: &RtpView<'_>, out: &mut [u8]) -> Fitted
         requires { length out.old ≡ MAX_DATAGRAM }
+        ensures within { IsWithin MAX_DATAGRAM result }
         ensures strange { is_of_session self.now view.now ≡ false → result ≡ Fitted.Same }
         ensures restored { (p : RtpPacket) → on_network self.now view.now ≡ Some p → FitsAs (is_media self.now view.now) p result out.new }
         ensures unknown { is_of_session self.now view.now ≡ true → on_network self.now view.now ≡ None → result ≡ Fitted.NoType }
@@ -116,6 +121,7 @@ impl PayloadTypes {
     /// A packet of the session's media under the type that stands behind its payload.
     fn leave_media(&self, view: &RtpView<'_>, out: &mut [u8]) -> Fitted
         requires { length out.old ≡ MAX_DATAGRAM }
+        ensures within { IsWithin MAX_DATAGRAM result }
         ensures restored { (p : RtpPacket) → media_on self.now view.now ≡ Some p → FitsAs true p result out.new }
         ensures unknown { media_on self.now view.now ≡ None → result ≡ Fitted.NoType }
     {
@@ -131,6 +137,7 @@ impl PayloadTypes {
     /// A retransmission under the type of those of the media whose type stands behind its payload.
     fn leave_repair(&self, view: &RtpView<'_>, out: &mut [u8]) -> Fitted
         requires { length out.old ≡ MAX_DATAGRAM }
+        ensures within { IsWithin MAX_DATAGRAM result }
         ensures restored { (p : RtpPacket) → repair_on self.now view.now ≡ Some p → FitsAs false p result out.new }
         ensures unknown { repair_on self.now view.now ≡ None → result ≡ Fitted.NoType }
     {
@@ -151,7 +158,8 @@ impl PayloadTypes {
 fn keep_media(view: &RtpView<'_>, payload_type: u8, media: u8, out: &mut [u8]) -> Fitted
     requires room { length out.old ≡ MAX_DATAGRAM }
     requires payload_type { payload_type < 128 }
-    ensures { FitsAs true (keeping payload_type media view.now) result out.new }
+    ensures within { IsWithin MAX_DATAGRAM result }
+    ensures fits { FitsAs true (keeping payload_type media view.now) result out.new }
 {
     let Some(payload) = kept(view.payload(), media) else {
         return Fitted::TooLong;
@@ -164,6 +172,7 @@ fn keep_media(view: &RtpView<'_>, payload_type: u8, media: u8, out: &mut [u8]) -
 fn keep_repair(view: &RtpView<'_>, payload_type: u8, media: u8, out: &mut [u8]) -> Fitted
     requires room { length out.old ≡ MAX_DATAGRAM }
     requires payload_type { payload_type < 128 }
+    ensures within { IsWithin MAX_DATAGRAM result }
     ensures strange { length view.now.payload < 2 → result ≡ Fitted.Same }
     ensures kept { 2 ≤ length view.now.payload → FitsAs false (keeping payload_type media view.now) result out.new }
 {
@@ -203,6 +212,7 @@ fn split_kept(payload: &[u8]) -> Option<(u8, &[u8])>
 fn write_media_as(view: &RtpView<'_>, payload: &[u8], payload_type: u8, out: &mut [u8]) -> Fitted
     requires room { length out.old ≡ MAX_DATAGRAM }
     requires payload_type { payload_type < 128 }
+    ensures within { IsWithin MAX_DATAGRAM result }
     ensures fits { FitsAs true (under payload_type payload.now view.now) result out.new }
 {
     let Ok(carried) = Carried::with_payload(view, payload) else {
@@ -224,6 +234,7 @@ fn write_repair_as(
 ) -> Fitted
     requires room { length out.old ≡ MAX_DATAGRAM }
     requires payload_type { payload_type < 128 }
+    ensures within { IsWithin MAX_DATAGRAM result }
     ensures fits { FitsAs false (under payload_type (big_bytes 2 original ++ payload.now) view.now) result out.new }
 {
     let Ok(carried) = Carried::with_payload(view, payload) else {
