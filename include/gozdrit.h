@@ -87,7 +87,7 @@ extern "C" {
 /* ---- the version: that of this header, and that of the library that is linked */
 
 #define GOZDRIT_VERSION_MAJOR 2
-#define GOZDRIT_VERSION_MINOR 4
+#define GOZDRIT_VERSION_MINOR 5
 #define GOZDRIT_VERSION_PATCH 0
 #define GOZDRIT_VERSION (GOZDRIT_VERSION_MAJOR * 10000 + GOZDRIT_VERSION_MINOR * 100 + GOZDRIT_VERSION_PATCH)
 
@@ -135,10 +135,14 @@ uint32_t gozdrit_max_payload(void);
 #define GOZDRIT_PADDED_EMPTY 44 /* padding is wanted, and the payload is empty */
 #define GOZDRIT_EXHAUSTED 45    /* the next extended sequence number would be 2^48 */
 
-/* 51 to 53: a configuration */
+/* 51 to 57: a configuration, and payload types */
 #define GOZDRIT_BAD_PAYLOAD_TYPE 51 /* a payload type is out of its bounds, or both are equal */
 #define GOZDRIT_SAME_SSRC 52        /* two of the three SSRCs are equal */
 #define GOZDRIT_BAD_LIMIT 53        /* another number is out of its bounds */
+#define GOZDRIT_TYPES_COUNT 54      /* there is no pair of payload types, or there are more than GOZDRIT_MAX_TYPES (since 2.5) */
+#define GOZDRIT_TYPES_RANGE 55      /* a payload type of a pair is out of its bounds (since 2.5) */
+#define GOZDRIT_TYPES_TWICE 56      /* a payload type stands in the pairs twice (since 2.5) */
+#define GOZDRIT_NO_TYPE 57          /* none of the pairs' types stands behind the payload (since 2.5) */
 
 /* 71 to 77: how a call was made */
 #define GOZDRIT_EMPTY_HANDLE 71  /* the handle holds no end */
@@ -197,6 +201,10 @@ static inline const char *gozdrit_refusal_name(int32_t number) {
     case GOZDRIT_BAD_PAYLOAD_TYPE: return "BadType";
     case GOZDRIT_SAME_SSRC: return "SameSsrc";
     case GOZDRIT_BAD_LIMIT: return "BadLimit";
+    case GOZDRIT_TYPES_COUNT: return "Count";
+    case GOZDRIT_TYPES_RANGE: return "BadType";
+    case GOZDRIT_TYPES_TWICE: return "SameType";
+    case GOZDRIT_NO_TYPE: return "NoType";
     case GOZDRIT_EMPTY_HANDLE: return "EmptyHandle";
     case GOZDRIT_HANDLE_IN_USE: return "HandleInUse";
     case GOZDRIT_OUT_OF_MEMORY: return "OutOfMemory";
@@ -227,6 +235,7 @@ static inline const char *gozdrit_refusal_name(int32_t number) {
 #define GOZDRIT_MAX_STORE 8192        /* packets that an end keeps */
 #define GOZDRIT_MAX_NACK_DATAGRAM 268 /* octets of a datagram that gozdrit_nack makes */
 #define GOZDRIT_MAX_NACKED 1088       /* packets that one NACK can name at most */
+#define GOZDRIT_MAX_TYPES 16          /* pairs of payload types under one SSRC (since 2.5) */
 
 /* ---- what is passed */
 
@@ -776,6 +785,35 @@ int32_t gozdrit_rtp_read(const uint8_t *octets, size_t length, gozdrit_packet *p
  */
 int32_t gozdrit_rtp_write(const gozdrit_packet *packet, const uint8_t *payload, size_t length, size_t *written,
                           uint8_t *out, size_t room);
+
+/* ---- Several payload types under one SSRC (RFC 4588, section 8.6), around the calls above. Each type of the media has one for its
+ * retransmissions: `types` has two octets a pair, as {96, 97, 101, 102, 0, 103}, and an end has the first pair in its configuration. A
+ * payload that is handed to gozdrit_send has the type of its packet as one octet more behind it, and so has one that gozdrit_play gives:
+ * one of GOZDRIT_MAX_PAYLOAD octets has no room for that. Between the ends nothing shows it. (since 2.5) */
+
+/*
+ * Has a datagram that came, the first `length` octets of `room`, be as gozdrit_receive takes it, in its place: a packet of the media or a
+ * retransmission, of whichever pair, is one of the first pair. `entered_length` is told how many octets it has then. All else stays.
+ * A packet of RTP from an application is so for gozdrit_rtp_read.
+ *
+ *   54, 55, 56  of the types
+ *   75          room is less than length, or than the datagram has then
+ *   37          with its type the payload is above its largest, or the header extension is
+ */
+int32_t gozdrit_types_enter(const uint8_t *types, size_t types_length, uint8_t *octets, size_t room, size_t length,
+                            size_t *entered_length);
+
+/*
+ * Has a datagram that gozdrit_send, gozdrit_retransmit or gozdrit_rtp_write wrote leave under its own type, in its place. `left_length` is told
+ * how many octets it has then. A NACK stays as it is.
+ *
+ *   54, 55, 56  of the types
+ *   57          behind the payload stands no type of the media
+ *   75          room is less than length
+ *   37          the header extension is above its largest
+ */
+int32_t gozdrit_types_leave(const uint8_t *types, size_t types_length, uint8_t *octets, size_t room, size_t length,
+                            size_t *left_length);
 
 /* ---- SRTP (RFC 3711), around the calls above: what leaves is protected, and what comes is unprotected, in its place.
  * Under one key there is a context for each SSRC, of RTP and of RTCP. A sender keeps each until its key is replaced, for 65536

@@ -91,6 +91,7 @@ int main(void) {
     test_queries();
     test_rtp();
     test_srtp();
+    test_types();
     test_null();
     test_sizes();
     test_memory();

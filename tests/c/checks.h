@@ -121,6 +121,7 @@ void test_sessions(void);
 void test_queries(void);
 void test_rtp(void);
 void test_srtp(void);
+void test_types(void);
 void test_null(void);
 void test_sizes(void);
 void test_memory(void);

@@ -178,7 +178,7 @@ static void test_write_limits(void) {
 }
 
 static void test_version(void) {
-    CHECK(gozdrit_version() == GOZDRIT_VERSION && GOZDRIT_VERSION == 20400);
+    CHECK(gozdrit_version() == GOZDRIT_VERSION && GOZDRIT_VERSION == 20500);
     CHECK(gozdrit_max_payload() == GOZDRIT_MAX_PAYLOAD);
 }
 

@@ -4,6 +4,9 @@ use Rattle.std.specs.Prelude.{ℤ, pos}
 abbrev pub ok : ℤ
 ok = pos 0
 
+abbrev pub no_type : ℤ  -- none of the types of the media stands behind a payload
+no_type = pos 57
+
 abbrev pub no_end : ℤ  -- the handle holds no end
 no_end = pos 71
 

@@ -30,6 +30,7 @@ use Rattle.gozdrit.specs.Packets.{AnswersRead, AnswersWrite}
 use Rattle.gozdrit.specs.Protection.{AnswersProtect, AnswersSrtpNew, AnswersUnprotect, IsNewInbound, IsNewOutbound}
 use Rattle.gozdrit.specs.Reading.{AnswersMissing, AnswersSsrc, AnswersNext, AnswersHighest, AnswersTimeout, AnswersReceiverTimes, AnswersReceiverCounts, AnswersProbeCounts, AnswersSenderCounts}
 use Rattle.gozdrit.specs.Receiving.{AnswersReceiverNew, AnswersReceive, AnswersPlay, AnswersNack, AnswersBegin, AnswersRestart, AnswersTimes, AnswersFollow, AnswersCopies, AnswersBudget}
+use Rattle.gozdrit.specs.Typing.{AnswersTypes, Enters, Leaves}
 use Rattle.gozdrit.specs.Sending.{AnswersAdapt, AnswersSenderNew, AnswersSend, AnswersFeedback, AnswersRetransmit, AnswersMarkLast, AnswersTime}
 
 -- `gozdrit_sender_defaults`
@@ -263,3 +264,15 @@ abbrev pub UnprotectFor : Option (Handle Inbound) → Option (List ℕ) → Opti
 UnprotectFor =
     Answers3 null_pointer (λ receiver octets told code receiver' octets' told'.
     AnswersUnprotect receiver.inside octets told code receiver'.inside octets' told')
+
+-- `gozdrit_types_enter`
+abbrev pub TypesEnterFor : (length : ℕ) → Option (List ℕ) → Option (List ℕ) → Option ℕ → ℤ → Option (List ℕ) → Option (List ℕ) → Option ℕ → Type 0
+TypesEnterFor length =
+    Answers3 null_pointer (λ pairs octets told code pairs' octets' told'.
+    (pairs' ≡ pairs) × AnswersTypes Enters pairs octets length told code octets' told')
+
+-- `gozdrit_types_leave`
+abbrev pub TypesLeaveFor : (length : ℕ) → Option (List ℕ) → Option (List ℕ) → Option ℕ → ℤ → Option (List ℕ) → Option (List ℕ) → Option ℕ → Type 0
+TypesLeaveFor length =
+    Answers3 null_pointer (λ pairs octets told code pairs' octets' told'.
+    (pairs' ≡ pairs) × AnswersTypes Leaves pairs octets length told code octets' told')

@@ -22,3 +22,4 @@ pub mod Receiving
 pub mod Sending
 pub mod Sizes
 pub mod Told
+pub mod Typing

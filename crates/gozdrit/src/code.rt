@@ -11,6 +11,9 @@ pub(crate) const PADDED_EMPTY: i32 = 44;
 /// A payload type is out of its bounds.
 pub(crate) const BAD_TYPE: i32 = 51;
 
+/// None of the types of the media stands behind a payload.
+pub(crate) const NO_TYPE: i32 = 57;
+
 /// The handle holds no end.
 pub(crate) const NO_END: i32 = 71;
 

@@ -31,6 +31,8 @@ mod sized;
 mod sizes;
 mod srtp_exports;
 mod srtp_key;
+mod type_exports;
+mod typing;
 mod unboxed;
 mod unprotecting;
 mod version;

@@ -5,12 +5,12 @@ ghost use Rattle.rtpwire.specs.declared.limits.TheConstants.{MAX_PAYLOAD};
 use rtpwire::MAX_PAYLOAD;
 
 /// The version of this library: 10000 times the major number, 100 times the minor one, and the patch level.
-const VERSION: u32 = 20400;
+const VERSION: u32 = 20500;
 
 /// The version of the library that a program is linked with, whatever the header was that it was compiled with.
 #[unsafe(no_mangle)]
 pub extern "C" fn gozdrit_version() -> u32
-    ensures { result ≡ 20400 }
+    ensures { result ≡ 20500 }
 {
     VERSION
 }

@@ -19,7 +19,7 @@ pub fn command<'a>(alloc: Global) -> Result<Command<'a>, AllocError>
         .subcommand(loopback(alloc)?)
 }
 
-const VERSION: &str = "2.4.0";
+const VERSION: &str = "2.5.0";
 
 /// The program without its subcommands.
 fn bare<'a>(alloc: Global) -> Command<'a>
