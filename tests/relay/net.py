@@ -124,13 +124,13 @@ def settled(far, number):
 
 
 class Path:
-    """A path between the relays: what comes to `at` goes on to `to`, and what comes back goes to who sent last. The rule is asked
+    """A path between the relays: what comes to `at` goes on to `to`, and what comes back goes to `back`, or else to who sent last. The rule is asked
     of each datagram, by its way ("forth" or "back") and its octets, and gives the delays of its copies in seconds, none to lose it.
     All is kept in `passed`: the way and the octets."""
 
-    def __init__(self, stage, to, rule=lambda way, octets: (0,)):
-        self.front, self.rear, self.rule, self.to = udp(), udp(), rule, to[:2]
-        self.at, self.home, self.passed, self.old, self.open = self.front.getsockname(), None, [], [], True
+    def __init__(self, stage, to, rule=lambda way, octets: (0,), back=None):
+        self.front, self.rear, self.rule, self.to, self.back = udp(), udp(), rule, to[:2], back
+        self.at, self.home, self.passed, self.old, self.open = self.front.getsockname(), back, [], [], True
         self.thread = threading.Thread(target=self.carry, daemon=True)
         self.thread.start()
         stage.keep(self)
@@ -142,7 +142,7 @@ class Path:
             for one in select.select([self.front, self.rear], [], [], wait)[0]:
                 octets, source = one.recvfrom(65536)
                 way = "forth" if one is self.front else "back"
-                self.home = source if way == "forth" else self.home
+                self.home = source if way == "forth" and not self.back else self.home
                 self.passed.append((way, octets))
                 for delay in self.rule(way, octets):
                     heapq.heappush(under, (time.monotonic() + delay, next(order), way, octets))
