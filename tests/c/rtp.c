@@ -177,6 +177,49 @@ static void test_write_limits(void) {
     CHECK(is_pattern(l.out + largest, sizeof l.out - largest));
 }
 
+/* A retransmission is written anew with another header extension, or without one: all else is as it was, and that is played. */
+static void test_other_extension(uint8_t has_extension) {
+    static const uint8_t payload[GOZDRIT_MAX_PAYLOAD - 2] = {7};
+    const gozdrit_session session = SESSION;
+    const gozdrit_header header = {.timestamp = 5, .marker = 1, .has_extension = 1, .extension_profile = 0xbede, .extension_words = 1,
+                                   .extension = {0x10000001}};
+    gozdrit_sender_config sending;
+    gozdrit_receiver_config receiving;
+    gozdrit_sender s = {NULL, 0};
+    gozdrit_receiver r = {NULL, 0};
+    gozdrit_sent sent = GOZDRIT_SENT_INIT;
+    gozdrit_outcome outcome = GOZDRIT_OUTCOME_INIT;
+    gozdrit_received received = GOZDRIT_RECEIVED_INIT;
+    gozdrit_played played = GOZDRIT_PLAYED_INIT;
+    gozdrit_packet p;
+    uint8_t nack[NACK_LENGTH], came[GOZDRIT_MAX_PAYLOAD];
+    lent first, l;
+    ANSWERS(GOZDRIT_OK, gozdrit_sender_defaults(&sending, sizeof sending));
+    ANSWERS(GOZDRIT_OK, gozdrit_receiver_defaults(&receiving, sizeof receiving));
+    sending.session = receiving.session = session;
+    sending.first_sequence = 100;
+    ANSWERS(GOZDRIT_OK, gozdrit_sender_new(&sending, &s));
+    ANSWERS(GOZDRIT_OK, gozdrit_receiver_new(&receiving, &r));
+    ANSWERS(GOZDRIT_OK, gozdrit_begin(&r, 100));
+    ANSWERS(GOZDRIT_OK, gozdrit_send(&s, &header, payload, sizeof payload, 0, &sent, first.out, sizeof first.out));
+    write_nack(nack, session.receiver_ssrc, session.media_ssrc, 100, 0);
+    ANSWERS(GOZDRIT_OK, gozdrit_feedback(&s, nack, sizeof nack, &outcome));
+    ANSWERS(GOZDRIT_OK, gozdrit_retransmit(&s, &sent, first.out, sizeof first.out));
+    ANSWERS(GOZDRIT_OK, gozdrit_rtp_read(first.out, sent.length, &p));
+    p.header.has_extension = has_extension;
+    p.header.extension[0] = 0x10abcdef;
+    ANSWERS(GOZDRIT_OK, gozdrit_rtp_write(&p, first.out + p.payload, p.length, &l.written, l.out, sizeof l.out));
+    CHECK(l.written == sent.length - (has_extension ? 0 : 8) && memcmp(l.out + 1, first.out + 1, 11) == 0);
+    ANSWERS(GOZDRIT_OK, gozdrit_receive(&r, l.out, l.written, 0, &received));
+    CHECK(received.kind == GOZDRIT_RETRANSMISSION);
+    ANSWERS(GOZDRIT_OK, gozdrit_play(&r, 0, &played, came, sizeof came));
+    CHECK(played.kind == GOZDRIT_PACKET && played.length == sizeof payload && memcmp(came, payload, sizeof payload) == 0);
+    CHECK(played.header.timestamp == 5 && played.header.marker == 1 && played.header.has_extension == has_extension);
+    CHECK(!has_extension || (played.header.extension_words == 1 && played.header.extension[0] == 0x10abcdef));
+    ANSWERS(GOZDRIT_OK, gozdrit_sender_free(&s));
+    ANSWERS(GOZDRIT_OK, gozdrit_receiver_free(&r));
+}
+
 static void test_version(void) {
     CHECK(gozdrit_version() == GOZDRIT_VERSION && GOZDRIT_VERSION == 20500);
     CHECK(gozdrit_max_payload() == GOZDRIT_MAX_PAYLOAD);
@@ -192,4 +235,6 @@ void test_rtp(void) {
     test_write_refused();
     test_write_order();
     test_write_limits();
+    test_other_extension(0);
+    test_other_extension(1);
 }
