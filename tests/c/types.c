@@ -117,6 +117,79 @@ static void test_null_pointers(call *changes) {
     CHECK(told == 0);
 }
 
+/* ---- drawn packets: each enters as a packet of the first pair, and leaves as it came, but for padding */
+
+enum { DRAWN = 200000 };
+
+static uint32_t draw(uint32_t *state, uint32_t below) {
+    *state = *state * 1664525 + 1013904223;
+    return (*state >> 8) % below;
+}
+
+/* A packet of any shape, and of a type of the pairs as often as not. */
+static gozdrit_packet drawn_packet(uint32_t *state, uint8_t *payload) {
+    gozdrit_packet p = {.header = {.timestamp = draw(state, 1 << 24), .marker = (uint8_t)draw(state, 2)}, .ssrc = draw(state, 1 << 24)};
+    p.payload_type = draw(state, 2) ? TYPES[draw(state, sizeof TYPES)] : (uint8_t)draw(state, 128);
+    p.sequence = (uint16_t)draw(state, 65536);
+    p.header.csrc_count = (uint8_t)draw(state, 3);
+    p.header.has_extension = draw(state, 3) == 0;
+    p.header.extension_words = (uint8_t)(p.header.has_extension ? draw(state, 4) : 0);
+    p.length = draw(state, 60);
+    p.padding = (uint8_t)(p.length > 0 && draw(state, 4) == 0 ? 1 + draw(state, 40) : 0);
+    for (size_t i = 0; i < p.length; i++) payload[i] = (uint8_t)draw(state, 256);
+    return p;
+}
+
+/* The type of the media that a packet is or repeats; none: -1. */
+static int media_type_of(const gozdrit_packet *p) {
+    for (size_t i = 0; i < sizeof TYPES; i += 2)
+        if (p->payload_type == TYPES[i] || (p->payload_type == TYPES[i + 1] && p->length >= 2)) return TYPES[i];
+    return -1;
+}
+
+static void test_drawn(void) {
+    uint32_t state = 1, entered = 0;
+    for (int i = 0; i < DRAWN; i++) {
+        uint8_t payload[64], octets[512], bare[512];
+        gozdrit_packet p = drawn_packet(&state, payload), q;
+        const int media = media_type_of(&p);
+        size_t length, plain, there, back;
+        ANSWERS(GOZDRIT_OK, gozdrit_rtp_write(&p, payload, p.length, &length, octets, sizeof octets));
+        p.padding = 0;
+        ANSWERS(GOZDRIT_OK, gozdrit_rtp_write(&p, payload, p.length, &plain, bare, sizeof bare));
+        ANSWERS(GOZDRIT_OK, gozdrit_types_enter(TYPES, sizeof TYPES, octets, sizeof octets, length, &there));
+        if (media < 0) {
+            CHECK(there == length);
+            continue;
+        }
+        entered++;
+        ANSWERS(GOZDRIT_OK, gozdrit_rtp_read(octets, there, &q));
+        CHECK(there == plain + 1 && octets[there - 1] == media && q.length == p.length + 1 && q.padding == 0);
+        CHECK(q.payload_type == (p.payload_type == media ? 96 : 97) && q.ssrc == p.ssrc && q.sequence == p.sequence);
+        ANSWERS(GOZDRIT_OK, gozdrit_types_leave(TYPES, sizeof TYPES, octets, sizeof octets, there, &back));
+        CHECK(back == plain && memcmp(octets, bare, plain) == 0);
+    }
+    CHECK(entered > DRAWN / 3);
+}
+
+/* Octets that need be no packet: what is neither refused as too long nor a packet of the pairs stays as it was, and nothing behind it changes. */
+static void test_octets_at_random(call *changes) {
+    uint32_t state = 7;
+    for (int i = 0; i < DRAWN; i++) {
+        uint8_t octets[96], before[96];
+        const size_t length = draw(&state, 80);
+        size_t told = 0;
+        memset(octets, PATTERN, sizeof octets);
+        for (size_t at = 0; at < length; at++) octets[at] = (uint8_t)draw(&state, 256);
+        if (length > 1 && draw(&state, 2)) octets[0] = (uint8_t)(0x80 | draw(&state, 64)), octets[1] = TYPES[draw(&state, sizeof TYPES)];
+        memcpy(before, octets, sizeof octets);
+        const int32_t number = changes(TYPES, sizeof TYPES, octets, sizeof octets, length, &told);
+        CHECK(number == GOZDRIT_OK || ((number == GOZDRIT_TOO_LONG || number == GOZDRIT_NO_TYPE) && memcmp(octets, before, sizeof octets) == 0));
+        CHECK(number != GOZDRIT_OK || told <= length + 1);
+        CHECK(is_pattern(octets + length + 1, sizeof octets - length - 1));
+    }
+}
+
 /* ---- a session in which one in four datagrams is lost */
 
 typedef struct ends {
@@ -226,5 +299,8 @@ void test_types(void) {
     test_limits();
     test_null_pointers(gozdrit_types_enter);
     test_null_pointers(gozdrit_types_leave);
+    test_drawn();
+    test_octets_at_random(gozdrit_types_enter);
+    test_octets_at_random(gozdrit_types_leave);
     test_session();
 }
