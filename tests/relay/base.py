@@ -55,6 +55,8 @@ class Checks:
             print(fault, flush=True)
 
     def tell(self):
+        for fault in self.faults:
+            print(fault, flush=True)
         busy = f", {self.busy} busy" if self.busy else ""
         print(f"{self.passed} passed, {self.failed} failed{busy}")
         sys.exit(1 if self.failed else 0)
