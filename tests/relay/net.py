@@ -14,6 +14,7 @@ from rtp import original, packet, parse
 ROOM = 4000000  # octets that the system may keep for a socket of a test
 FORCED = 33  # SO_RCVBUFFORCE, which has room beyond net.core.rmem_max for who may have it (socket(7))
 MUCH = 60000  # octets that wait at a socket before more is sent to it
+GIVEN, GIVING = set(), threading.Lock()  # the ports that scenes were given
 
 
 def udp(host="127.0.0.1", port=0):
@@ -27,16 +28,27 @@ def udp(host="127.0.0.1", port=0):
     return made
 
 
-def free_port(host="127.0.0.1"):
-    """A port that nobody has, and that the system gives nobody who asks for any: it lies below all of those."""
+def free_ports(count, host="127.0.0.1"):
+    """The first of so many ports in a row that nobody has, that no other scene of this process was given, and that the system gives nobody who asks for
+    any: they lie below all of those."""
     least = int(pathlib.Path("/proc/sys/net/ipv4/ip_local_port_range").read_text().split()[0])
     while True:
-        port = random.randrange(least // 2, least)
+        first = random.randrange(least // 2, least - count + 1)
+        ports = range(first, first + count)
         try:
-            udp(host, port).close()
-            return port
+            for port in ports:
+                udp(host, port).close()
         except OSError:
-            pass  # somebody has it
+            continue  # somebody has it
+        with GIVING:
+            if GIVEN.isdisjoint(ports):
+                GIVEN.update(ports)
+                return first
+
+
+def free_port(host="127.0.0.1"):
+    """Such a port alone."""
+    return free_ports(1, host)
 
 
 def queued(ports):
